@@ -82,12 +82,12 @@ common_divisor-none (e ∷ es) h up =
     let over = le_of_dvd z (up (unsigned_abs e.1 + 1)).0 in
     absurd (omega arith)
 
-unsigned_abs-neg : (z : ℤ) → unsigned_abs (neg_ℤ z) ≡ unsigned_abs z
+pub unsigned_abs-neg : (z : ℤ) → unsigned_abs (neg_ℤ z) ≡ unsigned_abs z
 unsigned_abs-neg (pos zero) = refl
 unsigned_abs-neg (pos (suc n)) = refl
 unsigned_abs-neg (negsuc n) = refl
 
-unsigned_abs-quotient : (z : ℤ) (d : ℕ) → unsigned_abs (int_div_euclid z (pos d)) ≤ unsigned_abs z
+pub unsigned_abs-quotient : (z : ℤ) (d : ℕ) → unsigned_abs (int_div_euclid z (pos d)) ≤ unsigned_abs z
 unsigned_abs-quotient (pos a) d = div-le_self a d
 unsigned_abs-quotient (negsuc a) d = omega (arith, div-le_self a d)
 

@@ -1,0 +1,6 @@
+pub mod Deciding
+pub mod Dividing
+pub mod Law
+pub mod Loops
+pub mod Bounds
+pub mod Lengths

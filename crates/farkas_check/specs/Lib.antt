@@ -1,0 +1,5 @@
+pub mod Problem
+pub mod Valid
+pub mod Meaning
+pub mod Limits
+pub mod PlainProblem

@@ -1,0 +1,4 @@
+pub mod Products
+pub mod RowSums
+pub mod LineSums
+pub mod Laws

@@ -1,0 +1,22 @@
+use Rattle.std.proofs.Common.{◌∙◌, sym, ap, pos, ℤ, ◌+ℤ◌, ◌+◌, ◌<◌, drop, length, arith}
+use Rattle.std.proofs.lemmas.Int.{ints}
+use Rattle.std.proofs.lemmas.List.{get_or_read}
+use Rattle.st_linear.specs.Linear.{number}
+use Rattle.farkas_leaf.specs.Leaf.{total}
+use Rattle.farkas_leaf.proofs.RowSums.{RiseWithin-more, total-more}
+use Rattle.farkas_leaf.proofs.leaf.constant_total.Goals as goal
+
+pub loop-p-preserved : goal.loop-p-preserved
+loop-p-preserved c =
+    let at : c.loop-p.p-index < length c.args.picks.now = omega arith in
+    let rising = RiseWithin-more (length c.args.rows.now) c.args.picks.now c.loop-p.p-index at c.loop-p.invariant.rising in
+    let row = get_or_read c.args.rows.now _ c.index-rows-p.result rising.0 c.index-rows-p.is (number (pos 0)) in
+    let term = rw row at c.scaled_constant-sum.ensures.value in
+    let rest : ℤ = (total c.args.rows.now (drop (c.loop-p.p-index + 1) c.args.picks.now)).constant in
+    let more = total-more c.args.rows.now c.args.picks.now c.loop-p.p-index at ∙ ap (λ x. x +ℤ rest) (sym term) in
+    record {
+      low = omega (arith, ints);
+      high = omega (arith, ints);
+      rising = rising.1;
+      same = omega (arith, ints, more);
+    }

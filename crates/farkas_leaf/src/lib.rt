@@ -1,0 +1,8 @@
+//! Leaves of certificates: sums of rows and equations that no whole values meet, by Farkas' lemma.
+#![tactic(auto)]
+
+mod leaf;
+mod lines;
+
+pub use leaf::leaf_closes;
+pub use lines::linear_closes;

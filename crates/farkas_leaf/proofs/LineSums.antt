@@ -1,18 +1,17 @@
-use Rattle.std.proofs.Common.{◌≡◌, ℕ, ◌+◌, ◌<◌, ◌≤◌, Bool, true, false, List, [], ◌∷◌, length, drop, get_or, refl, ap, ◌∙◌, sym, arith, ℤ, pos, negsuc, zero, suc, ◌+ℤ◌, ◌*ℤ◌, ◌≤ℤ◌, All, ◌⊎◌, inl, inr, ⊎_elim}
+use Rattle.std.proofs.Common.{◌≡◌, ℕ, ◌+◌, ◌<◌, ◌≤◌, Bool, true, false, List, [], ◌∷◌, length, drop, get_or, refl, ap, ◌∙◌, sym, arith, ℤ, pos, negsuc, zero, suc, ◌+ℤ◌, ◌*ℤ◌, ◌≤ℤ◌, ◌⊎◌, inl, inr, ⊎_elim}
 use Rattle.st_linear.specs.declared.rows.Line.{Line}
-use Rattle.std.proofs.lemmas.Bool.{and_parts}
-use Rattle.std.specs.Prelude.{IsTrue, int_le, ◌&&◌, ◌||◌, ◌==◌, if◌then◌else◌}
+use Rattle.std.specs.Prelude.{◌==◌, if◌then◌else◌}
 use Rattle.std.proofs.lemmas.Int.{ints}
 use Rattle.std.proofs.lemmas.List.{drop_more}
 use Rattle.std.proofs.lemmas.Bool.Decides.{nat_tests}
 use Rattle.std.proofs.Math.IntN.{zero-*ℤ}
 use Rattle.std.proofs.lemmas.Bool.{cases_eq}
-use Rattle.st_linear.specs.Linear.{number, scaled, Linear, value, entries_value, joined, scaled_entries, with_entry, AllAbove, AreEntries}
+use Rattle.st_linear.specs.Linear.{scaled, Linear, value, entries_value, joined, scaled_entries, with_entry, AllAbove, AreEntries}
 use Rattle.st_linear.proofs.Ints.{+ℤ-*ℤ}
 use Rattle.st_linear.proofs.Joined.{joined-ind, AreEntries-joined}
 use Rattle.st_linear.proofs.Fitting.{AreEntries-scaled, value-sum_of, value-scaled}
 use Rattle.st_linear.proofs.Joins.{none}
-use Rattle.farkas_leaf.specs.Lines.{no_line, IsSigned, HoldsBy, Holds, AllHold, line_at, total, RiseWithin, Closes, HaveNoSolution, coefficient, AllZero, Balanced}
+use Rattle.farkas_leaf.specs.Lines.{IsSigned, HoldsBy, Holds, AllHold, line_at, total, RiseWithin, Closes, HaveNoSolution, coefficient, AllZero, Balanced}
 
 abbrev Entries : Type 0
 Entries = List (ℕ × ℤ)

@@ -1,4 +1,4 @@
-use Rattle.std.specs.Prelude.{Bool, true, false, ◌||◌, ◌&&◌, IsTrue, int_le, ◌≡◌, ℕ, ◌+◌, ◌<◌, ◌≤◌, ◌^◌, ℤ, pos, ◌+ℤ◌, ◌≤ℤ◌, ◌<ℤ◌, List, [], ◌∷◌, length, slice_index_or, All, unsigned_abs, ◌==◌, if◌then◌else◌}
+use Rattle.std.specs.Prelude.{Bool, true, false, ◌≡◌, ℕ, ◌+◌, ◌<◌, ◌≤◌, ℤ, pos, ◌+ℤ◌, ◌≤ℤ◌, ◌<ℤ◌, List, [], ◌∷◌, length, slice_index_or, ◌==◌, if◌then◌else◌}
 use Rattle.st_linear.specs.declared.rows.Line.{Line}
 use Rattle.st_linear.specs.Linear.{AreEntries, Linear, value, number, sum_of, scaled}
 

@@ -1,4 +1,4 @@
-use Rattle.std.proofs.Common.{◌∙◌, sym, ap, pos, ℤ, ◌+ℤ◌, ◌+◌, ◌<◌, drop, length, arith}
+use Rattle.std.proofs.Common.{◌∙◌, sym, ap, ℤ, ◌+ℤ◌, ◌+◌, ◌<◌, drop, length, arith}
 use Rattle.std.proofs.lemmas.Int.{ints}
 use Rattle.std.proofs.lemmas.List.{get_or_read}
 use Rattle.farkas_leaf.specs.Lines.{no_line, total, coefficient}

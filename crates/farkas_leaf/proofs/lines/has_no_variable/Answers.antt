@@ -1,4 +1,4 @@
-use Rattle.std.proofs.Common.{◌<◌, length, pos, refl, arith}
+use Rattle.std.proofs.Common.{◌<◌, length, refl, arith}
 use Rattle.std.proofs.lemmas.List.{get_or_read}
 use Rattle.std.proofs.Math.ListN.{drop_of_length-le}
 use Rattle.farkas_leaf.specs.Lines.{no_line, total}

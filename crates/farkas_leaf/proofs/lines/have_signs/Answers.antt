@@ -1,4 +1,4 @@
-use Rattle.std.proofs.Common.{◌<◌, length, arith, refl}
+use Rattle.std.proofs.Common.{◌<◌, length, arith}
 use Rattle.std.proofs.lemmas.List.{get_or_read}
 use Rattle.farkas_leaf.specs.Lines.{no_line}
 use Rattle.farkas_leaf.proofs.LineSums.{RiseWithin-more, signed-more, signed-parts}

@@ -1,0 +1,6 @@
+use Rattle.st_linear.proofs.Joins.{to_z-small}
+use Rattle.st_linear.proofs.Replacing.{small-not_wide}
+use Rattle.st_linear.proofs.linear.Lin.holds.Goals as goal
+
+pub evaluate-requires-clause-narrow : goal.evaluate-requires-clause-narrow
+evaluate-requires-clause-narrow c = rw (to_z-small c.self.inside.constant c.self.invariant.constant_small) (small-not_wide _ c.self.invariant.constant_small)

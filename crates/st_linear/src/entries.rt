@@ -1,0 +1,143 @@
+//! Lists of entries: a variable and its coefficient each, variables rising.
+
+ghost use Rattle.std.specs.Prelude.{◌≡◌, ◌<◌, ◌^◌, ◌++◌, [], IsTrue, IfOk, OnOk, IfErr, pos, length, false, map, neg_ℤ};
+ghost use Rattle.st_linear.specs.Linear.{rise_from, are_small, small_entries, joined, with_entry, scaled_entries, AllBelow, AreEntries, evaluated, is_wide};
+ghost use Rattle.st_linear.specs.Answers.{Gives};
+ghost use Rattle.st_linear.specs.Simple.{common_divisor};
+ghost use Rattle.std.specs.Int.{int_div_euclid};
+
+use crate::faults::LinFault;
+use crate::numbers::{
+    floor_quotient, gcd, is_small, narrow_product, narrow_sum, negated_number, small_product,
+    small_sum,
+};
+use st_memory::Memory;
+use std::alloc::Global;
+
+/// Appends an entry, unless its coefficient is 0.
+pub fn push_entry(out: &mut Vec<(u32, i128)>, var: u32, coefficient: i128) -> Result<(), LinFault>
+    ensures ok { OnOk result (out.new.items ≡ out.old.items ++ with_entry var coefficient []) }
+    ensures err { IfErr result (λ fault. fault ≡ LinFault.Memory) }
+{
+    if coefficient != 0 {
+        out.push((var, coefficient))?;
+    }
+    Ok(())
+}
+
+/// Whether variables rise from `low` on, and the coefficients are small and not 0.
+#[tactic(auto, unfolding(crate::specs::Linear::is_small))]
+pub fn are_listed(entries: &[(u32, i128)]) -> bool
+    ensures { result ≡ rise_from 0 entries.now }
+{
+    let mut low: u64 = 0;
+    for e in entries {
+        if u64::from(e.0) < low || e.1 == 0 || !is_small(e.1) {
+            return false;
+        }
+        low = u64::from(e.0) + 1;
+    }
+    true
+}
+
+/// Joins two lists of entries by variable.
+pub fn join(
+    alloc: Global,
+    xs: &[(u32, i128)],
+    ys: &[(u32, i128)],
+) -> Result<Vec<(u32, i128)>, LinFault>
+    requires xs_small { IsTrue (are_small xs.now) }
+    requires ys_small { IsTrue (are_small ys.now) }
+    ensures { Gives (λ v. v.items) result (small_entries (joined xs.now ys.now)) }
+{
+    let mut out = Vec::new(alloc);
+    let mut i = 0;
+    let mut j = 0;
+    while i < xs.len() && j < ys.len() {
+        let x = xs[i];
+        let y = ys[j];
+        if x.0 < y.0 {
+            out.push(x)?;
+            i += 1;
+        } else if y.0 < x.0 {
+            out.push(y)?;
+            j += 1;
+        } else {
+            let sum = small_sum(&x.1, &y.1)?;
+            push_entry(&mut out, x.0, sum)?;
+            i += 1;
+            j += 1;
+        }
+    }
+    out.extend_from_slice(&xs[i..])?;
+    out.extend_from_slice(&ys[j..])?;
+    Ok(out)
+}
+
+pub fn scale_entries(
+    alloc: Global,
+    entries: &[(u32, i128)],
+    by: &i128,
+) -> Result<Vec<(u32, i128)>, LinFault>
+    ensures { Gives (λ v. v.items) result (small_entries (scaled_entries by.now entries.now)) }
+{
+    let mut out = Vec::new(alloc);
+    for e in entries {
+        let coefficient = small_product(&e.1, by)?;
+        push_entry(&mut out, e.0, coefficient)?;
+    }
+    Ok(out)
+}
+
+/// The value of the entries on top of a number.
+pub fn evaluate(values: &[i128], entries: &[(u32, i128)], constant: i128) -> Option<i128>
+    requires all_below { AllBelow (length values.now) entries.now }
+    requires narrow { is_wide constant ≡ false }
+    ensures { result ≡ evaluated values.now entries.now constant }
+{
+    let mut sum = constant;
+    for e in entries {
+        let product = narrow_product(&e.1, &values[e.0 as usize])?;
+        sum = narrow_sum(sum, product)?;
+    }
+    Some(sum)
+}
+
+pub fn divisor_of(entries: &[(u32, i128)]) -> u128
+    requires { AreEntries entries.now }
+    ensures { result ≡ common_divisor entries.now }
+{
+    let mut g: u128 = 0;
+    for e in entries {
+        g = gcd(g, e.1.unsigned_abs());
+    }
+    if g == 0 { 1 } else { g }
+}
+
+pub fn divide_entries(
+    alloc: Global,
+    entries: &[(u32, i128)],
+    by: u128,
+) -> Result<Vec<(u32, i128)>, Memory>
+    requires positive { 0 < by }
+    requires bound { by < 2 ^ 100 }
+    ensures { IfOk result
+        (λ v. v.items ≡ map (λ e. (e.0, int_div_euclid e.1 (pos by))) entries.now) }
+{
+    let mut out = Vec::new(alloc);
+    for e in entries {
+        out.push((e.0, floor_quotient(e.1, by)))?;
+    }
+    Ok(out)
+}
+
+pub fn negate_entries(alloc: Global, entries: &[(u32, i128)]) -> Result<Vec<(u32, i128)>, Memory>
+    requires { IsTrue (are_small entries.now) }
+    ensures { IfOk result (λ v. v.items ≡ map (λ e. (e.0, neg_ℤ e.1)) entries.now) }
+{
+    let mut out = Vec::new(alloc);
+    for e in entries {
+        out.push((e.0, negated_number(&e.1)))?;
+    }
+    Ok(out)
+}

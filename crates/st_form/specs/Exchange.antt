@@ -1,0 +1,49 @@
+use Rattle.std.specs.Prelude.{ℕ, Bool, true, false, not, ◌&&◌, ◌||◌, ◌==◌, List, [], ◌∷◌, Option, Some, option_and_then, if◌then◌else◌}
+use Rattle.std.specs.Option.{option_map}
+use Rattle.std.specs.List.{list_any}
+use Rattle.st_linear.specs.Linear.{Linear, replaced, changed}
+use Rattle.st_form.specs.Formula.{Formula, Formulas, truth_value, row, equal, bool_var, at, negation, every, some, none, more, Situation, truth}
+
+-- what is put in the place of variables, and which locations are left and entered
+pub record Exchange : Type 0 where
+  pub numbers : List (ℕ × Linear)
+  pub truths : List (ℕ × Formula)
+  pub leaves : List ℕ
+  pub enters : List ℕ
+
+-- the formula that is listed for a truth variable, or the variable
+abbrev pub truth_for : ℕ → List (ℕ × Formula) → Formula
+truth_for v [] = bool_var v
+truth_for v (p ∷ ps) = if p.0 == v then p.1 else truth_for v ps
+
+abbrev pub is_listed : ℕ → List ℕ → Bool
+is_listed l ls = list_any (λ m. m == l) ls
+
+abbrev pub location_after : ℕ → Exchange → Formula
+location_after l x =
+    if is_listed l x.enters then truth_value true
+    else (if is_listed l x.leaves then truth_value false else at l)
+
+abbrev mutual
+  -- the formula with its variables replaced and its locations moved, if each number is small
+  pub exchanged : Exchange → Formula → Option Formula
+  exchanged x (truth_value b) = Some (truth_value b)
+  exchanged x (row f) = option_map row (replaced x.numbers f)
+  exchanged x (equal f) = option_map equal (replaced x.numbers f)
+  exchanged x (bool_var v) = Some (truth_for v x.truths)
+  exchanged x (at l) = Some (location_after l x)
+  exchanged x (negation f) = option_map negation (exchanged x f)
+  exchanged x (every fs) = option_map every (all_exchanged x fs)
+  exchanged x (some fs) = option_map some (all_exchanged x fs)
+
+  pub all_exchanged : Exchange → Formulas → Option Formulas
+  all_exchanged x none = Some none
+  all_exchanged x (more f fs) = option_and_then (λ g. option_map (more g) (all_exchanged x fs)) (exchanged x f)
+
+-- the situation in which a formula has the truth that the exchanged one has
+abbrev pub before : Situation → Exchange → Situation
+before s x = record {
+  numbers = changed s.numbers x.numbers;
+  truths = λ v. truth s (truth_for v x.truths);
+  located = λ l. is_listed l x.enters || (not (is_listed l x.leaves) && s.located l);
+}

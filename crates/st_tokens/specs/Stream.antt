@@ -1,0 +1,84 @@
+-- The tokens of a text, one after the other, up to its end or to the first fault.
+use Rattle.std.specs.Prelude.{◌≡◌, ℕ, zero, suc, pred, ◌-◌, ◌<◌, List, [], ◌∷◌, take, length, Option, Some, None, Result, Ok, Err}
+use Rattle.st_tokens.specs.declared.kind.TokenKind.{TokenKind}
+use Rattle.st_tokens.specs.declared.kind.Token.{Token}
+use Rattle.st_tokens.specs.declared.kind.TokenFault.{TokenFault}
+use Rattle.st_tokens.specs.declared.kind.TokenFault.TheVariants.{BadByte, LongNumber}
+use Rattle.st_tokens.specs.declared.kind.Front.{Front}
+use Rattle.st_tokens.specs.declared.kind.Front.TheVariants.{Blank, Whole, Bad, Long}
+use Rattle.st_tokens.specs.declared.tokens.Tokens.{Tokens}
+use Rattle.st_tokens.specs.Text.{front_at}
+
+-- a token: its kind, its bytes, and the place of the first of them
+pub record Lexeme : Type 0 where
+  pub kind : TokenKind
+  pub text : List ℕ
+  pub start : ℕ
+
+-- what is left of a text, token by token
+pub data Stream : Type 0 where
+  -- the text's end, at this place
+  ends : ℕ → Stream
+  breaks : TokenFault → Stream
+  more : Lexeme → Stream → Stream
+
+-- tokens, and then a stream
+infixr 5 ◌++>◌
+abbrev pub ◌++>◌ : List Lexeme → Stream → Stream
+[] ++> s = s
+(t ∷ ts) ++> s = more t (ts ++> s)
+
+-- At `place`, what stands at the front of s. `go k` goes on where k more bytes are passed over.
+abbrev pub begin : Front → ℕ → List ℕ → (ℕ → Stream) → Stream
+begin (Blank n) place s go = go (pred n)
+begin (Whole kind n) place s go = more (record { kind = kind; text = take n s; start = place }) (go (pred n))
+begin Bad place s go = breaks (BadByte place)
+begin Long place s go = breaks (LongNumber place)
+
+-- The tokens of what is left of a text of length `end`, once the first `skip` bytes are passed over.
+unfoldable pub lex : ℕ → ℕ → List ℕ → Stream
+lex end skip [] = ends end
+lex end zero (b ∷ bs) = begin (front_at b bs) (end - length (b ∷ bs)) (b ∷ bs) (λ k. lex end k bs)
+lex end (suc skip) (b ∷ bs) = lex end skip bs
+
+abbrev pub text_stream : List ℕ → Stream
+text_stream text = lex (length text) 0 text
+
+abbrev pub end_of : Tokens → ℕ
+end_of t = t.end
+
+abbrev pub lexeme : Token → Lexeme
+lexeme t = record { kind = t.kind; text = t.text.now; start = t.start }
+
+-- the tokens from the next one on, where s stands behind it
+abbrev pub next_stream : ℕ → Result (Option Token) TokenFault → Stream → Stream
+next_stream end (Ok None) s = ends end
+next_stream end (Ok (Some t)) s = more (lexeme t) s
+next_stream end (Err f) s = breaks f
+
+abbrev pub stream : Tokens → Stream
+stream t = next_stream t.end t.next (lex t.end 0 t.rest.now)
+
+abbrev pub behind : Stream → Stream
+behind (ends place) = ends place
+behind (breaks f) = breaks f
+behind (more t s) = s
+
+-- what the next call answers
+abbrev pub Answers : ℕ → Result (Option Token) TokenFault → Stream → Type 0
+Answers end (Ok None) s = s ≡ ends end
+Answers end (Ok (Some t)) s = s ≡ more (lexeme t) (behind s)
+Answers end (Err f) s = s ≡ breaks f
+
+-- where the next token or fault or the end is
+abbrev pub first_place : Stream → ℕ
+first_place (ends place) = place
+first_place (breaks (BadByte place)) = place
+first_place (breaks (LongNumber place)) = place
+first_place (more t s) = t.start
+
+-- each token stands before what follows it
+abbrev pub IsRising : Stream → Type 0
+IsRising (ends place) = Unit {0}
+IsRising (breaks f) = Unit {0}
+IsRising (more t s) = (t.start < first_place s) × IsRising s

@@ -1,0 +1,10 @@
+pub mod Positions
+pub mod RoundCount
+pub mod NetBound
+pub mod NestedLevels
+pub mod NestedBound
+pub mod DiagramNet
+pub mod WaitingLevels
+pub mod Queue
+pub mod Schedule
+pub mod RoundsExist

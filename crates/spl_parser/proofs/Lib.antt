@@ -1,0 +1,8 @@
+pub mod Rows
+pub mod StatementRows
+pub mod Views
+pub mod Levels
+pub mod Loops
+pub mod Quiet
+pub mod ExpressionLaw
+pub mod StatementLaw

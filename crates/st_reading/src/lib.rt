@@ -1,0 +1,12 @@
+//! Reading a text from its tokens, from left to right.
+#![tactic(auto)]
+
+mod fault;
+mod looking;
+mod mark;
+mod sign;
+
+pub use fault::ParseFault;
+pub use looking::{RawName, advance, ahead, expect, name, name_ahead, place_of, refusal};
+pub use mark::{Mark, same};
+pub use sign::{Sign, is, sign_of};

@@ -1,5 +1,5 @@
-use Rattle.std.proofs.Common.{◌≡◌, ℕ, ◌+◌, ◌-◌, ◌<◌, ◌≤◌, ◌^◌, Bool, true, false, List, [], ◌∷◌, map, length, take, drop, get_or, refl, ap, ◌∙◌, sym, Option, Some, None, arith, ℤ, pos, negsuc, zero, suc, ◌+ℤ◌, neg_ℤ}
-use Rattle.std.specs.Prelude.{not, ◌==◌, ◌&&◌, slice_set, if◌then◌else◌, unsigned_abs, option_and_then, All, int_le}
+use Rattle.std.proofs.Common.{◌≡◌, ℕ, ◌+◌, ◌-◌, ◌<◌, ◌≤◌, ◌^◌, Bool, true, false, List, [], ◌∷◌, length, take, drop, get_or, Option, Some, None, arith, ℤ, pos, negsuc, zero, suc, ◌+ℤ◌, neg_ℤ}
+use Rattle.std.specs.Prelude.{not, ◌==◌, slice_set, if◌then◌else◌, unsigned_abs, option_and_then, All, int_le}
 use Rattle.std.specs.Option.{option_map}
 use Rattle.std.specs.Int.{int_div_euclid}
 use Rattle.std.proofs.lemmas.Int.{ints}
@@ -9,7 +9,7 @@ use Rattle.st_linear.specs.Simple.{common_divisor, divided, complement, lowered,
 use Rattle.st_linear.proofs.Dividing.{unsigned_abs-quotient, unsigned_abs-neg}
 use Rattle.st_linear.specs.Linear.{IsSlim}
 use Rattle.st_form.specs.Formula.{Formula, Formulas, truth_value, row, equal, bool_var, at, negation, every, some, none, more, is_zero}
-use Rattle.st_form.specs.Simple.{Decided, nothing, is_constant, leads_negative, simple_row, simple_equal, simple_apart, leading, divides_constant, append, parts, gathered, closed, joined_parts, signed, literal, simple, simples, opened, IsModest, AreModest}
+use Rattle.st_form.specs.Simple.{Decided, is_constant, leads_negative, simple_row, simple_equal, simple_apart, leading, divides_constant, append, parts, gathered, closed, joined_parts, literal, simple, simples, opened, IsModest, AreModest}
 use Rattle.st_form.specs.Plain.{plain, plain_list}
 use Rattle.st_form.specs.declared.Form.{Form}
 use Rattle.std.proofs.lemmas.List.{drop_more}

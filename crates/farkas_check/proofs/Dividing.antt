@@ -1,5 +1,5 @@
-use Rattle.std.proofs.Common.{◌≡◌, ℕ, ◌-◌, ◌<◌, Bool, true, false, List, [], ◌∷◌, length, get_or, refl, ap, ◌∙◌, sym, subst, Option, Some, None, ◌⊎◌, inl, inr, arith, pos, ◌≤ℤ◌, ℤ}
-use Rattle.std.specs.Prelude.{IsTrue, not, ◌&&◌, ◌||◌, ◌==◌, nat_lt, int_le, slice_get, slice_index_or, slice_set, All, if◌then◌else◌, is_some, option_and_then}
+use Rattle.std.proofs.Common.{◌≡◌, ℕ, ◌-◌, ◌<◌, Bool, true, false, List, [], ◌∷◌, length, refl, ap, ◌∙◌, subst, Option, Some, None, ◌⊎◌, inl, inr, arith, pos, ◌≤ℤ◌, ℤ}
+use Rattle.std.specs.Prelude.{not, ◌&&◌, ◌||◌, ◌==◌, nat_lt, int_le, slice_get, slice_index_or, slice_set, All, if◌then◌else◌}
 use Rattle.std.specs.Option.{option_map}
 use Rattle.std.proofs.lemmas.List.Elements.{All-cons}
 use Rattle.std.proofs.lemmas.Bool.{and_parts}
@@ -9,7 +9,7 @@ use Rattle.st_linear.specs.Linear.{Linear, value}
 use Rattle.st_linear.specs.Simple.{complement, negated}
 use Rattle.st_linear.proofs.Dividing.{value-negated}
 use Rattle.st_form.specs.Formula.{Formula, Formulas, truth_value, row, equal, bool_var, at, negation, every, some, none, more, Situation, truth, every_truth, some_truth, is_zero}
-use Rattle.st_form.specs.Simple.{Decided, Agrees, nothing, simple, simples, gathered, parts, append, simple_row, opened}
+use Rattle.st_form.specs.Simple.{Decided, Agrees, nothing, simples, gathered, parts, append, simple_row, opened}
 use Rattle.st_form.proofs.SimpleTruths.{truth-simple, truth-simples, gathered_truth, part_truth, append_truth, said, agrees-nothing}
 use Rattle.control_states.specs.declared.alternative.Alternative.{Alternative}
 use Rattle.control_states.specs.Control.{ControlFacts, InControl, IsOneOf, Active, component_at}
@@ -18,7 +18,7 @@ use Rattle.control_states.proofs.Deciding.{place-right}
 use Rattle.st_linear.specs.declared.rows.Line.{Line}
 use Rattle.farkas_leaf.specs.Lines.{AllHold}
 use Rattle.st_certificate.specs.Tree.{Step, by_case, by_truth, by_split, by_cut}
-use Rattle.farkas_check.specs.Problem.{Setting, Problem, decided_by, posed, may_case, may_truth, is_free, has_truth, known_active, case_problems, truth_problem, in_place, split_at, split_from, with_conjuncts, split_problems, are_integers, cut_problem, divided_into, rows_with, rows_of, lines_with, lines_of}
+use Rattle.farkas_check.specs.Problem.{Setting, Problem, decided_by, posed, may_case, may_truth, is_free, has_truth, known_active, case_problems, truth_problem, in_place, split_at, split_from, split_problems, are_integers, cut_problem, divided_into, rows_with, rows_of, lines_with, lines_of}
 use Rattle.farkas_check.specs.Meaning.{hold, Meets, MeetsOne}
 use Rattle.farkas_check.proofs.Deciding.{table_set, active_known}
 

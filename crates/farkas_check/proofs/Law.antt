@@ -1,5 +1,5 @@
-use Rattle.std.proofs.Common.{◌≡◌, ℕ, Bool, true, false, List, [], ◌∷◌, length, replicate, get_or, refl, ap, ◌∙◌, sym, subst, Option, Some, None, ◌⊎◌, inl, inr, arith}
-use Rattle.std.specs.Prelude.{IsTrue, not, ◌&&◌, slice_index_or}
+use Rattle.std.proofs.Common.{◌≡◌, ℕ, Bool, true, false, List, [], ◌∷◌, length, replicate, refl, ◌∙◌, Option, Some, None, inl, inr, arith}
+use Rattle.std.specs.Prelude.{slice_index_or}
 use Rattle.std.proofs.lemmas.List.{get_or-replicate, length-replicate}
 use Rattle.std.proofs.Math.ListN.{get_or-eq_default}
 use Rattle.std.proofs.lemmas.Bool.{cases_lt}
@@ -8,9 +8,9 @@ use Rattle.st_form.specs.Formula.{Formula, Formulas, every, negation, none, more
 use Rattle.st_form.specs.Simple.{nothing, simple, parts}
 use Rattle.st_form.proofs.SimpleTruths.{truth-simple, part_truth, said, agrees-nothing}
 use Rattle.control_states.specs.declared.alternative.Alternative.{Alternative}
-use Rattle.control_states.specs.Control.{ControlFacts, InControl}
+use Rattle.control_states.specs.Control.{InControl}
 use Rattle.farkas_leaf.proofs.Laws.{rows_no_solution, lines_no_solution}
-use Rattle.st_certificate.specs.Tree.{Step, Tree, Trees, impossible, branch, farkas, linear, no_tree, with_tree}
+use Rattle.st_certificate.specs.Tree.{Tree, Trees, impossible, branch, farkas, linear, no_tree, with_tree}
 use Rattle.farkas_check.specs.Problem.{Setting, Problem, division, divided_into, rows_of, lines_of, first_problem}
 use Rattle.farkas_check.specs.Valid.{There, Valid, AreValid, IsCertificate}
 use Rattle.farkas_check.specs.Meaning.{hold, Meets, MeetsOne, IsValidCondition}

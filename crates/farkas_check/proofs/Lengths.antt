@@ -1,7 +1,7 @@
-use Rattle.std.proofs.Common.{◌≡◌, ◌↔◌, ℕ, ◌+◌, ◌<◌, ◌≤◌, List, [], ◌∷◌, map, length, drop, get_or, refl, ap, ◌∙◌, sym, suc, arith}
+use Rattle.std.proofs.Common.{◌≡◌, ◌↔◌, ℕ, ◌+◌, ◌<◌, ◌≤◌, List, [], ◌∷◌, map, length, drop, get_or, refl, ap, ◌∙◌, sym, suc}
 use Rattle.std.proofs.lemmas.List.{drop_more, length-map}
 use Rattle.std.proofs.Math.ListN.{drop_of_length-le}
-use Rattle.st_certificate.specs.Tree.{Tree, Trees, no_tree, with_tree, trees}
+use Rattle.st_certificate.specs.Tree.{Tree, with_tree, trees}
 use Rattle.st_form.specs.Formula.{Formulas}
 use Rattle.st_form.specs.Plain.{plain_list}
 use Rattle.st_form.specs.declared.Form.{Form}

@@ -1,8 +1,7 @@
-use Rattle.std.proofs.Common.{◌≡◌, ℕ, ◌+◌, ◌-◌, ◌<◌, Bool, true, false, List, [], ◌∷◌, ◌++◌, map, length, take, drop, get_or, refl, ap, ◌∙◌, sym, Option, Some, None, arith, append_assoc, replicate, suc, ◌≤◌}
-use Rattle.std.specs.Prelude.{◌==◌, slice_set, if◌then◌else◌}
+use Rattle.std.proofs.Common.{◌≡◌, ℕ, ◌+◌, ◌-◌, ◌<◌, true, false, List, [], ◌∷◌, ◌++◌, map, length, take, drop, get_or, refl, ap, ◌∙◌, sym, Option, Some, None, arith, append_assoc, replicate, suc, ◌≤◌}
+use Rattle.std.specs.Prelude.{◌==◌, slice_set}
 use Rattle.std.proofs.lemmas.List.{drop_more, take_more, append-nil}
 use Rattle.st_linear.specs.Linear.{Linear}
-use Rattle.st_linear.specs.Simple.{negated}
 use Rattle.st_form.specs.Formula.{Formula, Formulas, truth_value, row, equal, bool_var, at, negation, every, some, none, more}
 use Rattle.st_form.specs.Simple.{append, opened}
 use Rattle.st_form.specs.Plain.{plain, plain_list}
@@ -11,7 +10,7 @@ use Rattle.st_form.proofs.Simples.{plain_list-append}
 use Rattle.control_states.specs.declared.alternative.Alternative.{Alternative}
 use Rattle.control_states.specs.Control.{ControlFacts}
 use Rattle.st_linear.specs.declared.rows.Line.{Line}
-use Rattle.farkas_check.specs.Problem.{Problem, posed, case_problems, with_conjuncts, split_problems, in_place, disjuncts_of, split_by, split_at, split_from, rows_with, rows_of, lines_with, lines_of}
+use Rattle.farkas_check.specs.Problem.{Problem, posed, case_problems, with_conjuncts, split_problems, in_place, disjuncts_of, split_by, split_from, rows_with, rows_of, lines_with, lines_of}
 
 map-append : {A B : Type 0} (f : A → B) (xs ys : List A) → map f (xs ++ ys) ≡ map f xs ++ map f ys
 map-append f [] ys = refl

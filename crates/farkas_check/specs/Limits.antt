@@ -1,8 +1,11 @@
-use Rattle.std.specs.Prelude.{ℕ, ◌<◌, ◌≤◌, ◌^◌, List, [], ◌∷◌, length, All, unsigned_abs, Option, Some, None}
+-- Sizes that keep the check within 128 bits. A condition's numbers are below 2^69. After the first simplification signs
+-- stand before literals alone, so no later simplification turns a comparison again, and every row stays below 2^70; a sum
+-- of 4,096 multiples below 2^40 then stays below 2^122.
+use Rattle.std.specs.Prelude.{◌<◌, ◌≤◌, ◌^◌, List, [], ◌∷◌, length, All, unsigned_abs, Option, Some, None}
 use Rattle.st_linear.specs.Linear.{Linear}
 use Rattle.st_linear.specs.Linear.{IsSlim}
 use Rattle.st_form.specs.Formula.{Formula, Formulas, truth_value, row, equal, bool_var, at, negation, every, some, none, more}
-use Rattle.st_certificate.specs.Tree.{Step, by_case, by_truth, by_split, by_cut, Tree, Trees, impossible, branch, farkas, linear, no_tree, with_tree}
+use Rattle.st_certificate.specs.Tree.{Step, by_cut, Tree, Trees, impossible, branch, farkas, linear, no_tree, with_tree}
 use Rattle.farkas_check.specs.Problem.{Problem}
 
 -- each number is below 2^69 in size

@@ -1,9 +1,11 @@
-use Rattle.std.specs.Prelude.{◌≡◌, ℕ, Bool, true, false, IsTrue, ◌⊎◌, List, [], ◌∷◌, slice_index_or, Option, Some, None}
+-- What a yes means. A condition holds where what is given doesn't hold or what is shown does; it is valid where it holds
+-- in every control state with every store of whole numbers and truth values.
+use Rattle.std.specs.Prelude.{◌≡◌, ℕ, Bool, false, IsTrue, ◌⊎◌, List, [], ◌∷◌, slice_index_or, Option, Some, None}
 use Rattle.st_form.specs.Formula.{Formula, Formulas, Situation, truth, every_truth}
 use Rattle.control_states.specs.declared.alternative.Alternative.{Alternative}
 use Rattle.control_states.specs.Control.{ControlFacts, InControl}
 use Rattle.control_states.specs.Place.{Follows}
-use Rattle.farkas_check.specs.Problem.{Setting, Problem}
+use Rattle.farkas_check.specs.Problem.{Problem}
 
 abbrev pub hold : Situation → Option Formulas → Bool
 hold s None = false

@@ -1,12 +1,16 @@
-use Rattle.std.specs.Prelude.{ℕ, ◌-◌, Bool, true, false, ◌&&◌, ◌==◌, nat_lt, not, if◌then◌else◌, List, [], ◌∷◌, map, length, replicate, slice_get, slice_index_or, slice_set, Option, Some, None, option_and_then, ℤ}
+-- Problems, and how they are divided. A problem has decisions of components and of boolean variables, and a list of
+-- conjuncts that are simplified under them; or it is false. The problem of a condition has nothing decided and the
+-- conjuncts of what is given and of the opposite of what is shown. When a decision is added, every conjunct is simplified
+-- again, and the list is joined by the rule of conjunctions.
+use Rattle.std.specs.Prelude.{ℕ, ◌-◌, Bool, true, false, ◌&&◌, ◌==◌, nat_lt, not, if◌then◌else◌, List, [], ◌∷◌, length, replicate, slice_get, slice_index_or, slice_set, Option, Some, None, option_and_then, ℤ}
 use Rattle.std.specs.Option.{option_map}
 use Rattle.st_linear.specs.Linear.{Linear}
 use Rattle.st_linear.specs.Simple.{complement, negated}
-use Rattle.st_form.specs.Formula.{Formula, Formulas, truth_value, row, equal, bool_var, at, negation, every, some, none, more}
+use Rattle.st_form.specs.Formula.{Formula, Formulas, row, equal, negation, every, some, none, more}
 use Rattle.st_form.specs.Simple.{Decided, nothing, simple, simples, gathered, parts, append, simple_row, opened}
 use Rattle.control_states.specs.declared.alternative.Alternative.{Alternative}
 use Rattle.st_form.specs.declared.variables.Variable.{Variable}
-use Rattle.control_states.specs.Control.{ComponentFacts, ControlFacts, component_at}
+use Rattle.control_states.specs.Control.{ControlFacts, component_at}
 use Rattle.control_states.specs.Place.{place, is_inside}
 use Rattle.st_linear.specs.declared.rows.Line.{Line}
 use Rattle.st_certificate.specs.Tree.{Step, by_case, by_truth, by_split, by_cut}

@@ -1,5 +1,7 @@
-use Rattle.std.specs.Prelude.{◌≡◌, ℕ, List, [], ◌∷◌, Option, Some, None}
-use Rattle.st_form.specs.Formula.{Formula, Formulas}
+-- Valid certificates, by cases on the certificate and the problem. A node divides the problem, and needs a valid
+-- certificate for each problem that comes of it, no more and no fewer. Where a problem is false, `Absurd` alone is valid.
+use Rattle.std.specs.Prelude.{◌≡◌, List, [], ◌∷◌, Option, Some, None}
+use Rattle.st_form.specs.Formula.{Formula}
 use Rattle.farkas_leaf.specs.Leaf as of_rows
 use Rattle.farkas_leaf.specs.Lines as of_lines
 use Rattle.st_certificate.specs.Tree.{Tree, Trees, impossible, branch, farkas, linear, no_tree, with_tree}

@@ -1,7 +1,6 @@
-use Rattle.std.proofs.Common.{◌≡◌, ◌<◌, length, refl, sym, ap, arith}
-use Rattle.farkas_check.specs.PlainProblem.{setting, plain_posed}
+use Rattle.farkas_check.specs.PlainProblem.{plain_posed}
 use Rattle.st_form.specs.Plain.{plain_list}
-use Rattle.farkas_check.proofs.Lengths.{same_lengths, same_cases, same_disjuncts, limited-more, fit-more, valid-more, valid-stops, valid-all}
+use Rattle.farkas_check.proofs.Lengths.{same_lengths, same_cases, same_disjuncts}
 use Rattle.farkas_check.proofs.closing.+closes.Goals as goal
 
 pub close_each-returns-then-certificates-problems : goal.close_each-returns-then-certificates-problems

@@ -1,11 +1,10 @@
-use Rattle.std.proofs.Common.{◌≡◌, sym, subst, Option, List}
+use Rattle.std.proofs.Common.{sym, subst, Option, List}
 use Rattle.std.proofs.lemmas.Result.{IfOk-weaker}
-use Rattle.st_form.specs.Formula.{Formulas}
 use Rattle.st_form.specs.Plain.{plain_list}
 use Rattle.farkas_check.specs.Problem.{Problem}
 use Rattle.farkas_check.specs.Limits.{AreSettled, DivisionFits}
-use Rattle.farkas_check.specs.PlainProblem.{plain_posed, plain_division}
-use Rattle.farkas_check.proofs.Bounds.{all-modest-settled, fit-cut}
+use Rattle.farkas_check.specs.PlainProblem.{plain_posed}
+use Rattle.farkas_check.proofs.Bounds.{fit-cut}
 use Rattle.farkas_check.proofs.division.divided_by_cut.Goals as goal
 
 pub returns-in-Some-clause-fit : goal.returns-in-Some-clause-fit

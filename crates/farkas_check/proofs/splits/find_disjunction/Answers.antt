@@ -1,7 +1,7 @@
-use Rattle.std.proofs.Common.{◌≡◌, ◌∙◌, false, true, arith, sym}
+use Rattle.std.proofs.Common.{◌≡◌, false, arith}
 use Rattle.std.specs.Prelude.{◌==◌}
 use Rattle.std.proofs.lemmas.Bool.Decides.{nat_tests}
-use Rattle.farkas_check.proofs.Loops.{split-on, split-past, split-here}
+use Rattle.farkas_check.proofs.Loops.{split-on, split-past}
 use Rattle.farkas_check.proofs.Bounds.{settled-more, settled-found}
 use Rattle.farkas_check.proofs.splits.find_disjunction.Goals as goal
 use Rattle.farkas_check.proofs.splits.find_disjunction.Goals.{in-Some+else-left-eq0, in_default}

@@ -9,12 +9,10 @@ mod literals;
 mod parts;
 mod replacement;
 mod simplification;
-mod variables;
 
 pub use conditions::{CondName, Condition, Part, Premise, TransName};
 pub use conjuncts::{in_place, joined_conjuncts, opened};
 pub use formulas::{Form, copy_all};
 pub use replacement::Change;
 pub use simplification::simple_conjuncts;
-pub use variables::Variable;
 pub use st_linear::{Lin, LinFault, Line};

@@ -7,8 +7,8 @@ use Rattle.std.proofs.lemmas.List.{drop_more}
 use Rattle.std.proofs.lemmas.Bool.{and_parts, and_from, cases_lt}
 use Rattle.std.proofs.lemmas.Bool.Decides.{nat_tests}
 use Rattle.std.proofs.lemmas.Nat.Gcd.{dvd_of_mod-eq-zero, mod-eq-zero_of_dvd, le_of_dvd, dvd_trans, dvd_refl}
-use Rattle.std.proofs.Math.Nat.{div-le_self, div-add-mod, mod-lt, dvd-add_iff_right, dvd-mul_left, mul-le-mul_right, one-dvd}
-use Rattle.st_linear.specs.Linear.{Linear, is_small, are_small, AllAbove, AreEntries, value, entries_value}
+use Rattle.std.proofs.Math.Nat.{eq-zero_of_zero-dvd, div-le_self, div-add-mod, mod-lt, dvd-add_iff_right, dvd-mul_left, mul-le-mul_right, one-dvd}
+use Rattle.st_linear.specs.Linear.{is_within, Linear, is_small, are_small, AllAbove, AreEntries, value, entries_value}
 use Rattle.st_linear.specs.Simple.{divides_all, greatest_up_to, common_divisor, CommonTo, divided, complement, lowered, negated}
 use Rattle.st_linear.proofs.Joins.{none}
 use Rattle.st_linear.proofs.Ints.{+ℤ-*ℤ, *ℤ_assoc, neg_ℤ-*ℤ}
@@ -81,6 +81,18 @@ common_divisor-none (e ∷ es) h up =
     let z = above_zero e.1 h.1 in
     let over = le_of_dvd z (up (unsigned_abs e.1 + 1)).0 in
     absurd (omega arith)
+
+one_divides : (es : Entries) → CommonTo 1 es
+one_divides [] = tt
+one_divides (e ∷ es) = (one-dvd _, one_divides es)
+
+one_only : (d : ℕ) (es : Entries) → d ∣ 1 → CommonTo d es
+one_only zero es h = let e = eq-zero_of_zero-dvd h in absurd (omega (arith, e))
+one_only (suc n) es h = let least = le_of_dvd {n = 1} (omega arith) h in let e : suc n ≡ 1 = omega arith in rw e (one_divides es)
+
+-- where no number but 1 can divide each coefficient, the greatest one is 1
+pub common_divisor-one : (es : Entries) → AreEntries es → ((d : ℕ) → CommonTo d es → d ∣ 1) → common_divisor es ≡ 1
+common_divisor-one es h down = common_divisor-is es 1 h (omega arith) (λ d k. one_only d es k) down
 
 pub unsigned_abs-neg : (z : ℤ) → unsigned_abs (neg_ℤ z) ≡ unsigned_abs z
 unsigned_abs-neg (pos zero) = refl
@@ -171,7 +183,7 @@ AreEntries-negated [] a = tt
 AreEntries-negated (e ∷ es) a = (AllAbove-map neg_ℤ e.0 es a.0, neg-nonzero e.1 a.1, AreEntries-negated es a.2)
 
 smaller : (y z : ℤ) → unsigned_abs y ≤ unsigned_abs z → IsTrue (is_small z) → IsTrue (is_small y)
-unfolding is_small
+unfolding is_within
 smaller y z h k = grind (arith, nat_tests)
 
 pub is_small-quotient : (z : ℤ) (d : ℕ) → IsTrue (is_small z) → IsTrue (is_small (int_div_euclid z (pos d)))
@@ -219,10 +231,6 @@ value-divided_whole store d f h k l =
 greatest-divides : (n : ℕ) (es : Entries) → (0 < greatest_up_to n es) × CommonTo (greatest_up_to n es) es
 unfolding greatest_up_to
 greatest-divides zero es = (omega arith, one_divides es)
-  where
-    one_divides : (es : Entries) → CommonTo 1 es
-    one_divides [] = tt
-    one_divides (e ∷ es) = (one-dvd _, one_divides es)
 greatest-divides (suc n) es = pick (divides_all (suc n) es) refl (greatest-divides n es)
   where
     pick : (b : Bool) → divides_all (suc n) es ≡ b → (0 < greatest_up_to n es) × CommonTo (greatest_up_to n es) es → (0 < (if b then suc n else greatest_up_to n es)) × CommonTo (if b then suc n else greatest_up_to n es) es
@@ -244,7 +252,7 @@ greatest-le (suc n) es = pick (divides_all (suc n) es) (greatest-le n es)
     pick false h = omega arith
 
 small_below : (z : ℤ) → IsTrue (is_small z) → unsigned_abs z < 2 ^ 100
-unfolding is_small
+unfolding is_within
 small_below z h = grind (arith, nat_tests)
 
 pub common_divisor-lt : (es : Entries) → AreEntries es → IsTrue (are_small es) → common_divisor es < 2 ^ 100

@@ -1,4 +1,4 @@
-use Rattle.std.proofs.Common.{◌≡◌, ℕ, Bool, true, false, cond, List, [], ◌∷◌, ◌++◌, length, drop, get_or, ◌<◌, ◌≤◌, ◌+◌, refl, ap, ◌∙◌, sym, arith, ℤ, ◌+ℤ◌, ◌*ℤ◌, Some, None, append-nil}
+use Rattle.std.proofs.Common.{◌≡◌, ℕ, Bool, true, false, cond, List, [], ◌∷◌, ◌++◌, length, drop, get_or, ◌<◌, ◌≤◌, ◌+◌, ◌^◌, ap, ◌∙◌, sym, arith, ℤ, ◌+ℤ◌, ◌*ℤ◌, Some, None, append-nil}
 use Rattle.std.proofs.Math.ListN.{drop_of_length-le}
 use Rattle.std.specs.Prelude.{IsTrue}
 use Rattle.std.proofs.lemmas.Bool.{and_left, and_right}
@@ -7,24 +7,15 @@ use Rattle.std.proofs.lemmas.List.{drop_more}
 use Rattle.st_linear.specs.Linear.{Linear, is_small, are_small, small, small_entries, fits, fitting, sum_of, value, entries_value, IsLinear, AreEntries, AllAbove, scaled, scaled_entries, with_entry}
 use Rattle.st_linear.proofs.Joined.{value-joined, AreEntries-with_entry, AllAbove-with_entry, value-with_entry}
 use Rattle.st_linear.proofs.Joins.{small-some, small-none, none}
+use Rattle.st_linear.proofs.Withins.{entries-some, entries-none}
 use Rattle.st_linear.proofs.Ints.{+ℤ-*ℤ, *ℤ_assoc}
 use Rattle.std.proofs.Math.IntN.{zero-*ℤ, *ℤ_comm}
 
-by_test : (b : Bool) (xs ys : List (ℕ × ℤ)) → cond b (Some xs) None ≡ Some ys → (xs ≡ ys) × IsTrue b
-by_test true xs ys h = (cc, refl)
-by_test false xs ys h = absurd (cc)
-
-by_test_none : (b : Bool) (xs : List (ℕ × ℤ)) → cond b (Some xs) None ≡ None → b ≡ false
-by_test_none true xs h = absurd (cc)
-by_test_none false xs h = refl
-
 pub small_entries-some : (xs ys : List (ℕ × ℤ)) → small_entries xs ≡ Some ys → (xs ≡ ys) × IsTrue (are_small xs)
-unfolding small_entries
-small_entries-some xs ys h = by_test (are_small xs) xs ys h
+small_entries-some = entries-some (2 ^ 100)
 
 small_entries-none : (xs : List (ℕ × ℤ)) → small_entries xs ≡ None → are_small xs ≡ false
-unfolding small_entries
-small_entries-none xs h = by_test_none (are_small xs) xs h
+small_entries-none = entries-none (2 ^ 100)
 
 pub fitting-some : (f : Linear) (c : ℤ) (es : List (ℕ × ℤ)) → small f.constant ≡ Some c → small_entries f.entries ≡ Some es → fitting f ≡ Some (record { constant = c; entries = es })
 unfolding fitting

@@ -1,5 +1,6 @@
 use Rattle.std.proofs.Common.{◌≡◌, ℕ, ◌+◌, ◌<◌, Bool, true, false, cond, List, [], ◌∷◌, length, drop, get_or, refl, ap, ◌∙◌, sym, arith, ℤ, pos, ◌+ℤ◌, ◌*ℤ◌, Option, Some, None}
-use Rattle.std.specs.Prelude.{IsTrue, is_some, option_and_then, if◌then◌else◌, zero, suc, slice_index_or}
+use Rattle.std.specs.Option.{option_map}
+use Rattle.std.specs.Prelude.{IfSome, ◌↔◌, ◌≤ℤ◌, int_le, IsTrue, is_some, option_and_then, if◌then◌else◌, zero, suc, slice_index_or}
 use Rattle.std.proofs.lemmas.Bool.{and_from, and_parts}
 use Rattle.std.proofs.lemmas.Int.{ints}
 use Rattle.std.proofs.lemmas.List.{drop_more}
@@ -8,7 +9,7 @@ use mir.Syntax.{w128}
 use mir.Val.{to_z, of_z}
 use Rattle.std.proofs.lemmas.Int.{to_z-of_z, fits_signed_from_abs}
 use Rattle.std.proofs.Math.IntN.{*ℤ_comm, +ℤ_assoc}
-use Rattle.st_linear.specs.Linear.{Linear, is_small, is_wide, narrow, are_small, fitting, sum_of, value, entries_value, AreEntries, AllAbove, scaled, form_for, kept_entries, plus_scaled, with_listed, with_one, value_or, changed, replaced, evaluated, AllBelow}
+use Rattle.st_linear.specs.Linear.{is_within, Linear, is_small, is_wide, narrow, are_small, fitting, sum_of, value, entries_value, AreEntries, AllAbove, scaled, form_for, kept_entries, plus_scaled, with_listed, with_one, value_or, changed, replaced, evaluated, valuation, AllBelow}
 use Rattle.st_linear.proofs.Fitting.{fitting-is, value-sum_of, value-scaled}
 use Rattle.st_linear.proofs.Joins.{none}
 
@@ -83,5 +84,27 @@ unfolding is_wide
 to_z-narrow z h = to_z-of_z w128 z (fits_signed_from_abs w128 z (grind (arith, nat_tests)))
 
 pub small-not_wide : (z : ℤ) → IsTrue (is_small z) → is_wide z ≡ false
-unfolding is_small is_wide
+unfolding is_within is_wide
 small-not_wide z h = grind (arith, nat_tests)
+
+-- the value that is found is the value
+pub value-evaluated : (values : List ℤ) (es : Entries) (z r : ℤ) → evaluated values es z ≡ Some r → r ≡ z +ℤ entries_value (valuation values) es
+value-evaluated values [] z r h = let e : z ≡ r = cc in omega (arith, ints, e)
+value-evaluated values (e ∷ es) z r h =
+    let p = bind-some _ (narrow (e.1 *ℤ slice_index_or values e.0 (pos 0))) r h in
+    let q = bind-some _ (narrow (z +ℤ p.0)) r p.2 in
+    let product = narrow-some _ _ p.1 in
+    let sum = narrow-some _ _ q.1 in
+    let rest = value-evaluated values es q.0 r q.2 in
+    omega (arith, ints, rest, sum.0, product.0)
+
+-- so the test of the sign is the test of the value
+pub sign-evaluated : (values : List ℤ) (f : Linear) → IfSome (option_map (λ z. int_le (pos 0) z) (evaluated values f.entries f.constant)) (λ yes'. IsTrue yes' ↔ (pos 0 ≤ℤ value (valuation values) f))
+sign-evaluated values f = by_value (evaluated values f.entries f.constant) (λ r h. value-evaluated values f.entries f.constant r h)
+  where
+    by_sign : (r v : ℤ) → r ≡ v → IsTrue (int_le (pos 0) r) ↔ (pos 0 ≤ℤ v)
+    by_sign r v e = rw (← e) (grind (arith, ints), grind (arith, ints))
+
+    by_value : (o : Option ℤ) → ((r : ℤ) → o ≡ Some r → r ≡ value (valuation values) f) → IfSome (option_map (λ z. int_le (pos 0) z) o) (λ yes'. IsTrue yes' ↔ (pos 0 ≤ℤ value (valuation values) f))
+    by_value None h = tt
+    by_value (Some r) h = by_sign r _ (h r refl)

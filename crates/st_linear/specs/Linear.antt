@@ -14,13 +14,33 @@ entries_value store (e ∷ es) = e.1 *ℤ store e.0 +ℤ entries_value store es
 abbrev pub value : (ℕ → ℤ) → Linear → ℤ
 value store f = f.constant +ℤ entries_value store f.entries
 
+-- a size below a limit
+unfoldable pub is_within : ℕ → ℤ → Bool
+is_within limit z = nat_lt (unsigned_abs z) limit
+
+abbrev pub are_within : ℕ → List (ℕ × ℤ) → Bool
+are_within limit [] = true
+are_within limit (e ∷ es) = is_within limit e.1 && are_within limit es
+
+-- a number, and entries, if they are within a limit
+abbrev pub number_within : ℕ → ℤ → Option ℤ
+number_within limit z = if is_within limit z then Some z else None
+
+unfoldable pub entries_within : ℕ → List (ℕ × ℤ) → Option (List (ℕ × ℤ))
+entries_within limit es = if are_within limit es then Some es else None
+
 -- a number that a form may hold
-unfoldable pub is_small : ℤ → Bool
-is_small z = nat_lt (unsigned_abs z) (2 ^ 100)
+abbrev pub is_small : ℤ → Bool
+is_small = is_within (2 ^ 100)
 
 abbrev pub are_small : List (ℕ × ℤ) → Bool
-are_small [] = true
-are_small (e ∷ es) = is_small e.1 && are_small es
+are_small = are_within (2 ^ 100)
+
+abbrev pub small : ℤ → Option ℤ
+small = number_within (2 ^ 100)
+
+abbrev pub small_entries : List (ℕ × ℤ) → Option (List (ℕ × ℤ))
+small_entries = entries_within (2 ^ 100)
 
 -- an entry in front, unless its coefficient is 0
 abbrev pub with_entry : ℕ → ℤ → List (ℕ × ℤ) → List (ℕ × ℤ)
@@ -42,13 +62,6 @@ joined (x ∷ xs) ys = joined_with x xs (joined xs) ys
 
 abbrev pub sum_of : Linear → Linear → Linear
 sum_of f g = record { constant = f.constant +ℤ g.constant; entries = joined f.entries g.entries }
-
--- the entries, if each of them is small
-unfoldable pub small_entries : List (ℕ × ℤ) → Option (List (ℕ × ℤ))
-small_entries es = if are_small es then Some es else None
-
-abbrev pub small : ℤ → Option ℤ
-small z = if is_small z then Some z else None
 
 -- each variable is above v
 abbrev pub AllAbove : ℕ → List (ℕ × ℤ) → Type 0
@@ -121,6 +134,10 @@ abbrev pub evaluated : List ℤ → List (ℕ × ℤ) → ℤ → Option ℤ
 evaluated values [] z = Some z
 evaluated values (e ∷ es) z =
     option_and_then (λ p. option_and_then (evaluated values es) (narrow (z +ℤ p))) (narrow (e.1 *ℤ slice_index_or values e.0 (pos 0)))
+
+-- the store in which variable number k has the k-th value
+abbrev pub valuation : List ℤ → ℕ → ℤ
+valuation values v = slice_index_or values v (pos 0)
 
 -- each variable has a value
 abbrev pub AllBelow : ℕ → List (ℕ × ℤ) → Type 0

@@ -1,46 +1,52 @@
-//! The arithmetic of single numbers. Numbers are passed by reference, since a clause then speaks of them as they are.
+//! The arithmetic of single numbers within a limit. Numbers are passed by reference, since a clause then speaks of them as they
+//! are, and a caller's proof of what stands in a list needs no step for the type's range.
 
-ghost use Rattle.std.specs.Prelude.{◌≡◌, ◌<◌, ◌^◌, IsTrue, unsigned_abs, ◌+ℤ◌, ◌*ℤ◌, pos, false, neg_ℤ, negsuc};
-ghost use Rattle.st_linear.specs.Linear.{is_small, small, narrow, is_wide};
+ghost use Rattle.std.specs.Prelude.{◌≡◌, ◌<◌, ◌≤◌, ◌^◌, IsTrue, unsigned_abs, ◌+ℤ◌, ◌*ℤ◌, pos, false, neg_ℤ, negsuc};
+ghost use Rattle.st_linear.specs.Linear.{is_within, number_within, is_small, narrow, is_wide};
 ghost use Rattle.st_linear.specs.Answers.{Gives};
 ghost use Rattle.std.specs.Int.{IsGcd, int_div_euclid};
 
 use crate::faults::LinFault;
 
 /// No number of a form has this size or more.
-const LIMIT: u128 = 1 << 100;
+pub const LIMIT: u128 = 1 << 100;
 
 /// A value is given up where a number on the way to it has this size or more.
 const WIDE: u128 = 1 << 126;
 
-#[tactic(auto, unfolding(crate::specs::Linear::is_small))]
-pub fn is_small(value: i128) -> bool
-    ensures { result ≡ is_small value }
+/// Whether a number's size is below a limit.
+#[tactic(auto, unfolding(crate::specs::Linear::is_within))]
+pub fn is_within(limit: u128, value: i128) -> bool
+    ensures { result ≡ is_within limit value }
 {
-    value.unsigned_abs() < LIMIT
+    value.unsigned_abs() < limit
 }
 
-#[tactic(auto, unfolding(crate::specs::Linear::is_small))]
-pub fn small_sum(x: &i128, y: &i128) -> Result<i128, LinFault>
-    requires x_small { IsTrue (is_small x.now) }
-    requires y_small { IsTrue (is_small y.now) }
-    ensures { Gives (λ z. z) result (small (x.now +ℤ y.now)) }
+/// The sum of two numbers within a limit, or `TooLarge` exactly where it isn't within the limit.
+#[tactic(auto, unfolding(crate::specs::Linear::is_within))]
+pub fn sum_within(limit: u128, x: &i128, y: &i128) -> Result<i128, LinFault>
+    requires narrow { limit ≤ 2 ^ 100 }
+    requires x_within { IsTrue (is_within limit x.now) }
+    requires y_within { IsTrue (is_within limit y.now) }
+    ensures { Gives (λ z. z) result (number_within limit (x.now +ℤ y.now)) }
 {
     let sum = *x + *y;
-    if is_small(sum) {
+    if is_within(limit, sum) {
         Ok(sum)
     } else {
         Err(LinFault::TooLarge)
     }
 }
 
-#[tactic(auto, unfolding(crate::specs::Linear::is_small))]
-pub fn small_product(x: &i128, by: &i128) -> Result<i128, LinFault>
-    ensures { Gives (λ z. z) result (small (x.now *ℤ by.now)) }
+/// The product of two numbers, or `TooLarge` exactly where it isn't within the limit.
+#[tactic(auto, unfolding(crate::specs::Linear::is_within))]
+pub fn product_within(limit: u128, x: &i128, by: &i128) -> Result<i128, LinFault>
+    requires narrow { limit ≤ 2 ^ 100 }
+    ensures { Gives (λ z. z) result (number_within limit (x.now *ℤ by.now)) }
 {
     match x.checked_mul(*by) {
         Some(product) => {
-            if is_small(product) {
+            if is_within(limit, product) {
                 Ok(product)
             } else {
                 Err(LinFault::TooLarge)
@@ -50,6 +56,7 @@ pub fn small_product(x: &i128, by: &i128) -> Result<i128, LinFault>
     }
 }
 
+/// A partial sum of a value, unless its size is 2^126 or more.
 #[tactic(auto, unfolding(crate::specs::Linear::is_wide))]
 pub fn narrow_sum(x: i128, y: i128) -> Option<i128>
     requires x_narrow { is_wide x ≡ false }
@@ -64,6 +71,7 @@ pub fn narrow_sum(x: i128, y: i128) -> Option<i128>
     }
 }
 
+/// A product of a value, unless its size is 2^126 or more.
 #[tactic(auto, unfolding(crate::specs::Linear::is_wide))]
 pub fn narrow_product(x: &i128, y: &i128) -> Option<i128>
     ensures { result ≡ narrow (x.now *ℤ y.now) }
@@ -80,19 +88,21 @@ pub fn narrow_product(x: &i128, y: &i128) -> Option<i128>
     }
 }
 
+/// The greatest common divisor, by Euclid's algorithm.
 pub fn gcd(a: u128, b: u128) -> u128
     ensures { IsGcd a b result }
 {
     let mut x = a;
     let mut y = b;
     while y != 0 {
-        let r = x % y;
+        let rest = x % y;
         x = y;
-        y = r;
+        y = rest;
     }
     x
 }
 
+/// A quotient, rounded down.
 pub fn floor_quotient(x: i128, by: u128) -> i128
     requires positive { 0 < by }
     requires bound { by < 2 ^ 100 }
@@ -101,7 +111,7 @@ pub fn floor_quotient(x: i128, by: u128) -> i128
     x.div_euclid(by as i128)
 }
 
-#[tactic(auto, unfolding(crate::specs::Linear::is_small))]
+#[tactic(auto, unfolding(crate::specs::Linear::is_within))]
 pub fn lowered_number(x: &i128) -> i128
     requires { unsigned_abs x.now < 2 ^ 99 }
     ensures value { result ≡ x.now +ℤ negsuc 0 }
@@ -110,7 +120,7 @@ pub fn lowered_number(x: &i128) -> i128
     *x - 1
 }
 
-#[tactic(auto, unfolding(crate::specs::Linear::is_small))]
+#[tactic(auto, unfolding(crate::specs::Linear::is_within))]
 pub fn complement_number(x: &i128) -> i128
     requires { unsigned_abs x.now < 2 ^ 99 }
     ensures value { result ≡ neg_ℤ x.now +ℤ negsuc 0 }
@@ -119,7 +129,7 @@ pub fn complement_number(x: &i128) -> i128
     -*x - 1
 }
 
-#[tactic(auto, unfolding(crate::specs::Linear::is_small))]
+#[tactic(auto, unfolding(crate::specs::Linear::is_within))]
 pub fn negated_number(x: &i128) -> i128
     requires { IsTrue (is_small x.now) }
     ensures value { result ≡ neg_ℤ x.now }

@@ -1,12 +1,15 @@
-//! Linear forms in the place of variables.
+//! Linear forms in the place of variables. All listed variables are replaced at once: the sum begins with what stays, and the
+//! multiples of the listed forms are added in the order of the form's own variables.
 
 ghost use Rattle.std.specs.Prelude.{◌≡◌, IfOk};
 ghost use Rattle.std.specs.Option.{option_copied};
 ghost use Rattle.st_linear.specs.Linear.{form_for, kept_entries, with_listed, plus_scaled};
 ghost use Rattle.st_linear.specs.Answers.{Gives};
 
+use crate::entries::Entries;
 use crate::faults::LinFault;
 use crate::linear::Lin;
+use smallvec::SmallVec;
 use st_memory::Memory;
 use std::alloc::Global;
 
@@ -27,10 +30,10 @@ pub fn kept_entries(
     alloc: Global,
     numbers: &[(u32, Lin)],
     entries: &[(u32, i128)],
-) -> Result<Vec<(u32, i128)>, Memory>
+) -> Result<Entries, Memory>
     ensures { IfOk result (λ v. v.items ≡ kept_entries numbers.now entries.now) }
 {
-    let mut out = Vec::new(alloc);
+    let mut out = SmallVec::new(alloc);
     for e in entries {
         if form_for(numbers, e.0).is_none() {
             out.push(*e)?;
@@ -57,7 +60,7 @@ pub fn add_listed(
     Ok(sum)
 }
 
-pub fn add_scaled(alloc: Global, sum: Lin, form: &Lin, by: &i128) -> Result<Lin, LinFault>
+fn add_scaled(alloc: Global, sum: Lin, form: &Lin, by: &i128) -> Result<Lin, LinFault>
     ensures { Gives (λ f. f) result (plus_scaled sum by.now form.now) }
 {
     let product = form.scale(alloc, *by)?;

@@ -5,6 +5,6 @@ use Rattle.st_linear.proofs.entries.divisor_of.Given as goal
 
 abbrev pub invariant-loop-e : goal.invariant-loop-e
 invariant-loop-e l = record {
-  up : (d : ℕ) → d ∣ l.g → CommonTo d (drop l.e-index l.entries) → CommonTo d l.entries;
-  down : (d : ℕ) → CommonTo d l.entries → d ∣ l.g;
+  up : (d : ℕ) → d ∣ l.divisor → CommonTo d (drop l.e-index l.entries) → CommonTo d l.entries;
+  down : (d : ℕ) → CommonTo d l.entries → d ∣ l.divisor;
 }

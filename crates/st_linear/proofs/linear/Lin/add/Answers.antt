@@ -19,7 +19,7 @@ returns-in_err-entries-clause-exact c =
     let p = err_from_is_err_and c.from_residual-in_err-entries.result c.from_residual-in_err-entries.ensures.1 in
     let f : Linear = record { constant = c.self.inside.constant; entries = c.self.inside.entries.items } in
     let g : Linear = record { constant = c.other.inside.constant; entries = c.other.inside.entries.items } in
-    rw (p.1, p.2, ← c.self.view_is, ← c.other.view_is) (Fails-whole c.in_err-entries.field-0.0 _ _ (fitting-no_entries (sum_of f g)) (rw (c.as_slice.ensures.value, c.as_slice-2.ensures.value) at c.in_err-entries.ensures))
+    rw (p.1, p.2, ← c.self.view_is, ← c.other.view_is) (Fails-whole c.in_err-entries.field-0.0 _ _ (fitting-no_entries (sum_of f g)) (rw (c.as_slice.ensures, c.as_slice-2.ensures) at c.in_err-entries.ensures))
 
 pub invariant_of-result : goal.invariant_of-result
 invariant_of-result c =
@@ -27,14 +27,14 @@ invariant_of-result c =
     let g : Linear = record { constant = c.other.inside.constant; entries = c.other.inside.entries.items } in
     let s = small-some _ _ c.in_ok-constant.ensures in
     rw (to_z-small c.in_ok-constant.constant (rw (← s.0) s.1))
-    (IsLinear-made _ _ (sum_of f g).constant (sum_of f g).entries c.in_ok-constant.ensures (rw (c.as_slice.ensures.value, c.as_slice-2.ensures.value) at c.in_ok-entries.ensures) (AreEntries-joined _ _ c.self.invariant.entries c.other.invariant.entries))
+    (IsLinear-made _ _ (sum_of f g).constant (sum_of f g).entries c.in_ok-constant.ensures (rw (c.as_slice.ensures, c.as_slice-2.ensures) at c.in_ok-entries.ensures) (AreEntries-joined _ _ c.self.invariant.entries c.other.invariant.entries))
 
 pub returns-clause-exact : goal.returns-clause-exact
 returns-clause-exact c =
     let f : Linear = record { constant = c.self.inside.constant; entries = c.self.inside.entries.items } in
     let g : Linear = record { constant = c.other.inside.constant; entries = c.other.inside.entries.items } in
     let s = small-some _ _ c.in_ok-constant.ensures in
-    rw (← c.self.view_is, ← c.other.view_is, to_z-small c.in_ok-constant.constant (rw (← s.0) s.1)) (fitting-some (sum_of f g) _ _ c.in_ok-constant.ensures (rw (c.as_slice.ensures.value, c.as_slice-2.ensures.value) at c.in_ok-entries.ensures))
+    rw (← c.self.view_is, ← c.other.view_is, to_z-small c.in_ok-constant.constant (rw (← s.0) s.1)) (fitting-some (sum_of f g) _ _ c.in_ok-constant.ensures (rw (c.as_slice.ensures, c.as_slice-2.ensures) at c.in_ok-entries.ensures))
 
 pub returns-clause-value : goal.returns-clause-value
 returns-clause-value c store = ap (value store) (sym (fitting-is _ _ (returns-clause-exact c))) ∙ value-sum_of store c.args.self.now c.args.other.now

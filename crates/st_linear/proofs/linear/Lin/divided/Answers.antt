@@ -9,7 +9,7 @@ invariant_of-result c =
     let small = is_small-quotient c.self.inside.constant c.args.by c.self.invariant.constant_small in
     let divides = rw (← c.self.view_is) at c.requires.divides in
     let quotient_small = rw (← q) at small in
-    rw (to_z-small c.floor_quotient.result quotient_small, q, c.in_ok-divide_entries.ensures, c.as_slice.ensures.value)
+    rw (to_z-small c.floor_quotient.result quotient_small, q, c.in_ok-divide_entries.ensures, c.as_slice.ensures)
     (record {
       constant_small = small;
       entries_small = are_small-divided c.args.by _ c.self.invariant.entries_small;

@@ -6,7 +6,7 @@ use Rattle.st_linear.proofs.linear.Lin.replace.Goals as goal
 
 pub invariant_of-start : goal.invariant_of-start
 invariant_of-start c =
-    rw (to_z-small c.self.inside.constant c.self.invariant.constant_small, c.in_ok-kept_entries.ensures, c.as_slice.ensures.value)
+    rw (to_z-small c.self.inside.constant c.self.invariant.constant_small, c.in_ok-kept_entries.ensures, c.as_slice.ensures)
     (record {
       constant_small = c.self.invariant.constant_small;
       entries_small = are_small-kept c.args.numbers.now _ c.self.invariant.entries_small;

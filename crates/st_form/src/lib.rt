@@ -9,6 +9,7 @@ mod literals;
 mod parts;
 mod replacement;
 mod simplification;
+mod variables;
 
 pub use conditions::{CondName, Condition, Part, Premise, TransName};
 pub use conjuncts::{in_place, joined_conjuncts, opened};
@@ -16,3 +17,4 @@ pub use formulas::{Form, copy_all};
 pub use replacement::Change;
 pub use simplification::simple_conjuncts;
 pub use st_linear::{Lin, LinFault, Line};
+pub use variables::Variable;

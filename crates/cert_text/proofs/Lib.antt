@@ -1,0 +1,12 @@
+pub mod Modest
+pub mod Stopping
+pub mod Lasts
+pub mod Within
+pub mod PickReads
+pub mod LeafReads
+pub mod CutReads
+pub mod TreeReads
+pub mod Digits
+pub mod Back
+pub mod Bytes
+pub mod Numbers

@@ -1,0 +1,21 @@
+//! Certificate texts: blocks are read from bytes that come in any pieces, and written.
+#![tactic(auto)]
+
+mod blank;
+mod control;
+mod cuts;
+mod letters;
+mod picks;
+mod progress;
+mod reader;
+mod scan;
+mod tree;
+mod words;
+mod write;
+
+pub use reader::{Block, CertReader, NextBlock};
+pub use st_certificate::Certificate;
+pub use write::{write_block, write_header};
+
+#[cfg(test)]
+mod tests;

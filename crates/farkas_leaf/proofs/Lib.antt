@@ -1,4 +1,6 @@
 pub mod Products
-pub mod RowSums
-pub mod LineSums
+pub mod Coefficients
+pub mod WindowSums
+pub mod PickSums
+pub mod RowLines
 pub mod Laws

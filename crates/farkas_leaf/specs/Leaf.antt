@@ -1,5 +1,8 @@
-use Rattle.std.specs.Prelude.{◌≡◌, ℕ, ◌+◌, ◌<◌, ◌≤◌, ℤ, pos, ◌+ℤ◌, ◌≤ℤ◌, ◌<ℤ◌, List, [], ◌∷◌, length, slice_index_or, All, ◌==◌, if◌then◌else◌}
-use Rattle.st_linear.specs.Linear.{AreEntries, Linear, value, number, sum_of, scaled}
+-- Farkas' lemma for rows alone: multiples by natural numbers whose sum is a negative constant show that no values make each row
+-- at least 0. It is the case of lines without an equation.
+use Rattle.std.specs.Prelude.{◌≡◌, ℕ, ◌+◌, ◌<◌, ◌≤◌, ℤ, pos, ◌≤ℤ◌, ◌<ℤ◌, List, [], ◌∷◌, length, slice_index_or, All, false}
+use Rattle.st_linear.specs.declared.rows.Line.{Line}
+use Rattle.st_linear.specs.Linear.{Linear, value, number, sum_of, scaled}
 
 abbrev pub row_at : List Linear → ℕ → Linear
 row_at rows k = slice_index_or rows k (number (pos 0))
@@ -24,17 +27,6 @@ pub record Closes (rows : List Linear) (picks : List (ℕ × ℕ)) : Type 0 wher
 abbrev pub HaveNoSolution : List Linear → Type 0
 HaveNoSolution rows = (store : ℕ → ℤ) → All (λ f. pos 0 ≤ℤ value store f) rows → ⊥
 
--- the coefficient of a variable
-abbrev pub coefficient : ℕ → List (ℕ × ℤ) → ℤ
-coefficient v [] = pos 0
-coefficient v (e ∷ es) = (if e.0 == v then e.1 else pos 0) +ℤ coefficient v es
-
--- each variable of the entries has the coefficient 0 in a sum
-abbrev pub AllZero : List (ℕ × ℤ) → List (ℕ × ℤ) → Type 0
-AllZero sum [] = Unit {0}
-AllZero sum (e ∷ es) = (coefficient e.0 sum ≡ pos 0) × AllZero sum es
-
--- each variable of the picked rows has the coefficient 0 in a sum
-abbrev pub Balanced : List Linear → List (ℕ × ℤ) → List (ℕ × ℕ) → Type 0
-Balanced rows sum [] = Unit {0}
-Balanced rows sum (p ∷ ps) = AreEntries (row_at rows p.0).entries × AllZero sum (row_at rows p.0).entries × Balanced rows sum ps
+-- a row as a line that is no equation
+abbrev pub as_row : Linear → Line
+as_row f = record { form = f; equal = false }

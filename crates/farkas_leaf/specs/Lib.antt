@@ -1,2 +1,3 @@
 pub mod Leaf
 pub mod Lines
+pub mod Windows

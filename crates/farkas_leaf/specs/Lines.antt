@@ -1,6 +1,8 @@
-use Rattle.std.specs.Prelude.{Bool, true, false, ◌≡◌, ℕ, ◌+◌, ◌<◌, ◌≤◌, ℤ, pos, ◌+ℤ◌, ◌≤ℤ◌, ◌<ℤ◌, List, [], ◌∷◌, length, slice_index_or, ◌==◌, if◌then◌else◌}
+-- Farkas' lemma for rows (at least 0) and equations (0) over whole numbers: multiples of them whose sum is a negative constant
+-- show that no values make each of them hold. Schrijver, Theory of Linear and Integer Programming, 1986, section 7.3.
+use Rattle.std.specs.Prelude.{Bool, true, false, ◌≡◌, ℕ, ◌+◌, ◌<◌, ◌≤◌, ℤ, pos, ◌+ℤ◌, ◌≤ℤ◌, ◌<ℤ◌, List, [], ◌∷◌, length, slice_index_or, map, ◌==◌, if◌then◌else◌}
 use Rattle.st_linear.specs.declared.rows.Line.{Line}
-use Rattle.st_linear.specs.Linear.{AreEntries, Linear, value, number, sum_of, scaled}
+use Rattle.st_linear.specs.Linear.{Linear, value, number, sum_of, scaled}
 
 -- what stands for a line that isn't there: an equation that always holds
 abbrev pub no_line : Line
@@ -48,17 +50,11 @@ AllHold store (l ∷ ls) = Holds store l × AllHold store ls
 abbrev pub HaveNoSolution : List Line → Type 0
 HaveNoSolution lines = (store : ℕ → ℤ) → AllHold store lines → ⊥
 
--- the coefficient of a variable
+-- the coefficient of a variable in a list of entries
 abbrev pub coefficient : ℕ → List (ℕ × ℤ) → ℤ
 coefficient v [] = pos 0
 coefficient v (e ∷ es) = (if e.0 == v then e.1 else pos 0) +ℤ coefficient v es
 
--- each variable of the entries has the coefficient 0 in a sum
-abbrev pub AllZero : List (ℕ × ℤ) → List (ℕ × ℤ) → Type 0
-AllZero sum [] = Unit {0}
-AllZero sum (e ∷ es) = (coefficient e.0 sum ≡ pos 0) × AllZero sum es
-
--- each variable of the picked rows has the coefficient 0 in a sum
-abbrev pub Balanced : List Line → List (ℕ × ℤ) → List (ℕ × ℤ) → Type 0
-Balanced rows sum [] = Unit {0}
-Balanced rows sum (p ∷ ps) = AreEntries (line_at rows p.0).form.entries × AllZero sum (line_at rows p.0).form.entries × Balanced rows sum ps
+-- picks with their multipliers as whole numbers
+abbrev pub signed_picks : {M : Type 0} → (M → ℤ) → List (ℕ × M) → List (ℕ × ℤ)
+signed_picks signed picks = map (λ p. (p.0, signed p.1)) picks

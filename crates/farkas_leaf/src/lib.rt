@@ -3,6 +3,9 @@
 
 mod leaf;
 mod lines;
+mod sums;
+mod terms;
+mod window;
 
 pub use leaf::leaf_closes;
 pub use lines::linear_closes;

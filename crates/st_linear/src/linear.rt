@@ -67,7 +67,8 @@ impl Lin {
         constant: i128,
         entries: &[(u32, i128)],
     ) -> Result<Option<Lin>, Memory>
-        ensures { IfOk result (λ f. f ≡ of_entries constant entries.now) }
+        ensures exact { IfOk result (λ f. f ≡ of_entries constant entries.now) }
+        ensures made { IfOk result (λ f. IfSome f (λ g. g ≡ record { constant = constant; entries = entries.now })) }
     {
         if is_within(LIMIT, constant) && are_listed(entries) {
             Ok(Some(Lin {

@@ -1,9 +1,11 @@
-use Rattle.std.proofs.Common.{rules}
-use Rattle.farkas_leaf.proofs.RowSums.{no_solution}
+use Rattle.farkas_leaf.proofs.RowLines.{closes-lines}
+use Rattle.farkas_leaf.proofs.Laws.{rows_no_solution}
 use Rattle.farkas_leaf.proofs.leaf.leaf_closes.Goals as goal
 
-pub returns-then-constant_total-lt0-clause-exact : goal.returns-then-constant_total-lt0-clause-exact
-returns-then-constant_total-lt0-clause-exact c = search rules
+pub returns-clause-exact : goal.returns-clause-exact
+returns-clause-exact c =
+    let same = closes-lines c.args.rows.now c.args.picks.now in
+    (λ yes'. same.1 (c.closes.ensures.0 yes'), λ h. c.closes.ensures.1 (same.0 h))
 
-pub returns-then-constant_total-lt0-clause-sound : goal.returns-then-constant_total-lt0-clause-sound
-returns-then-constant_total-lt0-clause-sound c = λ yes. no_solution c.args.rows.now c.args.picks.now ((returns-then-constant_total-lt0-clause-exact c).0 yes)
+pub returns-clause-sound : goal.returns-clause-sound
+returns-clause-sound c = λ yes'. rows_no_solution c.args.rows.now c.args.picks.now ((returns-clause-exact c).0 yes')

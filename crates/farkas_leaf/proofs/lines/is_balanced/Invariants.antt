@@ -1,6 +1,0 @@
-use Rattle.std.proofs.Common.{◌↔◌, drop}
-use Rattle.farkas_leaf.specs.Lines.{AllZero, total}
-use Rattle.farkas_leaf.proofs.lines.is_balanced.Given as goal
-
-abbrev pub invariant-loop-e : goal.invariant-loop-e
-invariant-loop-e l = AllZero (total l.lines l.picks).entries (drop l.e-index l.entries) ↔ AllZero (total l.lines l.picks).entries l.entries

@@ -5,4 +5,3 @@ pub mod Levels
 pub mod Loops
 pub mod Quiet
 pub mod ExpressionLaw
-pub mod StatementLaw

@@ -3,6 +3,6 @@ pub mod ProgramTree
 pub mod Signs
 pub mod Calm
 pub mod Reading
+pub mod Begun
 pub mod Statements
 pub mod Programs
-pub mod Grammar

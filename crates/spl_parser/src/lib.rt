@@ -1,7 +1,10 @@
 //! The grammar of programs and formulas, as raw trees.
 #![tactic(auto)]
 
+mod begun;
 mod expr;
+mod limits;
+mod lists;
 mod raw;
 mod sign;
 
@@ -9,4 +12,4 @@ pub use raw::{
     Operator, RawBody, RawDeclaration, RawExpr, RawExprKind, RawKind, RawProcess, RawProgram,
     RawStatement,
 };
-pub use st_reading::{ParseFault as ParseFault, RawName};
+pub use st_reading::{ParseFault, RawName};

@@ -1,5 +1,6 @@
 -- The plain twins of raw statements, bodies and programs: the same trees, without where they lie in memory.
-use Rattle.std.specs.Prelude.{ℕ, Bool, List, [], ◌∷◌, map, Option}
+use Rattle.std.specs.Prelude.{ℕ, Bool, List, [], ◌∷◌, map, Option, Some, None, Box}
+use Rattle.std.specs.declared.alloc.Global.{Global}
 use Rattle.std.specs.Option.{option_map}
 use Rattle.spl_parser.specs.declared.raw.RawExpr.{RawExpr}
 use Rattle.spl_parser.specs.declared.raw.RawBody.{RawBody, RawBody'}
@@ -91,6 +92,11 @@ abbrev mutual
 
 abbrev pub statement_view : RawStatement → Statement
 statement_view s = stated (label_view s.label) s.place (action_view s.kind)
+
+-- the branch behind "else"
+abbrev pub option_branch : Option (Box RawStatement Global) → Branch
+option_branch None = no_branch
+option_branch (Some b) = branch (statement_view b.value)
 
 abbrev pub statement_views : List RawStatement → List Statement
 statement_views xs = map statement_view xs

@@ -12,6 +12,7 @@ use Rattle.st_reading.specs.Reading.{other, Read, Label, ahead, place_of, name_o
 use Rattle.spl_parser.specs.declared.sign.Start.{Start}
 use Rattle.spl_parser.specs.declared.sign.Start.TheVariants as starts
 use Rattle.spl_parser.specs.Signs.{start, begins}
+use Rattle.spl_parser.specs.Item.{Item, last, item}
 use Rattle.spl_parser.specs.Begun.{Begun, fresh, after_name, after_label}
 use Rattle.spl_parser.specs.ExpressionTree.{Expr}
 use Rattle.spl_parser.specs.ProgramTree.{Statement, stated, Action, skip, critical, noncritical, assign, assign_all, await, request, release, conditional, while_do, forever, block, select, cooperate, group, Branch, no_branch, branch, statements, Body, body, bodies}
@@ -53,11 +54,6 @@ counting r o place xs = then_reads (r o xs.1) (λ x. gives (goes (xs.0 ++ x.0 �
 abbrev pub linked : {A : Type 0} → Mark → (ℕ → Reader (Counted A)) → Counted (List A) → Reader (Counted (List A))
 linked mark r xs s = chain (only mark) (counting (λ o. r)) gives (size s) xs s
 
--- what stands behind a ";" in a body: the label of its end, with the "]", or a statement
-pub data Item : Type 0 where
-  last : Label → Item
-  item : Statement → Item
-
 -- item "," item { "," item } ")"
 unfoldable pub listed_of : {A : Type 0} → Reader A → Reader (List A)
 listed_of r s =
@@ -67,6 +63,10 @@ module _ (value : Reader Expr) where
   -- ":=" expr
   unfoldable pub right_side_of : Reader Expr
   right_side_of s = then_reads (expected marks.Becomes) (λ m. value) s
+
+  -- behind the name on the left of an assignment that has no label
+  unfoldable pub assigned_of : Label → ℕ → Reader (Counted Statement)
+  assigned_of l n s = then_reads right_side_of (λ e. gives (stated None l.place (assign l e), n)) s
 
   -- behind the "(" of a list of targets
   unfoldable pub all_assigned_of : Reader Action
@@ -170,17 +170,12 @@ module _ (value : Reader Expr) where
     unfoldable pub bare_of : Bool → Option Label → ℕ → Reader (Counted Statement)
     bare_of inner label n s = on_operator (start (ahead s)) (Err (refusal s)) (λ x. then_reads (action_of inner n (name_of s) x) (λ a. gives (standing label (place_of s) a)) (behind s))
 
-    -- behind the name on the left of an assignment
-    abbrev pub assigned_of : Label → ℕ → Reader (Counted Statement)
-    assigned_of l n = then_reads right_side_of (λ e. gives (stated None l.place (assign l e), n))
-
     -- behind a name that begins a statement: a label, or the left side of an assignment
     unfoldable pub named_of : Label → ℕ → Reader (Counted Statement)
     named_of l n s = cond (is (ahead s) marks.Colon) (bare_of false (Some l) n (behind s)) (assigned_of l n s)
 
     unfoldable pub statement_of : Begun → ℕ → Reader (Counted Statement)
-    statement_of (fresh true) n s = bare_of true None n s
-    statement_of (fresh false) n s = cond (is_name (ahead s)) (named_of (name_of s) n (behind s)) (bare_of false None n s)
+    statement_of (fresh inner) n s = cond inner (bare_of true None n s) (cond (is_name (ahead s)) (named_of (name_of s) n (behind s)) (bare_of false None n s))
     statement_of (after_name l) n s = assigned_of l n s
     statement_of (after_label l) n s = bare_of false (Some l) n s
 

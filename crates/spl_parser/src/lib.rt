@@ -3,10 +3,12 @@
 
 mod begun;
 mod expr;
+mod item;
 mod limits;
 mod lists;
 mod raw;
 mod sign;
+mod statement;
 
 pub use raw::{
     Operator, RawBody, RawDeclaration, RawExpr, RawExprKind, RawKind, RawProcess, RawProgram,

@@ -7,3 +7,4 @@ pub mod Item
 pub mod Begun
 pub mod Statements
 pub mod Programs
+pub mod Parsing

@@ -139,3 +139,9 @@ process_view p = record { name = name_view p.name; declarations = map declaratio
 
 abbrev pub program_view : RawProgram → Program
 program_view p = record { declarations = map declaration_view p.declarations.items; processes = map process_view p.processes.items }
+
+abbrev pub declaration_views : List RawDeclaration → List Declaration
+declaration_views ds = map declaration_view ds
+
+abbrev pub process_views : List RawProcess → List Process
+process_views ps = map process_view ps

@@ -2,14 +2,17 @@
 #![tactic(auto)]
 
 mod begun;
+mod declaration;
 mod expr;
 mod item;
 mod limits;
 mod lists;
+mod program;
 mod raw;
 mod sign;
 mod statement;
 
+pub use program::parse_program;
 pub use raw::{
     Operator, RawBody, RawDeclaration, RawExpr, RawExprKind, RawKind, RawProcess, RawProgram,
     RawStatement,

@@ -18,3 +18,6 @@ pub use raw::{
     RawStatement,
 };
 pub use st_reading::{ParseFault, RawName};
+
+#[cfg(test)]
+mod tests;

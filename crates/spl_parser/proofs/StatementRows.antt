@@ -1,9 +1,11 @@
 -- How a statement or a body is seen that holds a list.
-use Rattle.std.proofs.Common.{◌≡◌, ℕ, List, [], ◌∷◌, Vec, Global, refl, ap, sym, ◌∙◌}
+use Rattle.std.proofs.Common.{◌≡◌, ℕ, List, [], ◌∷◌, Option, Vec, Global, refl, ap, sym, ◌∙◌}
 use Rattle.spl_parser.specs.declared.raw.RawStatement as raw_statement
 use Rattle.spl_parser.specs.declared.raw.RawKind as raw_kind
 use Rattle.spl_parser.specs.declared.raw.RawKind.TheBlock as rows
 use Rattle.spl_parser.specs.declared.raw.RawBody as raw_body
+use Rattle.spl_parser.specs.declared.raw.RawKind.TheViews as seen
+use Rattle.st_reading.specs.declared.looking.RawName.{RawName}
 use Rattle.spl_parser.specs.ProgramTree.{Action, Statements, stated, followed, block, select, cooperate, group, beside, label_view, action_view, row_view, body_row_view, body_view, body, statements, statement_views, bodies, body_views}
 
 row_statements : {n : _} (row : raw_kind.Row_of-RawStatement n) → row_view row ≡ statements (statement_views (raw_kind.items-the_row-RawStatement n row))
@@ -40,3 +42,8 @@ view_body (raw_body.RawBody' h row end) = ap (λ z. body z (label_view end)) (ro
 pub ruleset actions = (view_block, view_select, view_cooperate, view_group)
 
 pub ruleset whole_bodies = (view_body)
+
+-- a body that is put together
+pub view_made_body : (v : Vec raw_statement.RawStatement Global) (end : Option RawName) → body_view (seen.roll-RawBody (record { statements = v; end = end })) ≡ body (statements (statement_views v.items)) (label_view end)
+unfolding raw_body.roll-RawBody denote.Hole.Carrier.roll
+view_made_body v end = ap (λ z. body z (label_view end)) (vector_statements v)

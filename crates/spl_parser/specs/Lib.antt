@@ -3,6 +3,8 @@ pub mod ProgramTree
 pub mod Signs
 pub mod Calm
 pub mod Reading
+pub mod Item
+pub mod Begun
 pub mod Statements
 pub mod Programs
-pub mod Grammar
+pub mod Parsing

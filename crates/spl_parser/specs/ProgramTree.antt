@@ -1,5 +1,6 @@
 -- The plain twins of raw statements, bodies and programs: the same trees, without where they lie in memory.
-use Rattle.std.specs.Prelude.{ℕ, Bool, List, [], ◌∷◌, map, Option}
+use Rattle.std.specs.Prelude.{ℕ, Bool, List, [], ◌∷◌, map, Option, Some, None, Box}
+use Rattle.std.specs.declared.alloc.Global.{Global}
 use Rattle.std.specs.Option.{option_map}
 use Rattle.spl_parser.specs.declared.raw.RawExpr.{RawExpr}
 use Rattle.spl_parser.specs.declared.raw.RawBody.{RawBody, RawBody'}
@@ -92,6 +93,11 @@ abbrev mutual
 abbrev pub statement_view : RawStatement → Statement
 statement_view s = stated (label_view s.label) s.place (action_view s.kind)
 
+-- the branch behind "else"
+abbrev pub option_branch : Option (Box RawStatement Global) → Branch
+option_branch None = no_branch
+option_branch (Some b) = branch (statement_view b.value)
+
 abbrev pub statement_views : List RawStatement → List Statement
 statement_views xs = map statement_view xs
 
@@ -133,3 +139,9 @@ process_view p = record { name = name_view p.name; declarations = map declaratio
 
 abbrev pub program_view : RawProgram → Program
 program_view p = record { declarations = map declaration_view p.declarations.items; processes = map process_view p.processes.items }
+
+abbrev pub declaration_views : List RawDeclaration → List Declaration
+declaration_views ds = map declaration_view ds
+
+abbrev pub process_views : List RawProcess → List Process
+process_views ps = map process_view ps

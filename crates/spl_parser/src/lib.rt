@@ -1,12 +1,23 @@
 //! The grammar of programs and formulas, as raw trees.
 #![tactic(auto)]
 
+mod begun;
+mod declaration;
 mod expr;
+mod item;
+mod limits;
+mod lists;
+mod program;
 mod raw;
 mod sign;
+mod statement;
 
+pub use program::parse_program;
 pub use raw::{
     Operator, RawBody, RawDeclaration, RawExpr, RawExprKind, RawKind, RawProcess, RawProgram,
     RawStatement,
 };
-pub use st_reading::{ParseFault as ParseFault, RawName};
+pub use st_reading::{ParseFault, RawName};
+
+#[cfg(test)]
+mod tests;

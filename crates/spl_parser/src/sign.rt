@@ -1,7 +1,7 @@
 //! What begins an expression or a statement, and what continues one.
 
 ghost use Rattle.std.specs.Prelude.{◌≡◌};
-ghost use Rattle.spl_parser.specs.Signs.{front_mark, front, product_sign, sum_sign, comparison_sign, basic_start, nested_start, start, allowed, mode, kind};
+ghost use Rattle.spl_parser.specs.Signs.{front_mark, front, product_sign, sum_sign, comparison_sign, basic_start, nested_start, start, is_inner, begins, mode, kind};
 
 use crate::raw::Operator;
 use st_reading::{Mark, Sign, is};
@@ -37,7 +37,6 @@ pub enum Start {
     Select,
     Cooperate,
     Group,
-    Other,
 }
 
 fn front_mark(places: bool, sign: Sign) -> Front
@@ -113,68 +112,76 @@ pub fn comparison_operator(sign: Sign) -> Option<Operator>
     }
 }
 
-fn nested_start(sign: Sign) -> Start
+fn nested_start(sign: Sign) -> Option<Start>
     ensures { result ≡ nested_start sign }
 {
     if is(sign, Mark::If) {
-        Start::If
+        Some(Start::If)
     } else if is(sign, Mark::While) {
-        Start::While
+        Some(Start::While)
     } else if is(sign, Mark::Loop) {
-        Start::Loop
+        Some(Start::Loop)
     } else if is(sign, Mark::OpenBlock) {
-        Start::Block
+        Some(Start::Block)
     } else if is(sign, Mark::Select) {
-        Start::Select
+        Some(Start::Select)
     } else if is(sign, Mark::Cobegin) {
-        Start::Cooperate
+        Some(Start::Cooperate)
     } else if is(sign, Mark::OpenGroup) {
-        Start::Group
+        Some(Start::Group)
     } else {
-        Start::Other
+        None
     }
 }
 
-fn basic_start(sign: Sign) -> Start
+fn basic_start(sign: Sign) -> Option<Start>
     ensures { result ≡ basic_start sign }
 {
     if is(sign, Mark::Open) {
-        Start::Listed
+        Some(Start::Listed)
     } else if is(sign, Mark::Skip) {
-        Start::Skip
+        Some(Start::Skip)
     } else if is(sign, Mark::Critical) {
-        Start::Critical
+        Some(Start::Critical)
     } else if is(sign, Mark::Noncritical) {
-        Start::Noncritical
+        Some(Start::Noncritical)
     } else if is(sign, Mark::Await) {
-        Start::Await
+        Some(Start::Await)
     } else if is(sign, Mark::Request) {
-        Start::Request
+        Some(Start::Request)
     } else if is(sign, Mark::Release) {
-        Start::Release
+        Some(Start::Release)
     } else {
         nested_start(sign)
     }
 }
 
-pub fn start_of(sign: Sign) -> Start
+/// What stands at the front of a statement, where one begins.
+pub fn start_of(sign: Sign) -> Option<Start>
     ensures { result ≡ start sign }
 {
     match sign {
-        Sign::Name => Start::Named,
+        Sign::Name => Some(Start::Named),
         _ => basic_start(sign),
     }
 }
 
-/// Whether a statement, inside a group where `grouped`, may begin so.
-pub fn allowed(grouped: bool, start: Start) -> bool
-    ensures { result ≡ allowed grouped start }
+fn is_inner(start: Start) -> bool
+    ensures { result ≡ is_inner start }
+{
+    matches!(
+        start,
+        Start::Named | Start::Listed | Start::Skip | Start::Await | Start::If | Start::Block
+    )
+}
+
+/// Whether a statement, inside a group where `grouped`, begins so.
+pub fn begins(grouped: bool, start: Option<Start>) -> bool
+    ensures { result ≡ begins grouped start }
 {
     match start {
-        Start::Named | Start::Listed | Start::Skip | Start::Await | Start::If | Start::Block =>
-            true,
-        Start::Other => false,
-        _ => !grouped,
+        None => false,
+        Some(start) => !grouped || is_inner(start),
     }
 }
 

@@ -9,4 +9,4 @@ mod sign;
 pub use fault::ParseFault;
 pub use looking::{RawName, advance, ahead, expect, name, name_ahead, place_of, refusal};
 pub use mark::{Mark, same};
-pub use sign::{Sign, is, sign_of};
+pub use sign::{Sign, is, is_name, sign_of};

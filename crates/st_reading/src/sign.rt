@@ -1,5 +1,6 @@
 ghost use Rattle.std.specs.Prelude.{◌≡◌};
 ghost use Rattle.st_tokens.specs.Stream.{lexeme};
+ghost use Rattle.st_reading.specs.Reading.{is_name};
 ghost use Rattle.st_reading.specs.Sign.{sign_of, symbol_sign, word_sign, word_mark, or_else, declaring_word, basic_word, compound_word, step_word, rule_word, drawing_word, is};
 
 use crate::mark::{Mark, same};
@@ -24,6 +25,13 @@ pub fn is(sign: Sign, wanted: Mark) -> bool
         Sign::Marked(mark) => same(mark, wanted),
         _ => false,
     }
+}
+
+/// Whether it is a name.
+pub fn is_name(sign: Sign) -> bool
+    ensures { result ≡ is_name sign }
+{
+    matches!(sign, Sign::Name)
 }
 
 fn symbol_sign(text: &[u8]) -> Sign

@@ -5,7 +5,7 @@ use Rattle.st_tokens.specs.declared.kind.Front.TheVariants.{Blank, Whole, Bad, L
 use Rattle.st_tokens.specs.Text.{front_at}
 use Rattle.st_tokens.specs.Stream.{lex, begin, text_stream, first_place, IsRising}
 
-first_at : (end skip : ℕ) (bs : List ℕ) → length bs ≤ end → end - length bs ≤ first_place (lex end skip bs)
+pub first_at : (end skip : ℕ) (bs : List ℕ) → length bs ≤ end → end - length bs ≤ first_place (lex end skip bs)
 unfolding lex
 first_at end skip [] h = omega arith
 first_at end (suc skip) (b ∷ bs) h = omega (arith, first_at end skip bs (omega arith))
@@ -17,7 +17,7 @@ first_at end zero (b ∷ bs) h = at_front (λ k. first_at end k bs (omega arith)
     at_front go Bad = omega arith
     at_front go Long = omega arith
 
-rising : (end skip : ℕ) (bs : List ℕ) → length bs ≤ end → IsRising (lex end skip bs)
+pub rising : (end skip : ℕ) (bs : List ℕ) → length bs ≤ end → IsRising (lex end skip bs)
 unfolding lex
 rising end skip [] h = tt
 rising end (suc skip) (b ∷ bs) h = rising end skip bs (omega arith)

@@ -1,5 +1,5 @@
 -- The tokens of a text, one after the other, up to its end or to the first fault.
-use Rattle.std.specs.Prelude.{◌≡◌, ℕ, zero, suc, pred, ◌-◌, ◌<◌, List, [], ◌∷◌, take, length, Option, Some, None, Result, Ok, Err}
+use Rattle.std.specs.Prelude.{◌≡◌, ℕ, zero, suc, pred, ◌+◌, ◌-◌, ◌<◌, List, [], ◌∷◌, ◌++◌, take, drop, length, Option, Some, None, Result, Ok, Err}
 use Rattle.st_tokens.specs.declared.kind.TokenKind.{TokenKind}
 use Rattle.st_tokens.specs.declared.kind.Token.{Token}
 use Rattle.st_tokens.specs.declared.kind.TokenFault.{TokenFault}
@@ -7,7 +7,7 @@ use Rattle.st_tokens.specs.declared.kind.TokenFault.TheVariants.{BadByte, LongNu
 use Rattle.st_tokens.specs.declared.kind.Front.{Front}
 use Rattle.st_tokens.specs.declared.kind.Front.TheVariants.{Blank, Whole, Bad, Long}
 use Rattle.st_tokens.specs.declared.tokens.Tokens.{Tokens}
-use Rattle.st_tokens.specs.Text.{front_at}
+use Rattle.st_tokens.specs.Text.{front, front_at}
 
 -- a token: its kind, its bytes, and the place of the first of them
 pub record Lexeme : Type 0 where
@@ -82,3 +82,33 @@ abbrev pub IsRising : Stream → Type 0
 IsRising (ends place) = Unit {0}
 IsRising (breaks f) = Unit {0}
 IsRising (more t s) = (t.start < first_place s) × IsRising s
+
+-- Each token is what stands at the front of the text from its place on, and its bytes are those there.
+abbrev pub AreThere : List ℕ → Stream → Type 0
+AreThere text (ends place) = Unit {0}
+AreThere text (breaks f) = Unit {0}
+AreThere text (more t s) = ((n : ℕ) × (front (drop t.start text) ≡ Whole t.kind n) × (t.text ≡ take n (drop t.start text))) × AreThere text s
+
+abbrev pub shifted_fault : ℕ → TokenFault → TokenFault
+shifted_fault d (BadByte place) = BadByte (d + place)
+shifted_fault d (LongNumber place) = LongNumber (d + place)
+
+-- the same, that many bytes further on
+abbrev pub shifted : ℕ → Stream → Stream
+shifted d (ends place) = ends (d + place)
+shifted d (breaks f) = breaks (shifted_fault d f)
+shifted d (more t s) = more (record { kind = t.kind; text = t.text; start = d + t.start }) (shifted d s)
+
+-- the bytes are those of one token
+abbrev pub IsSpelled : Lexeme → Type 0
+IsSpelled t = front t.text ≡ Whole t.kind (length t.text)
+
+-- a text of the tokens, each with a line feed behind it
+abbrev pub written : List Lexeme → List ℕ
+written [] = []
+written (t ∷ ts) = t.text ++ 10 ∷ written ts
+
+-- the tokens where they stand in that text, from a place on
+abbrev pub placed : ℕ → List Lexeme → Stream
+placed place [] = ends place
+placed place (t ∷ ts) = more (record { kind = t.kind; text = t.text; start = place }) (placed (place + length t.text + 1) ts)

@@ -1,0 +1,93 @@
+-- Loops over lists whose items are counted.
+use Rattle.std.proofs.Common.{◌≡◌, ℕ, ◌≤◌, List, [], ◌∷◌, ◌++◌, length, Option, Some, None, Result, Ok, Err, true, false, refl, sym, ap, ◌∙◌}
+use Rattle.st_tokens.specs.Stream.{Stream, behind}
+use Rattle.st_reading.specs.declared.mark.Mark.{Mark}
+use Rattle.st_reading.specs.declared.mark.Mark.TheVariants as marks
+use Rattle.st_reading.specs.declared.sign.Sign.{Sign}
+use Rattle.st_reading.specs.declared.sign.Sign.TheVariants as signs
+use Rattle.st_reading.specs.Sign.{is}
+use Rattle.st_reading.specs.Faults.{Passed}
+use Rattle.st_reading.specs.Reading.{Stop, Read, Label, ahead, place_of, size, gives, leaves, goes, expected, IsStop}
+use Rattle.st_reading.proofs.Chains.{Running, running_next, running_leaves, running_ends, running_fails}
+use Rattle.spl_parser.specs.ExpressionTree.{Expr}
+use Rattle.spl_parser.specs.ProgramTree.{Statement, Process, Body, body, statements}
+use Rattle.spl_parser.specs.Item.{Item, last, item}
+use Rattle.spl_parser.specs.Reading.{Reader, only}
+use Rattle.spl_parser.specs.Statements.{Counted, Lower, counting, item_of, turned_by, continuing, closed_body}
+use Rattle.spl_parser.specs.Programs.{Summed, process_of, further_process, usual}
+use Rattle.spl_parser.proofs.Levels.{stop_as}
+use Rattle.spl_parser.proofs.Loops.{only_some, only_none, mapped, map_fails}
+
+module _ {O A B : Type 0} (op : Sign → Option O) (r : O → ℕ → Reader (Counted A)) (finish : Counted (List A) → Reader B) (none : None ≡ op signs.Nothing) (xs : List A) (n : ℕ) (s start : Stream) (whole : Read Passed B) where
+  pub counting_next : (o : O) (x : A) (m : ℕ) (next after : Stream) (ys : List A) → Running op (counting r) finish (xs, n) s start whole → Some o ≡ op (ahead s) → next ≡ behind s → r o n next ≡ Ok ((x, m), after) → size after ≤ size next → ys ≡ xs ++ x ∷ []
+      → Running op (counting r) finish (ys, m) after start whole
+  counting_next o x m next after ys g h is_next e le made =
+      running_next op (counting r) finish none (xs, n) s start whole g o (ys, m) next after h is_next
+      (mapped (λ (y : Counted A). goes (xs ++ y.0 ∷ [], y.1)) (r o n) next after (x, m) e ∙ ap (λ z. Ok (goes (z, m), after)) (sym made)) le
+
+  pub counting_ends : Running op (counting r) finish (xs, n) s start whole → None ≡ op (ahead s) → whole ≡ finish (xs, n) s
+  counting_ends g h = running_ends op (counting r) finish none (xs, n) s start whole g h
+
+  pub counting_fails : (o : O) (e : Option (Stop Passed)) (next : Stream) → Running op (counting r) finish (xs, n) s start whole → Some o ≡ op (ahead s) → next ≡ behind s → IsStop e (r o n next) → IsStop e whole
+  counting_fails o e next g h is_next fails =
+      running_fails op (counting r) finish none (xs, n) s start whole g o e next h is_next (map_fails (λ (y : Counted A). goes (xs ++ y.0 ∷ [], y.1)) (r o n) next e fails)
+
+-- behind a mark
+module _ {A B : Type 0} (mark : Mark) (r : ℕ → Reader (Counted A)) (finish : Counted (List A) → Reader B) (xs : List A) (n : ℕ) (s start : Stream) (whole : Read Passed B) where
+  pub linked_next : (x : A) (m : ℕ) (next after : Stream) (ys : List A) → Running (only mark) (counting (λ o. r)) finish (xs, n) s start whole → true ≡ is (ahead s) mark → next ≡ behind s → r n next ≡ Ok ((x, m), after) → size after ≤ size next → ys ≡ xs ++ x ∷ []
+      → Running (only mark) (counting (λ o. r)) finish (ys, m) after start whole
+  linked_next x m next after ys g h is_next e le made =
+      counting_next (only mark) (λ o. r) finish refl xs n s start whole tt x m next after ys g (only_some (ahead s) mark h) is_next e le made
+
+  pub linked_ends : Running (only mark) (counting (λ o. r)) finish (xs, n) s start whole → false ≡ is (ahead s) mark → whole ≡ finish (xs, n) s
+  linked_ends g h = counting_ends (only mark) (λ o. r) finish refl xs n s start whole g (only_none (ahead s) mark h)
+
+  pub linked_fails : (e : Option (Stop Passed)) (next : Stream) → Running (only mark) (counting (λ o. r)) finish (xs, n) s start whole → true ≡ is (ahead s) mark → next ≡ behind s → IsStop e (r n next) → IsStop e whole
+  linked_fails e next g h is_next fails = counting_fails (only mark) (λ o. r) finish refl xs n s start whole tt e next g (only_some (ahead s) mark h) is_next fails
+
+-- the items of a body
+module _ (value : Reader Expr) (lower : Lower) (xs : List Statement) (n : ℕ) (s start : Stream) (whole : Read Passed (Counted Body)) where
+  abbrev pub InBody : List Statement → ℕ → Stream → Type 0
+  InBody ys m after = Running (only marks.Semicolon) (continuing value lower) (closed_body value lower) (ys, m) after start whole
+
+  pub body_next : (x : Statement) (m : ℕ) (next after : Stream) (ys : List Statement) → InBody xs n s → true ≡ is (ahead s) marks.Semicolon → next ≡ behind s → item_of value lower n next ≡ Ok ((item x, m), after) → size after ≤ size next → ys ≡ xs ++ x ∷ [] → InBody ys m after
+  body_next x m next after ys g h is_next e le made =
+      running_next (only marks.Semicolon) (continuing value lower) (closed_body value lower) refl (xs, n) s start whole g tt (ys, m) next after (only_some (ahead s) marks.Semicolon h) is_next
+      (mapped (turned_by value lower xs) (item_of value lower n) next after (item x, m) e ∙ ap (λ z. Ok (goes (z, m), after)) (sym made)) le
+
+  pub body_leaves : (l : Label) (m : ℕ) (next after : Stream) → InBody xs n s → true ≡ is (ahead s) marks.Semicolon → next ≡ behind s → item_of value lower n next ≡ Ok ((last l, m), after) → whole ≡ Ok ((body (statements xs) (Some l), m), after)
+  body_leaves l m next after g h is_next e =
+      running_leaves (only marks.Semicolon) (continuing value lower) (closed_body value lower) refl (xs, n) s start whole g tt (body (statements xs) (Some l), m) next after (only_some (ahead s) marks.Semicolon h) is_next
+      (mapped (turned_by value lower xs) (item_of value lower n) next after (last l, m) e)
+
+  pub body_fails : (e : Option (Stop Passed)) (next : Stream) → InBody xs n s → true ≡ is (ahead s) marks.Semicolon → next ≡ behind s → IsStop e (item_of value lower n next) → IsStop e whole
+  body_fails e next g h is_next fails =
+      running_fails (only marks.Semicolon) (continuing value lower) (closed_body value lower) refl (xs, n) s start whole g tt e next (only_some (ahead s) marks.Semicolon h) is_next (map_fails (turned_by value lower xs) (item_of value lower n) next e fails)
+
+  pub body_closes : (place : ℕ) (after : Stream) → InBody xs n s → false ≡ is (ahead s) marks.Semicolon → expected {X = Passed} marks.CloseBlock s ≡ Ok (place, after) → whole ≡ Ok ((body (statements xs) None, n), after)
+  body_closes place after g h e =
+      running_ends (only marks.Semicolon) (continuing value lower) (closed_body value lower) refl (xs, n) s start whole g (only_none (ahead s) marks.Semicolon h)
+      ∙ mapped (λ (m : ℕ). (body (statements xs) None, n)) (expected marks.CloseBlock) s after place e
+
+  pub body_stays_open : (e : Option (Stop Passed)) → InBody xs n s → false ≡ is (ahead s) marks.Semicolon → IsStop e (expected {X = Passed} marks.CloseBlock s) → IsStop e whole
+  body_stays_open e g h fails =
+      let is = running_ends (only marks.Semicolon) (continuing value lower) (closed_body value lower) refl (xs, n) s start whole g (only_none (ahead s) marks.Semicolon h) in
+      stop_as e (closed_body value lower (xs, n) s) whole (λ f c. is ∙ c) (map_fails (λ (m : ℕ). (body (statements xs) None, n)) (expected marks.CloseBlock) s e fails)
+
+-- further processes
+module _ (xs : List Process) (v n : ℕ) (s start : Stream) (whole : Read Passed (Summed (List Process))) where
+  abbrev pub InProgram : List Process → ℕ → ℕ → Stream → Type 0
+  InProgram ys w m after = Running (only marks.Bars) (further_process usual) gives (ys, w, m) after start whole
+
+  pub process_next : (number : ℕ) (x : Process) (w m : ℕ) (next after : Stream) (ys : List Process) → InProgram xs v n s → true ≡ is (ahead s) marks.Bars → next ≡ behind s → number ≡ length xs → process_of usual number v n next ≡ Ok ((x, w, m), after) → size after ≤ size next → ys ≡ xs ++ x ∷ [] → InProgram ys w m after
+  process_next number x w m next after ys g h is_next number_is e le made =
+      running_next (only marks.Bars) (further_process usual) gives refl (xs, v, n) s start whole g tt (ys, w, m) next after (only_some (ahead s) marks.Bars h) is_next
+      (mapped (λ (y : Summed Process). goes (xs ++ y.0 ∷ [], y.1, y.2)) (process_of usual (length xs) v n) next after (x, w, m) (ap (λ k. process_of usual k v n next) (sym number_is) ∙ e) ∙ ap (λ z. Ok (goes (z, w, m), after)) (sym made)) le
+
+  pub process_ends : InProgram xs v n s → false ≡ is (ahead s) marks.Bars → whole ≡ Ok ((xs, v, n), s)
+  process_ends g h = running_ends (only marks.Bars) (further_process usual) gives refl (xs, v, n) s start whole g (only_none (ahead s) marks.Bars h)
+
+  pub process_fails : (number : ℕ) (e : Option (Stop Passed)) (next : Stream) → InProgram xs v n s → true ≡ is (ahead s) marks.Bars → next ≡ behind s → number ≡ length xs → IsStop e (process_of usual number v n next) → IsStop e whole
+  process_fails number e next g h is_next number_is fails =
+      running_fails (only marks.Bars) (further_process usual) gives refl (xs, v, n) s start whole g tt e next (only_some (ahead s) marks.Bars h) is_next
+      (map_fails (λ (y : Summed Process). goes (xs ++ y.0 ∷ [], y.1, y.2)) (process_of usual (length xs) v n) next e (stop_as e (process_of usual number v n next) (process_of usual (length xs) v n next) (λ f c. ap (λ k. process_of usual k v n next) (sym number_is) ∙ c) fails))

@@ -1,0 +1,21 @@
+use Rattle.std.proofs.Common.{◌∙◌, ap, map}
+use Rattle.std.proofs.lemmas.Result.{err_from_is_err_and}
+use Rattle.std.proofs.lemmas.List.{map_push}
+use Rattle.st_reading.specs.declared.mark.Mark.TheVariants as marks
+use Rattle.st_reading.specs.Sign.{is}
+use Rattle.st_reading.specs.Faults.{name_view}
+use Rattle.spl_parser.proofs.CountedLoops.{linked_next, linked_ends, linked_fails}
+use Rattle.spl_parser.proofs.declaration.further_variables.Goals as goal
+
+pub returns-in_err-next-clause-reads : goal.returns-in_err-next-clause-reads
+returns-in_err-next-clause-reads c =
+    let p = err_from_is_err_and c.from_residual.result c.from_residual.ensures.1 in
+    rw (p.1, p.2) (linked_fails marks.Comma _ _ _ _ _ _ _ _ _ c.chain.invariant (c.chain-test.ensures ∙ ap (λ g. is g marks.Comma) c.ahead.ensures) c.advance.ensures c.in_err-next.ensures.reads)
+
+pub chain-preserved : goal.chain-preserved
+chain-preserved c =
+    linked_next marks.Comma _ _ _ _ _ _ _ _ _ _ _ _ c.chain.invariant (c.chain-test.ensures ∙ ap (λ g. is g marks.Comma) c.ahead.ensures) c.advance.ensures c.in_ok-next.ensures.reads c.in_ok-next.ensures.shrinks
+    (ap (map name_view) c.in_ok-push.ensures.items ∙ map_push name_view c.chain.names.items c.in_ok-next.next)
+
+pub returns-clause-reads : goal.returns-clause-reads
+returns-clause-reads c = linked_ends marks.Comma _ _ _ _ _ _ _ c.chain.invariant (c.chain-test.ensures ∙ ap (λ g. is g marks.Comma) c.ahead.ensures)

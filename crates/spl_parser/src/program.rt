@@ -1,0 +1,127 @@
+//! Processes and whole programs.
+
+ghost use Rattle.std.specs.Prelude.{◌≡◌, ◌≤◌, length};
+ghost use Rattle.st_tokens.specs.Stream.{stream, text_stream};
+ghost use Rattle.st_reading.specs.Reading.{Reads, size};
+ghost use Rattle.st_reading.specs.Faults.{see, name_view};
+ghost use Rattle.spl_parser.specs.ProgramTree.{process_view, process_views, program_view};
+ghost use Rattle.spl_parser.specs.Programs.{process_name, process_of, further_processes, processes_of, at_end, program_of, usual};
+ghost use Rattle.spl_parser.specs.Parsing.{Parses, parsed};
+
+use crate::declaration::declarations;
+use crate::limits::{PROCESSES, ROUND};
+use crate::raw::{RawProcess, RawProgram};
+use crate::statement::body;
+use st_reading::{
+    Mark, ParseFault, RawName, advance, ahead, expect, is, is_name, name_ahead, place_of, refusal,
+};
+use st_tokens::{LimitKind, Tokens};
+use std::alloc::Global;
+
+/// The name of a process, where that many processes were read before.
+#[tactic(auto, unfolding(crate::specs::Programs::process_name))]
+fn process_name<'a>(number: usize, tokens: &mut Tokens<'a>) -> Result<RawName<'a>, ParseFault>
+    ensures reads { Reads see name_view result (stream tokens.new) (process_name usual number (stream tokens.old)) }
+    ensures shrinks { size (stream tokens.new) ≤ size (stream tokens.old) }
+{
+    if !is_name(ahead(tokens)) {
+        return Err(refusal(tokens));
+    }
+    if number >= PROCESSES {
+        return Err(ParseFault::Limit(LimitKind::Processes, place_of(tokens)));
+    }
+    let name = name_ahead(tokens);
+    advance(tokens);
+    Ok(name)
+}
+
+/// A process, where that many processes were read before.
+#[tactic(auto, unfolding(crate::specs::Programs::process_of))]
+fn process<'a>(
+    alloc: Global,
+    number: usize,
+    variables: &mut u32,
+    statements: &mut u32,
+    tokens: &mut Tokens<'a>,
+) -> Result<RawProcess<'a>, ParseFault>
+    ensures reads { Reads see (λ p. (process_view p, variables.new, statements.new)) result (stream tokens.new) (process_of usual number variables.old statements.old (stream tokens.old)) }
+    ensures shrinks { size (stream tokens.new) ≤ size (stream tokens.old) }
+{
+    let name = process_name(number, tokens)?;
+    expect(tokens, Mark::Colons)?;
+    expect(tokens, Mark::OpenBlock)?;
+    let declarations = declarations(alloc, variables, tokens)?;
+    let body = body(alloc, ROUND + 1, statements, tokens)?;
+    Ok(RawProcess {
+        name,
+        declarations,
+        body,
+    })
+}
+
+/// Further processes behind `||`.
+fn further_processes<'a>(
+    alloc: Global,
+    mut processes: Vec<RawProcess<'a>>,
+    variables: &mut u32,
+    statements: &mut u32,
+    tokens: &mut Tokens<'a>,
+) -> Result<Vec<RawProcess<'a>>, ParseFault>
+    ensures reads { Reads see (λ v. (process_views v.items, variables.new, statements.new)) result (stream tokens.new) (further_processes usual (process_views processes.entry.items, variables.old, statements.old) (stream tokens.old)) }
+    ensures shrinks { size (stream tokens.new) ≤ size (stream tokens.old) }
+{
+    'chain: while is(ahead(tokens), Mark::Bars) {
+        advance(tokens);
+        let next = process(alloc, processes.len(), variables, statements, tokens)?;
+        processes.push(next)?;
+    }
+    Ok(processes)
+}
+
+/// Processes with `||` between them.
+#[tactic(auto, unfolding(crate::specs::Programs::processes_of))]
+fn processes<'a>(
+    alloc: Global,
+    variables: &mut u32,
+    statements: &mut u32,
+    tokens: &mut Tokens<'a>,
+) -> Result<Vec<RawProcess<'a>>, ParseFault>
+    requires { statements.old ≡ 0 }
+    ensures reads { Reads see (λ v. (process_views v.items, variables.new, statements.new)) result (stream tokens.new) (processes_of usual variables.old (stream tokens.old)) }
+    ensures shrinks { size (stream tokens.new) ≤ size (stream tokens.old) }
+{
+    let first = process(alloc, 0, variables, statements, tokens)?;
+    let mut processes = Vec::new(alloc);
+    processes.push(first)?;
+    further_processes(alloc, processes, variables, statements, tokens)
+}
+
+/// The end of the text.
+#[tactic(auto, unfolding(crate::specs::Programs::at_end))]
+fn at_end(tokens: &mut Tokens) -> Result<(), ParseFault>
+    ensures reads { Reads see (λ x. x) result (stream tokens.new) (at_end usual (stream tokens.old)) }
+    ensures shrinks { size (stream tokens.new) ≤ size (stream tokens.old) }
+{
+    match tokens.peek() {
+        Ok(None) => Ok(()),
+        _ => Err(refusal(tokens)),
+    }
+}
+
+/// Reads a program. The first fault in the order of the text is answered; at one place a token fault comes before
+/// `Syntax`, and that before `Limit`.
+#[tactic(auto, unfolding(crate::specs::Programs::program_of))]
+pub fn parse_program<'a>(alloc: Global, text: &'a [u8]) -> Result<RawProgram<'a>, ParseFault>
+    ensures reads { Parses program_view result (parsed text.now) }
+{
+    let mut tokens = Tokens::new(text);
+    let mut variables = 0;
+    let mut statements = 0;
+    let declarations = declarations(alloc, &mut variables, &mut tokens)?;
+    let processes = processes(alloc, &mut variables, &mut statements, &mut tokens)?;
+    at_end(&mut tokens)?;
+    Ok(RawProgram {
+        declarations,
+        processes,
+    })
+}

@@ -1,0 +1,457 @@
+//! Statements and bodies. `count` is the number of statements so far, `room` how many more may stand round the statement
+//! that is read: the recursion ends since it falls. The statements of a list are read by a loop.
+
+ghost use Rattle.std.specs.Prelude.{◌≡◌, ℕ, ◌≤◌};
+ghost use Rattle.st_tokens.specs.Stream.{stream};
+ghost use Rattle.st_reading.specs.declared.mark.Mark.TheVariants as marks;
+ghost use Rattle.st_reading.specs.Reading.{Reads, size};
+ghost use Rattle.st_reading.specs.Faults.{see, name_view};
+ghost use Rattle.spl_parser.specs.Begun.{begun_view, fresh};
+ghost use Rattle.spl_parser.specs.Item.{item_view};
+ghost use Rattle.spl_parser.specs.ProgramTree.{statement_view, statement_views, action_view, label_view, body_view, body_views, option_branch};
+ghost use Rattle.spl_parser.specs.Statements.{linked, sequence_of, selection_of, item_of, rest_of_body, body_of, child_of, children_of, branch_of, conditional_of, action_of, bare_of, named_of, assigned_of, statement_of};
+ghost use Rattle.spl_parser.specs.Programs.{value_of, lower_of, usual};
+
+use crate::begun::{Begun, front_place, goes_on};
+use crate::item::Item;
+use crate::limits::STATEMENTS;
+use crate::lists::{all_assigned, right_side, value};
+use crate::raw::{RawBody, RawKind, RawStatement};
+use crate::sign::{Start, start_of};
+use st_reading::{
+    Mark, ParseFault, RawName, advance, ahead, expect, is, is_name, name_ahead, place_of, refusal,
+};
+use st_tokens::{LimitKind, Tokens};
+use std::alloc::Global;
+
+/// An assignment that has no label, behind the name on its left.
+#[tactic(auto, unfolding(crate::specs::Statements::assigned_of))]
+fn assigned<'a>(
+    alloc: Global,
+    name: RawName<'a>,
+    tokens: &mut Tokens<'a>,
+) -> Result<RawStatement<'a>, ParseFault>
+    ensures reads { (n : ℕ) → Reads see (λ x. (statement_view x, n)) result (stream tokens.new) (assigned_of (value_of usual) (name_view name.entry) n (stream tokens.old)) }
+    ensures shrinks { size (stream tokens.new) ≤ size (stream tokens.old) }
+{
+    let value = right_side(alloc, tokens)?;
+    Ok(RawStatement {
+        label: None,
+        place: name.place,
+        kind: RawKind::Assign(name, value),
+    })
+}
+
+/// A statement inside others, if the limits let it begin.
+#[cycle(statement)]
+#[tactic(auto, unfolding(crate::specs::Statements::inside))]
+pub fn inside<'a>(
+    alloc: Global,
+    room: u32,
+    begun: Begun<'a>,
+    count: &mut u32,
+    tokens: &mut Tokens<'a>,
+) -> Result<RawStatement<'a>, ParseFault>
+    ensures reads { Reads see (λ x. (statement_view x, count.new)) result (stream tokens.new) (lower_of usual room (begun_view begun.entry) count.old (stream tokens.old)) }
+    ensures shrinks { size (stream tokens.new) ≤ size (stream tokens.old) }
+{
+    if !goes_on(begun, tokens) {
+        return Err(refusal(tokens));
+    }
+    let place = front_place(begun, tokens);
+    if *count >= STATEMENTS {
+        return Err(ParseFault::Limit(LimitKind::Statements, place));
+    }
+    if room == 0 {
+        return Err(ParseFault::Limit(LimitKind::Nesting, place));
+    }
+    *count += 1;
+    statement(alloc, room - 1, begun, count, tokens)
+}
+
+/// A statement, of which something may have been read before.
+#[cycle(statement)]
+#[tactic(auto, unfolding(crate::specs::Statements::statement_of))]
+fn statement<'a>(
+    alloc: Global,
+    room: u32,
+    begun: Begun<'a>,
+    count: &mut u32,
+    tokens: &mut Tokens<'a>,
+) -> Result<RawStatement<'a>, ParseFault>
+    ensures reads { Reads see (λ x. (statement_view x, count.new)) result (stream tokens.new) (statement_of (value_of usual) (lower_of usual room) (begun_view begun.entry) count.old (stream tokens.old)) }
+    ensures shrinks { size (stream tokens.new) ≤ size (stream tokens.old) }
+{
+    match begun {
+        Begun::Fresh(grouped) => {
+            if grouped {
+                bare(alloc, room, true, None, count, tokens)
+            } else if is_name(ahead(tokens)) {
+                let name = name_ahead(tokens);
+                advance(tokens);
+                named(alloc, room, name, count, tokens)
+            } else {
+                bare(alloc, room, false, None, count, tokens)
+            }
+        }
+        Begun::AfterName(name) => assigned(alloc, name, tokens),
+        Begun::AfterLabel(label) => bare(alloc, room, false, Some(label), count, tokens),
+    }
+}
+
+/// A statement behind a name: its label, or the left side of an assignment.
+#[cycle(statement)]
+#[tactic(auto, unfolding(crate::specs::Statements::named_of))]
+fn named<'a>(
+    alloc: Global,
+    room: u32,
+    name: RawName<'a>,
+    count: &mut u32,
+    tokens: &mut Tokens<'a>,
+) -> Result<RawStatement<'a>, ParseFault>
+    ensures reads { Reads see (λ x. (statement_view x, count.new)) result (stream tokens.new) (named_of (value_of usual) (lower_of usual room) (name_view name.entry) count.old (stream tokens.old)) }
+    ensures shrinks { size (stream tokens.new) ≤ size (stream tokens.old) }
+{
+    if is(ahead(tokens), Mark::Colon) {
+        advance(tokens);
+        bare(alloc, room, false, Some(name), count, tokens)
+    } else {
+        assigned(alloc, name, tokens)
+    }
+}
+
+/// A statement behind its label.
+#[cycle(statement)]
+#[tactic(auto, unfolding(crate::specs::Statements::bare_of))]
+fn bare<'a>(
+    alloc: Global,
+    room: u32,
+    grouped: bool,
+    label: Option<RawName<'a>>,
+    count: &mut u32,
+    tokens: &mut Tokens<'a>,
+) -> Result<RawStatement<'a>, ParseFault>
+    ensures reads { Reads see (λ x. (statement_view x, count.new)) result (stream tokens.new) (bare_of (value_of usual) (lower_of usual room) grouped (label_view label.entry) count.old (stream tokens.old)) }
+    ensures shrinks { size (stream tokens.new) ≤ size (stream tokens.old) }
+{
+    let Some(start) = start_of(ahead(tokens)) else {
+        return Err(refusal(tokens));
+    };
+    let place = place_of(tokens);
+    let name = name_ahead(tokens);
+    advance(tokens);
+    let kind = action(alloc, room, grouped, name, start, count, tokens)?;
+    Ok(RawStatement { label, place, kind })
+}
+
+/// What a statement is, behind its first token; where that is a name, it is `name`.
+#[cycle(statement)]
+#[tactic(auto, unfolding(crate::specs::Statements::action_of), using(crate::proofs::StatementRows::actions))]
+fn action<'a>(
+    alloc: Global,
+    room: u32,
+    grouped: bool,
+    name: RawName<'a>,
+    start: Start,
+    count: &mut u32,
+    tokens: &mut Tokens<'a>,
+) -> Result<RawKind<'a>, ParseFault>
+    ensures reads { Reads see (λ x. (action_view x, count.new)) result (stream tokens.new) (action_of (value_of usual) (lower_of usual room) grouped count.old (name_view name.entry) start (stream tokens.old)) }
+    ensures shrinks { size (stream tokens.new) ≤ size (stream tokens.old) }
+{
+    match start {
+        Start::Named => Ok(RawKind::Assign(name, right_side(alloc, tokens)?)),
+        Start::Listed => Ok(all_assigned(alloc, tokens)?),
+        Start::Skip => Ok(RawKind::Skip),
+        Start::Critical => Ok(RawKind::Critical),
+        Start::Noncritical => Ok(RawKind::Noncritical),
+        Start::Await => Ok(RawKind::Await(value(alloc, tokens)?)),
+        Start::Request => Ok(RawKind::Request(st_reading::name(tokens)?)),
+        Start::Release => Ok(RawKind::Release(st_reading::name(tokens)?)),
+        Start::If => conditional(alloc, room, grouped, count, tokens),
+        Start::While => {
+            let test = value(alloc, tokens)?;
+            expect(tokens, Mark::Do)?;
+            let body = inside(alloc, room, Begun::Fresh(false), count, tokens)?;
+            let body = Box::new(alloc, body)?;
+            Ok(RawKind::While { test, body })
+        }
+        Start::Loop => {
+            expect(tokens, Mark::Forever)?;
+            expect(tokens, Mark::Do)?;
+            let body = inside(alloc, room, Begun::Fresh(false), count, tokens)?;
+            Ok(RawKind::Loop(Box::new(alloc, body)?))
+        }
+        Start::Block => {
+            let statements = sequence(alloc, room, grouped, count, tokens)?;
+            expect(tokens, Mark::CloseBlock)?;
+            Ok(RawKind::Block(statements))
+        }
+        Start::Select => {
+            expect(tokens, Mark::OpenBlock)?;
+            let branches = selection(alloc, room, count, tokens)?;
+            expect(tokens, Mark::CloseBlock)?;
+            Ok(RawKind::Select(branches))
+        }
+        Start::Cooperate => {
+            let bodies = children(alloc, room, count, tokens)?;
+            expect(tokens, Mark::Coend)?;
+            Ok(RawKind::Cooperate(bodies))
+        }
+        Start::Group => {
+            let statements = sequence(alloc, room, true, count, tokens)?;
+            expect(tokens, Mark::CloseGroup)?;
+            Ok(RawKind::Group(statements))
+        }
+    }
+}
+
+/// A conditional, behind `if`.
+#[cycle(statement)]
+#[tactic(auto, unfolding(crate::specs::Statements::conditional_of))]
+fn conditional<'a>(
+    alloc: Global,
+    room: u32,
+    grouped: bool,
+    count: &mut u32,
+    tokens: &mut Tokens<'a>,
+) -> Result<RawKind<'a>, ParseFault>
+    ensures reads { Reads see (λ x. (action_view x, count.new)) result (stream tokens.new) (conditional_of (value_of usual) (lower_of usual room) grouped count.old (stream tokens.old)) }
+    ensures shrinks { size (stream tokens.new) ≤ size (stream tokens.old) }
+{
+    let test = value(alloc, tokens)?;
+    expect(tokens, Mark::Then)?;
+    let yes = inside(alloc, room, Begun::Fresh(grouped), count, tokens)?;
+    let no = branch(alloc, room, grouped, count, tokens)?;
+    expect(tokens, Mark::Fi)?;
+    let yes = Box::new(alloc, yes)?;
+    Ok(RawKind::If { test, yes, no })
+}
+
+/// The branch behind `else`, if there is one.
+#[cycle(statement)]
+#[tactic(auto, unfolding(crate::specs::Statements::branch_of))]
+fn branch<'a>(
+    alloc: Global,
+    room: u32,
+    grouped: bool,
+    count: &mut u32,
+    tokens: &mut Tokens<'a>,
+) -> Result<Option<Box<RawStatement<'a>>>, ParseFault>
+    ensures reads { Reads see (λ x. (option_branch x, count.new)) result (stream tokens.new) (branch_of (value_of usual) (lower_of usual room) grouped count.old (stream tokens.old)) }
+    ensures shrinks { size (stream tokens.new) ≤ size (stream tokens.old) }
+{
+    if !is(ahead(tokens), Mark::Else) {
+        return Ok(None);
+    }
+    advance(tokens);
+    let no = inside(alloc, room, Begun::Fresh(grouped), count, tokens)?;
+    Ok(Some(Box::new(alloc, no)?))
+}
+
+/// Further statements behind a mark.
+#[cycle(statement)]
+fn further<'a>(
+    alloc: Global,
+    room: u32,
+    grouped: bool,
+    mark: Mark,
+    mut statements: Vec<RawStatement<'a>>,
+    count: &mut u32,
+    tokens: &mut Tokens<'a>,
+) -> Result<Vec<RawStatement<'a>>, ParseFault>
+    ensures reads { Reads see (λ v. (statement_views v.items, count.new)) result (stream tokens.new) (linked mark (lower_of usual room (fresh grouped)) (statement_views statements.entry.items, count.old) (stream tokens.old)) }
+    ensures shrinks { size (stream tokens.new) ≤ size (stream tokens.old) }
+{
+    'chain: while is(ahead(tokens), mark) {
+        advance(tokens);
+        let next = inside(alloc, room, Begun::Fresh(grouped), count, tokens)?;
+        statements.push(next)?;
+    }
+    Ok(statements)
+}
+
+/// Statements with `;` between them.
+#[cycle(statement)]
+#[tactic(auto, unfolding(crate::specs::Statements::sequence_of))]
+fn sequence<'a>(
+    alloc: Global,
+    room: u32,
+    grouped: bool,
+    count: &mut u32,
+    tokens: &mut Tokens<'a>,
+) -> Result<Vec<RawStatement<'a>>, ParseFault>
+    ensures reads { Reads see (λ v. (statement_views v.items, count.new)) result (stream tokens.new) (sequence_of (value_of usual) (lower_of usual room) grouped count.old (stream tokens.old)) }
+    ensures shrinks { size (stream tokens.new) ≤ size (stream tokens.old) }
+{
+    let first = inside(alloc, room, Begun::Fresh(grouped), count, tokens)?;
+    let mut statements = Vec::new(alloc);
+    statements.push(first)?;
+    further(
+        alloc,
+        room,
+        grouped,
+        Mark::Semicolon,
+        statements,
+        count,
+        tokens,
+    )
+}
+
+/// At least two statements with `or` between them.
+#[cycle(statement)]
+#[tactic(auto, unfolding(crate::specs::Statements::selection_of))]
+fn selection<'a>(
+    alloc: Global,
+    room: u32,
+    count: &mut u32,
+    tokens: &mut Tokens<'a>,
+) -> Result<Vec<RawStatement<'a>>, ParseFault>
+    ensures reads { Reads see (λ v. (statement_views v.items, count.new)) result (stream tokens.new) (selection_of (value_of usual) (lower_of usual room) count.old (stream tokens.old)) }
+    ensures shrinks { size (stream tokens.new) ≤ size (stream tokens.old) }
+{
+    let first = inside(alloc, room, Begun::Fresh(false), count, tokens)?;
+    expect(tokens, Mark::Either)?;
+    let second = inside(alloc, room, Begun::Fresh(false), count, tokens)?;
+    let mut branches = Vec::new(alloc);
+    branches.push(first)?;
+    branches.push(second)?;
+    further(alloc, room, false, Mark::Either, branches, count, tokens)
+}
+
+/// What stands behind a `;` in a body. A name may be a label, the label of the end, or the left side of an assignment.
+#[cycle(statement)]
+#[tactic(auto, unfolding(crate::specs::Statements::item_of))]
+fn item<'a>(
+    alloc: Global,
+    room: u32,
+    count: &mut u32,
+    tokens: &mut Tokens<'a>,
+) -> Result<Item<'a>, ParseFault>
+    ensures reads { Reads see (λ x. (item_view x, count.new)) result (stream tokens.new) (item_of (value_of usual) (lower_of usual room) count.old (stream tokens.old)) }
+    ensures shrinks { size (stream tokens.new) ≤ size (stream tokens.old) }
+{
+    if !is_name(ahead(tokens)) {
+        let statement = inside(alloc, room, Begun::Fresh(false), count, tokens)?;
+        return Ok(Item::Statement(statement));
+    }
+    let name = name_ahead(tokens);
+    advance(tokens);
+    if !is(ahead(tokens), Mark::Colon) {
+        let statement = inside(alloc, room, Begun::AfterName(name), count, tokens)?;
+        return Ok(Item::Statement(statement));
+    }
+    advance(tokens);
+    if is(ahead(tokens), Mark::CloseBlock) {
+        advance(tokens);
+        return Ok(Item::Last(name));
+    }
+    let statement = inside(alloc, room, Begun::AfterLabel(name), count, tokens)?;
+    Ok(Item::Statement(statement))
+}
+
+/// The rest of a body, behind some of its statements.
+#[cycle(statement)]
+fn rest_of_body<'a>(
+    alloc: Global,
+    room: u32,
+    mut statements: Vec<RawStatement<'a>>,
+    count: &mut u32,
+    tokens: &mut Tokens<'a>,
+) -> Result<RawBody<'a>, ParseFault>
+    ensures reads { Reads see (λ x. (body_view x, count.new)) result (stream tokens.new) (rest_of_body (value_of usual) (lower_of usual room) (statement_views statements.entry.items, count.old) (stream tokens.old)) }
+    ensures shrinks { size (stream tokens.new) ≤ size (stream tokens.old) }
+{
+    'chain: while is(ahead(tokens), Mark::Semicolon) {
+        advance(tokens);
+        match item(alloc, room, count, tokens)? {
+            Item::Last(name) => {
+                return Ok(RawBody {
+                    statements,
+                    end: Some(name),
+                });
+            }
+            Item::Statement(statement) => statements.push(statement)?,
+        }
+    }
+    expect(tokens, Mark::CloseBlock)?;
+    Ok(RawBody {
+        statements,
+        end: None,
+    })
+}
+
+/// Statements up to a `]`, with the label of their end.
+#[cycle(statement)]
+#[tactic(auto, unfolding(crate::specs::Statements::body_of))]
+pub fn body<'a>(
+    alloc: Global,
+    room: u32,
+    count: &mut u32,
+    tokens: &mut Tokens<'a>,
+) -> Result<RawBody<'a>, ParseFault>
+    ensures reads { Reads see (λ x. (body_view x, count.new)) result (stream tokens.new) (body_of (value_of usual) (lower_of usual room) count.old (stream tokens.old)) }
+    ensures shrinks { size (stream tokens.new) ≤ size (stream tokens.old) }
+{
+    let first = inside(alloc, room, Begun::Fresh(false), count, tokens)?;
+    let mut statements = Vec::new(alloc);
+    statements.push(first)?;
+    rest_of_body(alloc, room, statements, count, tokens)
+}
+
+/// A child of a cooperation.
+#[cycle(statement)]
+#[tactic(auto, unfolding(crate::specs::Statements::child_of))]
+fn child<'a>(
+    alloc: Global,
+    room: u32,
+    count: &mut u32,
+    tokens: &mut Tokens<'a>,
+) -> Result<RawBody<'a>, ParseFault>
+    ensures reads { Reads see (λ x. (body_view x, count.new)) result (stream tokens.new) (child_of (value_of usual) (lower_of usual room) count.old (stream tokens.old)) }
+    ensures shrinks { size (stream tokens.new) ≤ size (stream tokens.old) }
+{
+    expect(tokens, Mark::OpenBlock)?;
+    body(alloc, room, count, tokens)
+}
+
+/// Further children behind `||`.
+#[cycle(statement)]
+fn further_children<'a>(
+    alloc: Global,
+    room: u32,
+    mut bodies: Vec<RawBody<'a>>,
+    count: &mut u32,
+    tokens: &mut Tokens<'a>,
+) -> Result<Vec<RawBody<'a>>, ParseFault>
+    ensures reads { Reads see (λ v. (body_views v.items, count.new)) result (stream tokens.new) (linked marks.Bars (child_of (value_of usual) (lower_of usual room)) (body_views bodies.entry.items, count.old) (stream tokens.old)) }
+    ensures shrinks { size (stream tokens.new) ≤ size (stream tokens.old) }
+{
+    'chain: while is(ahead(tokens), Mark::Bars) {
+        advance(tokens);
+        let next = child(alloc, room, count, tokens)?;
+        bodies.push(next)?;
+    }
+    Ok(bodies)
+}
+
+/// At least two children with `||` between them.
+#[cycle(statement)]
+#[tactic(auto, unfolding(crate::specs::Statements::children_of))]
+fn children<'a>(
+    alloc: Global,
+    room: u32,
+    count: &mut u32,
+    tokens: &mut Tokens<'a>,
+) -> Result<Vec<RawBody<'a>>, ParseFault>
+    ensures reads { Reads see (λ v. (body_views v.items, count.new)) result (stream tokens.new) (children_of (value_of usual) (lower_of usual room) count.old (stream tokens.old)) }
+    ensures shrinks { size (stream tokens.new) ≤ size (stream tokens.old) }
+{
+    let first = child(alloc, room, count, tokens)?;
+    expect(tokens, Mark::Bars)?;
+    let second = child(alloc, room, count, tokens)?;
+    let mut bodies = Vec::new(alloc);
+    bodies.push(first)?;
+    bodies.push(second)?;
+    further_children(alloc, room, bodies, count, tokens)
+}

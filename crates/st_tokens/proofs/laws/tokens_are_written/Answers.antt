@@ -1,0 +1,5 @@
+use Rattle.st_tokens.proofs.Shifting as proved
+use Rattle.st_tokens.proofs.laws.tokens_are_written.Goals as goal
+
+pub returns : goal.returns
+returns c = proved.tokens_are_written

@@ -4,7 +4,7 @@ use Rattle.farkas_leaf.specs.Lines.{total, coefficient, signed_picks}
 use Rattle.farkas_leaf.specs.Windows.{IsClear}
 use Rattle.farkas_leaf.proofs.Coefficients.{no_entries}
 use Rattle.farkas_leaf.proofs.PickSums.{clear-on}
-use Rattle.farkas_leaf.proofs.sums.has_no_variable.Goals as goal
+use Rattle.farkas_leaf.proofs.balance.has_no_variable.Goals as goal
 
 pub loop-window-preserved : goal.loop-window-preserved
 loop-window-preserved g c =

@@ -1,7 +1,7 @@
 use Rattle.std.proofs.Common.{rules}
 use Rattle.farkas_leaf.proofs.Products.{product-size}
 use Rattle.farkas_leaf.proofs.Coefficients.{coefficient-slim}
-use Rattle.farkas_leaf.proofs.sums.scaled_entries.Goals as goal
+use Rattle.farkas_leaf.proofs.sums.add_line.Goals as goal
 
 pub returns-clause-kept : goal.returns-clause-kept
 returns-clause-kept g c = search rules

@@ -3,7 +3,7 @@ use Rattle.std.specs.Prelude.{IfSome}
 use Rattle.st_linear.specs.Linear.{AreEntries}
 use Rattle.farkas_leaf.specs.Lines.{total, coefficient, signed_picks}
 use Rattle.farkas_leaf.specs.Windows.{IsClear}
-use Rattle.farkas_leaf.proofs.sums.has_no_variable.Given as goal
+use Rattle.farkas_leaf.proofs.balance.has_no_variable.Given as goal
 
 abbrev pub left_of : Option ℕ → ℕ
 left_of None = 0

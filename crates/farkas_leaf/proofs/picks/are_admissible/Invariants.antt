@@ -1,6 +1,6 @@
 use Rattle.std.proofs.Common.{◌↔◌, drop, length, map}
 use Rattle.farkas_leaf.specs.Lines.{RiseWithin, IsSigned, signed_picks}
-use Rattle.farkas_leaf.proofs.sums.are_admissible.Given as goal
+use Rattle.farkas_leaf.proofs.picks.are_admissible.Given as goal
 
 abbrev pub invariant-loop-p : goal.invariant-loop-p
 invariant-loop-p g l = record {

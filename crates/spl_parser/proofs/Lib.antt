@@ -6,3 +6,5 @@ pub mod Loops
 pub mod CountedLoops
 pub mod Quiet
 pub mod ExpressionLaw
+pub mod Witnesses
+pub mod ListLaw

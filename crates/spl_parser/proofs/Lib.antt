@@ -8,3 +8,5 @@ pub mod Quiet
 pub mod ExpressionLaw
 pub mod Witnesses
 pub mod ListLaw
+pub mod StatementLaw
+pub mod BodyLaw

@@ -23,15 +23,15 @@ use Rattle.spl_parser.proofs.Quiet.{but_calm, but_none, but2_but, but2_other, bu
 use Rattle.spl_parser.proofs.Witnesses.{witness_is, witness_in, lawful_mark, close_block_mark, open_block_mark, colon_mark, bars_mark}
 use Rattle.spl_parser.proofs.ListLaw.{any_of, same}
 
-name_is : is_name (sign_of name_token) ≡ true
+pub name_is : is_name (sign_of name_token) ≡ true
 unfolding name_token
 name_is = refl
 
-name_calm : calm (sign_of name_token) ≡ true
+pub name_calm : calm (sign_of name_token) ≡ true
 unfolding name_token calm
 name_calm = refl
 
-quiet : calm signs.Nothing ≡ true
+pub quiet : calm signs.Nothing ≡ true
 unfolding calm
 quiet = refl
 
@@ -39,7 +39,7 @@ close_calm : calm (sign_of close_block_mark.token) ≡ true
 unfolding number calm
 close_calm = witness_in marks.CloseBlock close_block_mark calm refl
 
-colon_calm : calm (sign_of colon_mark.token) ≡ true
+pub colon_calm : calm (sign_of colon_mark.token) ≡ true
 unfolding number calm
 colon_calm = witness_in marks.Colon colon_mark calm refl
 
@@ -47,14 +47,21 @@ colon_calm = witness_in marks.Colon colon_mark calm refl
 abbrev pub in_body : Sign → Bool
 in_body = calm_but marks.Semicolon
 
+-- neither a further child nor a further statement
+abbrev pub apart : Sign → Bool
+apart = calm_but2 marks.Bars marks.Semicolon
+
+pub apart_calm : Within apart calm
+apart_calm g h = but_calm marks.Bars g (but2_but marks.Bars marks.Semicolon g h)
+
 module _ {I : Type 0} (value : Reader Expr) (values : I → Reader Expr)
     (lower : Lower) (lowers : I → Lower) (ll : (b : Begun) (n : ℕ) → Lawful calm calm (lower b n) (λ i. lowers i b n)) (refuses : (b : Begun) (n : ℕ) → lower b n (ends 0) ≡ Err (syntax 0)) where
   -- ITEMS
   abbrev plain : Begun → ℕ → Reader (Counted Item)
-  plain b n = then_reads (lower b n) (λ x. gives (an_item value lower x))
+  plain b n = then_reads (lower b n) (λ x. gives (an_item x))
 
   abbrev plains : I → Begun → ℕ → Reader (Counted Item)
-  plains i b n = then_reads (lowers i b n) (λ x. gives (an_item (values i) (lowers i) x))
+  plains i b n = then_reads (lowers i b n) (λ x. gives (an_item x))
 
   lawful_plain : (b : Begun) (n : ℕ) → Lawful calm calm (plain b n) (λ i. plains i b n)
   lawful_plain b n = lawful_map calm calm (same calm) (λ (x : Counted Statement). (item x.0, x.1)) (lower b n) (λ i. lowers i b n) (ll b n)
@@ -98,13 +105,13 @@ module _ {I : Type 0} (value : Reader Expr) (values : I → Reader Expr)
   lawful_continuing : (o : Unit {0}) (place : ℕ) (xs : Counted (List Statement)) → Lawful anything calm (continuing value lower o place xs) (λ i. continuing (values i) (lowers i) o place xs)
   lawful_continuing o place xs =
       lawful_weak calm anything calm (any_of calm) (continuing value lower o place xs) (λ i. continuing (values i) (lowers i) o place xs)
-      (lawful_bind calm calm calm calm (same calm) (item_of value lower xs.1) (λ i. item_of (values i) (lowers i) xs.1) (λ x. gives (turned_by value lower xs.0 x)) (λ i x. gives (turned_by (values i) (lowers i) xs.0 x)) (λ x. wider (same calm)) (wider (same calm)) (calmer (same calm)) (lawful_item xs.1) (lawful_turned xs.0))
+      (lawful_bind calm calm calm calm (same calm) (item_of value lower xs.1) (λ i. item_of (values i) (lowers i) xs.1) (λ x. gives (turned_by xs.0 x)) (λ i x. gives (turned_by xs.0 x)) (λ x. wider (same calm)) (wider (same calm)) (calmer (same calm)) (lawful_item xs.1) (lawful_turned xs.0))
     where
-      lawful_turned : (ys : List Statement) (x : Counted Item) → Lawful {I = I} {X = Passed} calm calm (gives (turned_by value lower ys x)) (λ i. gives (turned_by (values i) (lowers i) ys x))
+      lawful_turned : (ys : List Statement) (x : Counted Item) → Lawful {I = I} {X = Passed} calm calm (gives (turned_by ys x)) (λ i. gives (turned_by ys x))
       lawful_turned ys (last l, n) = lawful_gives calm calm (leaves (body (statements ys) (Some l), n))
       lawful_turned ys (item x, n) = lawful_gives calm calm (goes (ys ++ x ∷ [], n))
 
-  lawful_closed_body : (xs : Counted (List Statement)) → Lawful {I = I} in_body in_body (closed_body value lower xs) (λ i. closed_body (values i) (lowers i) xs)
+  lawful_closed_body : (xs : Counted (List Statement)) → Lawful {I = I} in_body in_body (closed_body xs) (λ i. closed_body xs)
   unfolding number calm calm_but
   lawful_closed_body xs =
       lawful_bind in_body anything in_body in_body (any_of in_body) (expected marks.CloseBlock) (λ i. expected marks.CloseBlock) (λ m. gives (body (statements xs.0) None, xs.1)) (λ i m. gives (body (statements xs.0) None, xs.1))
@@ -112,7 +119,7 @@ module _ {I : Type 0} (value : Reader Expr) (values : I → Reader Expr)
 
   lawful_rest_of_body : (xs : Counted (List Statement)) → Lawful in_body in_body (rest_of_body value lower xs) (λ i. rest_of_body (values i) (lowers i) xs)
   lawful_rest_of_body xs =
-      lawful_chain in_body in_body calm (same in_body) (but_calm marks.Semicolon) (only marks.Semicolon) (but_none marks.Semicolon) refl (continuing value lower) (λ i. continuing (values i) (lowers i)) (closed_body value lower) (λ i. closed_body (values i) (lowers i))
+      lawful_chain in_body in_body calm (same in_body) (but_calm marks.Semicolon) (only marks.Semicolon) (but_none marks.Semicolon) refl (continuing value lower) (λ i. continuing (values i) (lowers i)) closed_body (λ i. closed_body)
       lawful_continuing lawful_closed_body xs
 
   pub lawful_body : (n : ℕ) → Lawful calm in_body (body_of value lower n) (λ i. body_of (values i) (lowers i) n)
@@ -127,13 +134,6 @@ module _ {I : Type 0} (value : Reader Expr) (values : I → Reader Expr)
   lawful_child n =
       lawful_bind calm anything calm in_body (any_of calm) (expected marks.OpenBlock) (λ i. expected marks.OpenBlock) (λ m. body_of value lower n) (λ i m. body_of (values i) (lowers i) n)
       (λ m. wider (but_calm marks.Semicolon)) (wider (same calm)) (calmer (any_of in_body)) (lawful_mark marks.OpenBlock open_block_mark calm refl) (λ m. lawful_body n)
-
-  -- neither a further child nor a further statement
-  abbrev pub apart : Sign → Bool
-  apart = calm_but2 marks.Bars marks.Semicolon
-
-  apart_calm : Within apart calm
-  apart_calm g h = but_calm marks.Bars g (but2_but marks.Bars marks.Semicolon g h)
 
   lawful_more_children : (xs : Counted (List Body)) → Lawful apart apart (linked marks.Bars (child_of value lower) xs) (λ i. linked marks.Bars (child_of (values i) (lowers i)) xs)
   lawful_more_children xs =

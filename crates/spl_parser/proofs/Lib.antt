@@ -10,3 +10,4 @@ pub mod Witnesses
 pub mod ListLaw
 pub mod StatementLaw
 pub mod BodyLaw
+pub mod WholeLaw

@@ -1,0 +1,6 @@
+pub mod Stores
+pub mod Steps
+pub mod Cases
+pub mod Control
+pub mod Names
+pub mod Runs

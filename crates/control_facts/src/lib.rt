@@ -1,13 +1,8 @@
-// A library with one function.
+//! Where control of a program can be: its sequential components and what each of them can be at.
 #![tactic(auto)]
 
-ghost use Rattle.std.specs.Prelude.{◌≡◌};
-ghost use Rattle.control_facts.specs.Echo.{echo_of};
+mod components;
+mod places;
 
-// The `ensures` clause is the contract: what `echo` returns is `echo_of` of its argument, a definition
-// in `specs/Echo.antt`, which a caller's clause can cite too.
-pub fn echo(x: usize) -> usize
-    ensures { result ≡ echo_of x }
-{
-    x
-}
+pub use components::{Alternative, Component, Components};
+pub use places::{alternatives_at, around_at};

@@ -6,3 +6,6 @@ pub mod Follows
 pub mod Enabled
 pub mod Ended
 pub mod Layouts
+pub mod Fronts
+pub mod Origins
+pub mod ControlMoves

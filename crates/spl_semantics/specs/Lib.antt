@@ -5,3 +5,4 @@ pub mod Control
 pub mod Moves
 pub mod Names
 pub mod Runs
+pub mod Moving

@@ -9,3 +9,4 @@ pub mod Layouts
 pub mod Fronts
 pub mod Origins
 pub mod ControlMoves
+pub mod CasesAgree

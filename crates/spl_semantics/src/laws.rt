@@ -1,8 +1,20 @@
 //! The laws of programs' steps and runs, each the contract of a function that does nothing.
+ghost use Rattle.std.specs.Prelude.{◌↔◌, ℕ};
 ghost use Rattle.st_form.specs.Formula.{Formula};
-ghost use Rattle.st_program.specs.Tree.{Processes};
+ghost use Rattle.st_program.specs.Member.{Member};
 ghost use Rattle.st_program.specs.Programs.{WellFormed};
+ghost use Rattle.st_program.specs.Residuals.{Rests};
+ghost use Rattle.st_program.specs.Tree.{Processes};
+ghost use Rattle.spl_semantics.specs.Cases.{Steps};
 ghost use Rattle.spl_semantics.specs.Moving.{ControlMoves};
+ghost use Rattle.spl_semantics.specs.Steps.{Act, steps_of};
+ghost use Rattle.spl_semantics.specs.Stores.{Store};
+
+/// The list of steps and the relation by cases say the same, of whatever is left to run and in every store.
+pub fn steps_by_cases()
+    ensures { (p : Processes) → WellFormed p → (rs : Rests) (store : Store) (a : Act Rests) →
+        Member a (steps_of rs p store) ↔ Steps p rs store a.name a.mode a.left a.store }
+{}
 
 /// In every state of every run of a well-formed program its steps are the moves of its statements along the text.
 pub fn steps_are_moves()

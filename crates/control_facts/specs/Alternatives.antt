@@ -3,14 +3,12 @@
 -- The alternatives of a component are, in text order, its own locations, the end included, and directly behind the
 -- location of a cooperation in it "inside that cooperation". Where several cooperations have one location, their insides
 -- stand behind it in text order.
-use Rattle.std.specs.Prelude.{ℕ, zero, suc, ◌+◌, Bool, not, ◌==◌, if◌then◌else◌, List, [], ◌∷◌, ◌++◌, map, flat_map, filter, length, position, Option, Some, None, unwrap_or}
-use Rattle.std.specs.List.{list_any}
+use Rattle.std.specs.Prelude.{ℕ, suc, ◌+◌, not, ◌==◌, if◌then◌else◌, List, [], ◌∷◌, ◌++◌, map, flat_map, filter, length, Option, Some, None}
 use Rattle.st_program.specs.Tree.{Statement, stated, Action, skip, if_then, if_else, while_do, block, select, cooperate, Statements, no_statement, statement, process, Processes, no_process, beside, occurrence, location, action}
 use Rattle.st_program.specs.Spots.{bodies, bodies_in}
 use Rattle.control_facts.specs.declared.components.Alternative.{Alternative}
 use Rattle.control_facts.specs.declared.components.Alternative.TheVariants.{Location, Inside}
 use Rattle.control_facts.specs.Control.{Strand, Control}
-use Rattle.control_facts.specs.Places.{is_location}
 
 -- the statements of a component, in text order, without what stands in the children of its cooperations
 abbrev mutual
@@ -74,17 +72,42 @@ abbrev mutual
       record { alternatives = alternatives_of ss end; around = around }
       ∷ (strands_among ss n (suc n) ++ strands_inside ps around (suc n + length (bodies_in ss)))
 
-abbrev pub is_own : ℕ → Strand → Bool
-is_own l s = list_any (is_location l) s.alternatives
+-- the components of the locations of a part of the text, in order; it stands in component c, n is the number of the
+-- first component in it, and the location that a statement takes over isn't among them
+abbrev mutual
+  pub owners : Statement → ℕ → ℕ → List ℕ
+  owners (stated o l a) c n = owners_within a c n
 
--- the numbers below n
-abbrev pub below : ℕ → List ℕ
-below zero = []
-below (suc n) = below n ++ n ∷ []
+  pub owners_within : Action → ℕ → ℕ → List ℕ
+  owners_within (if_then t y) c n = c ∷ owners y c n
+  owners_within (if_else t y z) c n = (c ∷ owners y c n) ++ (c ∷ owners z c (n + length (bodies y)))
+  owners_within (while_do t b) c n = c ∷ owners b c n
+  owners_within (block ss) c n = owners_head ss c n
+  owners_within (select ss) c n = owners_among ss c n
+  owners_within (cooperate ps) c n = owners_inside ps n
+  owners_within skip c n = []
+  owners_within _ c n = []
 
--- the components of a program that has so many locations, and of each location the component whose own it is
-abbrev pub control_of : Processes → ℕ → Control
-control_of p locations = record {
-  strands = strands_inside p None 0;
-  owners = map (λ l. unwrap_or (position (is_own l) (strands_inside p None 0)) 0) (below locations);
-}
+  -- the first statement takes over the block's location
+  pub owners_head : Statements → ℕ → ℕ → List ℕ
+  owners_head no_statement c n = []
+  owners_head (statement s ss) c n = owners s c n ++ owners_along ss c (n + length (bodies s))
+
+  pub owners_along : Statements → ℕ → ℕ → List ℕ
+  owners_along no_statement c n = []
+  owners_along (statement s ss) c n = (c ∷ owners s c n) ++ owners_along ss c (n + length (bodies s))
+
+  -- each takes over the selection's location
+  pub owners_among : Statements → ℕ → ℕ → List ℕ
+  owners_among no_statement c n = []
+  owners_among (statement s ss) c n = owners s c n ++ owners_among ss c (n + length (bodies s))
+
+  -- the end of each component belongs to it
+  pub owners_inside : Processes → ℕ → List ℕ
+  owners_inside no_process n = []
+  owners_inside (beside (process ss end) ps) n =
+      owners_along ss n (suc n) ++ (n ∷ owners_inside ps (suc n + length (bodies_in ss)))
+
+-- the components of a program, and of each location the component whose own it is
+abbrev pub control_of : Processes → Control
+control_of p = record { strands = strands_inside p None 0; owners = owners_inside p 0 }

@@ -29,34 +29,34 @@ along_item (statement s ss) e c zero r q =
 along_item (statement s ss) e c (suc k) r q =
     let i = along_item ss e (c + length (bodies s)) k r q in (i.0, member_right (spots s (entry ss e) c) i.1, member_right (near s (entry ss e) c) i.2)
 
--- the bodies ys stand in xs from place c on
-abbrev pub HasAt : List Body → ℕ → List Body → Type 0
+-- the items ys stand in xs from place c on
+abbrev pub HasAt : {X : Type 0} → List X → ℕ → List X → Type 0
 HasAt xs c [] = Unit {0}
 HasAt xs c (y ∷ ys) = (slice_get xs c ≡ Some y) × HasAt xs (suc c) ys
 
-pub has_front : (xs : List Body) (c : ℕ) (ys zs : List Body) → HasAt xs c (ys ++ zs) → HasAt xs c ys
+pub has_front : {X : Type 0} (xs : List X) (c : ℕ) (ys zs : List X) → HasAt xs c (ys ++ zs) → HasAt xs c ys
 has_front xs c [] zs h = tt
 has_front xs c (y ∷ ys) zs h = (h.0, has_front xs (suc c) ys zs h.1)
 
-pub has_back : (xs : List Body) (c : ℕ) (ys zs : List Body) → HasAt xs c (ys ++ zs) → HasAt xs (c + length ys) zs
+pub has_back : {X : Type 0} (xs : List X) (c : ℕ) (ys zs : List X) → HasAt xs c (ys ++ zs) → HasAt xs (c + length ys) zs
 has_back xs c [] zs h = let e : c ≡ c + 0 = omega arith in subst (λ k. HasAt xs k zs) e h
 has_back xs c (y ∷ ys) zs h =
     let e : suc c + length ys ≡ c + length (y ∷ ys) = omega arith in
     subst (λ k. HasAt xs k zs) e (has_back xs (suc c) ys zs h.1)
 
-pub has_all : (before ys : List Body) → HasAt (before ++ ys) (length before) ys
+pub has_all : {X : Type 0} (before ys : List X) → HasAt (before ++ ys) (length before) ys
 has_all before [] = tt
-has_all before (y ∷ ys) = (at_seam before, subst (λ l. HasAt l (suc (length before)) ys) (regroup before) (subst (λ k. HasAt ((before ++ y ∷ []) ++ ys) k ys) (len before) (has_all (before ++ y ∷ []) ys)))
+has_all {X} before (y ∷ ys) = (at_seam before, subst (λ l. HasAt l (suc (length before)) ys) (regroup before) (subst (λ k. HasAt ((before ++ y ∷ []) ++ ys) k ys) (len before) (has_all (before ++ y ∷ []) ys)))
   where
-    at_seam : (bs : List Body) → slice_get (bs ++ y ∷ ys) (length bs) ≡ Some y
+    at_seam : (bs : List X) → slice_get (bs ++ y ∷ ys) (length bs) ≡ Some y
     at_seam [] = refl
     at_seam (b ∷ bs) = at_seam bs
 
-    regroup : (bs : List Body) → (bs ++ y ∷ []) ++ ys ≡ bs ++ y ∷ ys
+    regroup : (bs : List X) → (bs ++ y ∷ []) ++ ys ≡ bs ++ y ∷ ys
     regroup [] = refl
     regroup (b ∷ bs) = ap (λ l. b ∷ l) (regroup bs)
 
-    len : (bs : List Body) → length (bs ++ y ∷ []) ≡ suc (length bs)
+    len : (bs : List X) → length (bs ++ y ∷ []) ≡ suc (length bs)
     len [] = refl
     len (b ∷ bs) = ap suc (len bs)
 

@@ -10,3 +10,4 @@ pub mod Fronts
 pub mod Origins
 pub mod ControlMoves
 pub mod CasesAgree
+pub mod Tables

@@ -11,3 +11,5 @@ pub mod Origins
 pub mod ControlMoves
 pub mod CasesAgree
 pub mod Tables
+pub mod Strands
+pub mod ControlMet

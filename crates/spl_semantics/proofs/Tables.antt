@@ -272,4 +272,3 @@ module _ (p : Processes) (layout : Layout p) where
         either (member_cases (front r p end) m)
         (λ m. let t = from_front r (spots_along ss end (suc c)) (near_along ss end (suc c)) end c end f.0 l m in (t.0, member_left _ t.1))
         (λ m. let t = all_from rs ps (suc c + length (bodies_in ss)) f.1 l m in (t.0, member_right (table r p c end) t.1))
-

@@ -6,3 +6,4 @@ pub mod Moves
 pub mod Names
 pub mod Runs
 pub mod Moving
+pub mod Facts

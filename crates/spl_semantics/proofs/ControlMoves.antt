@@ -3,6 +3,8 @@ use Rattle.std.proofs.Common.{◌≡◌, ℕ, ◌+◌, Bool, true, List, [], ◌
 use Rattle.st_form.specs.Formula.{Formula}
 use Rattle.st_form.specs.declared.conditions.TransName.{TransName}
 use Rattle.st_form.specs.declared.conditions.TransName.TheVariants.{Idle, Step}
+use Rattle.observations.specs.declared.Fairness.{Fairness}
+use Rattle.observations.specs.declared.Fairness.TheVariants.{Unfair}
 use Rattle.st_program.specs.Tree.{stated, cooperate, process, Processes, no_process, beside, occurrence, location, action}
 use Rattle.st_program.specs.Member.{Member, here, there}
 use Rattle.st_program.specs.Spots.{bodies_of, Spot, at_spot, all_spots}
@@ -11,6 +13,7 @@ use Rattle.st_program.specs.Residuals.{Rests}
 use Rattle.spl_semantics.specs.Stores.{Store}
 use Rattle.spl_semantics.specs.Steps.{Act, begin, steps_of}
 use Rattle.spl_semantics.specs.Moves.{Move, ends, spot_moves, all_moves}
+use Rattle.spl_semantics.specs.Names.{all_names}
 use Rattle.spl_semantics.specs.Runs.{State, behind_act, Leads, IsFirst, Reached, first, next, control}
 use Rattle.spl_semantics.specs.Moving.{Moves, NamedMove, StepsAreMoves, StepOf, MovesAreSteps, ControlMoves}
 use Rattle.spl_semantics.proofs.Members.{member_left, member_right, member_cases}
@@ -22,7 +25,7 @@ use Rattle.spl_semantics.proofs.Enabled.{Apart, all_do}
 use Rattle.spl_semantics.proofs.Ended.{Ends, all_exits}
 use Rattle.spl_semantics.proofs.Layouts.{layout_of, ends_of, apart_of}
 use Rattle.spl_semantics.proofs.Fronts.{NoDup, no_dup_split, no_dup_right, no_dups, fronts_front}
-use Rattle.spl_semantics.proofs.Origins.{FromAct, FromExit, origin, move_of, own_once, same_statement}
+use Rattle.spl_semantics.proofs.Origins.{FromAct, FromExit, origin, move_of, own_once, same_statement, move_named}
 
 -- a segment of a list without doubles is exchanged
 moved_segment : (m : Move) (store store' : Store) (left right before after : List ℕ) → m.allowed store ≡ true → store' ≡ m.result store → before ≡ left ++ (m.from ++ right) → after ≡ left ++ (m.to ++ right) → NoDup before → Moves m before store after store'
@@ -131,3 +134,11 @@ control_moves p initial w =
       steps = λ s r. steps_are_moves p layout (ends_of p w) (apart_of p w) s (reached_good p layout (ends_of p w) (apart_of p w) initial r);
       moves = λ s r. moves_are_steps p layout (ends_of p w) (apart_of p w) s (reached_good p layout (ends_of p w) (apart_of p w) initial r);
     }
+
+-- the name of a step from a state of a run is one of the program's names
+pub step_named : (p : Processes) (initial : Formula) → WellFormed p → (s t : State) (name : TransName) → Reached p initial s → Leads p s name t → (n : TransName × Fairness) × Member n (all_names p) × (n.0 ≡ name)
+step_named p initial w s t Idle r l = ((Idle, Unfair), here refl, refl)
+step_named p initial w s t (Step o part) r l =
+    let m = (control_moves p initial w).steps s r l.0 l.1 in
+    let n = move_named p m.0.move m.0.is_in in
+    (n.0, n.1, n.2 ∙ m.0.name_is ∙ l.2)

@@ -13,3 +13,6 @@ pub mod CasesAgree
 pub mod Tables
 pub mod Strands
 pub mod ControlMet
+pub mod NameOrder
+pub mod RoundsGo
+pub mod RunsGoOn

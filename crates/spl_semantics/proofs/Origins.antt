@@ -1,6 +1,6 @@
 -- What each move comes from, and that a name and a mode belong to one move.
 use Rattle.std.proofs.Common.{◌≡◌, ◌≢◌, ℕ, suc, ◌+◌, ◌<◌, ◌≤◌, Bool, true, false, List, [], ◌∷◌, ◌++◌, Option, Some, None, refl, sym, ap, ◌∙◌, subst, ◌⊎◌, inl, inr, arith}
-use Rattle.std.specs.Prelude.{not, is_some, unwrap_or, if◌then◌else◌}
+use Rattle.std.specs.Prelude.{not, is_some, unwrap_or, flat_map, if◌then◌else◌}
 use Rattle.st_form.specs.Formula.{Formula, row}
 use Rattle.st_form.specs.declared.conditions.Part.{Part}
 use Rattle.st_form.specs.declared.conditions.Part.TheVariants.{Whole, Entry, Exit}
@@ -8,11 +8,14 @@ use Rattle.st_form.specs.declared.conditions.TransName.{TransName}
 use Rattle.st_form.specs.declared.conditions.TransName.TheVariants.{Step}
 use Rattle.st_program.specs.Tree.{number, Statement, stated, Action, skip, critical, noncritical, assign, await, request, release, if_then, if_else, while_do, block, select, cooperate, group, Processes, occurrence, location, action}
 use Rattle.st_program.specs.Member.{Member, here, there}
-use Rattle.st_program.specs.Spots.{Spot}
+use Rattle.observations.specs.declared.Fairness.{Fairness}
+use Rattle.observations.specs.declared.Fairness.TheVariants.{Unfair, Just, Compassionate}
+use Rattle.st_program.specs.Spots.{Spot, all_spots}
 use Rattle.st_program.specs.Groups.{Link, paths_along}
 use Rattle.st_program.specs.Residuals.{Rest, Done, Run, Again, Inside}
 use Rattle.spl_semantics.specs.Stores.{Store, holds, assigned, walked, one_less, one_more}
 use Rattle.spl_semantics.specs.Steps.{Act, act, begin, path_act, path_acts, first_acts}
+use Rattle.spl_semantics.specs.Names.{own_names, all_names}
 use Rattle.spl_semantics.specs.Moves.{Move, move, always, same, test_moves, path_moves, starts, ends, own_moves, spot_moves, all_moves}
 use Rattle.spl_semantics.proofs.Members.{member_none, member_left, member_right, member_cases}
 use Rattle.spl_semantics.proofs.Texts.{either}
@@ -242,3 +245,50 @@ same_statement x y m n i j e =
     let a = own_name (action x.stmt) (occurrence x.stmt) (location x.stmt) x.next m i in
     let b = own_name (action y.stmt) (occurrence y.stmt) (location y.stmt) y.next n j in
     same_occurrence (occurrence x.stmt) (occurrence y.stmt) a.0 b.0 (sym a.1 ∙ e ∙ b.1)
+
+-- the name of a move is one of its statement's names
+own_named : (a : Action) (o l n : ℕ) (m : Move) → Member m (own_moves a o l n) → (x : TransName × Fairness) × Member x (own_names a o) × (x.0 ≡ m.name)
+own_named noncritical o l n m i = ((Step o Whole, Unfair), here refl, sym (ap (λ z. z.name) (one_of_one i)))
+own_named (request v) o l n m i = ((Step o Whole, Compassionate), here refl, sym (ap (λ z. z.name) (one_of_one i)))
+own_named (if_then t y) o l n m i = ((Step o Whole, Just), here refl, sym (test_name i))
+  where
+    test_name : Member m (test_moves o l t (location y) n) → m.name ≡ Step o Whole
+    test_name (here q) = ap (λ z. z.name) q
+    test_name (there (here q)) = ap (λ z. z.name) q
+    test_name (there (there j)) = member_none j
+own_named (if_else t y z) o l n m i = ((Step o Whole, Just), here refl, sym (test_name i))
+  where
+    test_name : Member m (test_moves o l t (location y) (location z)) → m.name ≡ Step o Whole
+    test_name (here q) = ap (λ z. z.name) q
+    test_name (there (here q)) = ap (λ z. z.name) q
+    test_name (there (there j)) = member_none j
+own_named (while_do t b) o l n m i = ((Step o Whole, Just), here refl, sym (test_name i))
+  where
+    test_name : Member m (test_moves o l t (location b) n) → m.name ≡ Step o Whole
+    test_name (here q) = ap (λ z. z.name) q
+    test_name (there (here q)) = ap (λ z. z.name) q
+    test_name (there (there j)) = member_none j
+own_named (block ss) o l n m i = member_none i
+own_named (select ss) o l n m i = member_none i
+own_named (cooperate ps) o l n m (here q) = ((Step o Entry, Just), here refl, sym (ap (λ z. z.name) q))
+own_named (cooperate ps) o l n m (there (here q)) = ((Step o Exit, Just), there (here refl), sym (ap (λ z. z.name) q))
+own_named (cooperate ps) o l n m (there (there i)) = member_none i
+own_named (group xs) o l n m i = ((Step o Whole, Just), here refl, sym (path_named 1 (paths_along xs) i))
+  where
+    path_named : (k : ℕ) (paths : List (List Link)) → Member m (path_moves o l k paths n) → m.name ≡ Step o Whole
+    path_named k [] i = member_none i
+    path_named k (path ∷ paths) (here q) = ap (λ z. z.name) q
+    path_named k (path ∷ paths) (there i) = path_named (suc k) paths i
+own_named skip o l n m i = ((Step o Whole, Just), here refl, sym (ap (λ z. z.name) (one_of_one i)))
+own_named _ o l n m i = ((Step o Whole, Just), here refl, sym (ap (λ z. z.name) (one_of_one i)))
+
+among_names : (x : Spot) (n : TransName × Fairness) (xs : List Spot) → Member x xs → Member n (own_names (action x.stmt) (occurrence x.stmt)) → Member n (flat_map (λ x. own_names (action x.stmt) (occurrence x.stmt)) xs)
+among_names x n [] h i = member_none h
+among_names x n (y ∷ ys) (here q) i = member_left _ (subst (λ z. Member n (own_names (action z.stmt) (occurrence z.stmt))) q i)
+among_names x n (y ∷ ys) (there h) i = member_right (own_names (action y.stmt) (occurrence y.stmt)) (among_names x n ys h i)
+
+pub move_named : (p : Processes) (m : Move) → Member m (all_moves (all_spots p)) → (x : TransName × Fairness) × Member x (all_names p) × (x.0 ≡ m.name)
+move_named p m i =
+    let y = move_of m (all_spots p) i in
+    let n = own_named (action y.0.stmt) (occurrence y.0.stmt) (location y.0.stmt) y.0.next m y.2 in
+    (n.0, there (among_names y.0 n.0 (all_spots p) y.1 n.1), n.2)

@@ -2,13 +2,14 @@
 --
 -- A run is a finite one: a first state, and for each step its name and the state behind it. What is seen of a state is
 -- where control is, and the store; with it is seen which names are enabled.
-use Rattle.std.specs.Prelude.{◌≡◌, ℕ, Bool, true, List, [], ◌∷◌, map, length, position, unwrap_or, ⊤}
+use Rattle.std.specs.Prelude.{◌≡◌, ℕ, suc, Bool, true, List, [], ◌∷◌, map, length, if◌then◌else◌, ⊤}
 use Rattle.std.specs.List.{list_any}
 use Rattle.st_form.specs.Formula.{Formula, Situation}
 use Rattle.st_form.specs.Exchange.{is_listed}
 use Rattle.st_form.specs.declared.conditions.Part.{Part}
 use Rattle.st_form.specs.declared.conditions.TransName.{TransName}
 use Rattle.st_form.specs.declared.conditions.TransName.TheVariants.{Idle, Step}
+use Rattle.observations.specs.declared.Fairness.{Fairness}
 use Rattle.observations.specs.Observation.{Moment, Observation}
 use Rattle.st_program.specs.Tree.{Processes}
 use Rattle.st_program.specs.Member.{Member}
@@ -71,8 +72,12 @@ abbrev pub seen : Processes → State → Moment Situation
 seen p s = record { state = image p s; enabled = enabled_names p s }
 
 -- the place of a name in the list of all names
+abbrev pub place_in : List (TransName × Fairness) → TransName → ℕ
+place_in [] name = 0
+place_in (n ∷ ns) name = if same_name name n.0 then 0 else suc (place_in ns name)
+
 abbrev pub place_of : Processes → TransName → ℕ
-place_of p name = unwrap_or (position (λ n. same_name name n.0) (all_names p)) 0
+place_of p name = place_in (all_names p) name
 
 -- what is seen of a run
 abbrev pub observed : Processes → State → List (TransName × State) → Observation Situation

@@ -1,16 +1,17 @@
 //! The laws of programs' steps and runs, each the contract of a function that does nothing.
-ghost use Rattle.std.specs.Prelude.{◌↔◌, ℕ};
+ghost use Rattle.std.specs.Prelude.{◌↔◌, ℕ, List};
 ghost use Rattle.st_form.specs.Formula.{Formula};
 ghost use Rattle.st_form.specs.Plain.{plain};
+ghost use Rattle.st_form.specs.declared.conditions.TransName.{TransName};
 ghost use Rattle.st_program.specs.Member.{Member};
 ghost use Rattle.st_program.specs.Plain.{plain_children};
 ghost use Rattle.st_program.specs.Programs.{WellFormed};
 ghost use Rattle.st_program.specs.Residuals.{Rests};
 ghost use Rattle.st_program.specs.Tree.{Processes};
 ghost use Rattle.spl_semantics.specs.Cases.{Steps};
-ghost use Rattle.spl_semantics.specs.Facts.{MeetsControl};
+ghost use Rattle.spl_semantics.specs.Facts.{MeetsControl, GoesOn};
 ghost use Rattle.spl_semantics.specs.Moving.{ControlMoves};
-ghost use Rattle.spl_semantics.specs.Runs.{State, Reached};
+ghost use Rattle.spl_semantics.specs.Runs.{State, IsFirst, Reached, Follows};
 ghost use Rattle.spl_semantics.specs.Steps.{Act, steps_of};
 ghost use Rattle.spl_semantics.specs.Stores.{Store};
 
@@ -32,6 +33,16 @@ pub fn steps_are_moves()
 pub fn runs_meet_control(program: &Program)
     ensures { (s : State) → Reached (plain_children program.now.processes) (plain program.now.initial) s →
         MeetsControl (plain_children program.now.processes) s }
+{
+    let _ = &program.processes;
+}
+
+/// Every run of the program has an extension whose last part is as many consecutive rounds as are wanted.
+pub fn rounds_exist(program: &Program)
+    ensures { (s : State) (later : List (TransName × State)) (n : ℕ) →
+        IsFirst (plain_children program.now.processes) (plain program.now.initial) s →
+        Follows (plain_children program.now.processes) s later →
+        GoesOn (plain_children program.now.processes) s later n }
 {
     let _ = &program.processes;
 }

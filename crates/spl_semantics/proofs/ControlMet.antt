@@ -132,7 +132,7 @@ looked_up_is (x ∷ t) c a d (there m) = at_test (x.0 == c) refl (looked_up_is t
     at_test true e i = let f : c ≡ x.0 = grind (arith, nat_tests) in absurd (d.0 (subst (Given t) f (a, m)))
     at_test false e i = i
 
-listed : (l : ℕ) (ls : List ℕ) → Member l ls → IsTrue (is_listed l ls)
+pub listed : (l : ℕ) (ls : List ℕ) → Member l ls → IsTrue (is_listed l ls)
 listed l [] m = member_none m
 listed l (k ∷ ls) (here q) = let e : (k == l) ≡ true = grind (arith, nat_tests) in rw e refl
 listed l (k ∷ ls) (there m) = at_test (k == l) (listed l ls m)

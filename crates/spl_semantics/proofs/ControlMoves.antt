@@ -12,7 +12,8 @@ use Rattle.st_program.specs.Programs.{WellFormed}
 use Rattle.st_program.specs.Residuals.{Rests}
 use Rattle.spl_semantics.specs.Stores.{Store}
 use Rattle.spl_semantics.specs.Steps.{Act, begin, steps_of}
-use Rattle.spl_semantics.specs.Moves.{Move, ends, spot_moves, all_moves}
+use Rattle.spl_semantics.specs.Moves.{Move, starts, ends, spot_moves, all_moves}
+use Rattle.spl_semantics.specs.Control.{fronts}
 use Rattle.spl_semantics.specs.Names.{all_names}
 use Rattle.spl_semantics.specs.Runs.{State, behind_act, Leads, IsFirst, Reached, first, next, control}
 use Rattle.spl_semantics.specs.Moving.{Moves, NamedMove, StepsAreMoves, StepOf, MovesAreSteps, ControlMoves}
@@ -70,6 +71,15 @@ module _ (p : Processes) (layout : Layout p) (ends_ok : Ends p) (apart : Apart p
       let b = begin_at p layout p 0 (has_all [] (bodies_of p)) layout.process_tops (λ y m. m) in
       let e : length (all_spots p) + 0 ≡ length (all_spots p) = omega arith in
       subst (λ z. FitsAll p (begin p z) p 0) e b.0
+
+  -- at the beginning control is at the first location of each process
+  pub begin_control : (s : State) → s.left ≡ begin p (length (all_spots p)) → control p s ≡ starts p
+  begin_control s q =
+      let b = begin_at p layout p 0 (has_all [] (bodies_of p)) layout.process_tops (λ y m. m) in
+      let e : length (all_spots p) + 0 ≡ length (all_spots p) = omega arith in
+      ap (λ z. fronts z p p) q
+      ∙ sym (fronts_front p layout ends_ok (begin p (length (all_spots p))) p 0 begin_good)
+      ∙ subst (λ z. fronts_to (begin p z) p p ≡ starts p) e b.1
 
   pub step_good : (s : State) (a : Act Rests) → IsGood s → Member a (steps_of s.left p s.store) → LandsAll p 0 s.store (fronts_to s.left p p) p a
   step_good s a g m = all_leads p layout s.store s.left p 0 (λ y m. m) a g m
@@ -142,3 +152,6 @@ step_named p initial w s t (Step o part) r l =
     let m = (control_moves p initial w).steps s r l.0 l.1 in
     let n = move_named p m.0.move m.0.is_in in
     (n.0, n.1, n.2 ∙ m.0.name_is ∙ l.2)
+
+pub first_control : (p : Processes) → WellFormed p → (s : State) → s.left ≡ begin p (length (all_spots p)) → control p s ≡ starts p
+first_control p w s q = begin_control p (layout_of p w) (ends_of p w) (apart_of p w) s q

@@ -157,7 +157,7 @@ move_of m (x ∷ xs) i =
     either (member_cases (spot_moves x) i) (λ i. (x, here refl, i)) (λ i. let r = move_of m xs i in (r.0, there r.1, r.2))
 
 -- a name of the statement o
-abbrev IsNameOf : ℕ → TransName → Type 0
+abbrev pub IsNameOf : ℕ → TransName → Type 0
 IsNameOf o name = (part : Part) × (name ≡ Step o part)
 
 one_name : (o : ℕ) (m n : Move) (part : Part) → n.name ≡ Step o part → m ≡ n → IsNameOf o m.name
@@ -177,7 +177,7 @@ one_of_one : {m n : Move} → Member m (n ∷ []) → m ≡ n
 one_of_one (here q) = q
 one_of_one (there i) = member_none i
 
-own_name : (a : Action) (o l n : ℕ) (m : Move) → Member m (own_moves a o l n) → IsNameOf o m.name
+pub own_name : (a : Action) (o l n : ℕ) (m : Move) → Member m (own_moves a o l n) → IsNameOf o m.name
 own_name (if_then t y) o l n m i = two_names o l t _ _ m i
 own_name (if_else t y z) o l n m i = two_names o l t _ _ m i
 own_name (while_do t b) o l n m i = two_names o l t _ _ m i

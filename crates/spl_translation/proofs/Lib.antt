@@ -1,2 +1,4 @@
 pub mod Values
 pub mod Paths
+pub mod Pairs
+pub mod Corresponding

@@ -18,6 +18,7 @@ use Rattle.st_program.specs.declared.trees.Variable.{Variable}
 use Rattle.st_program.specs.Tree.{Term, number, truth, Action, skip, critical, noncritical, assign, await, request, release, if_then, if_else, while_do, block, select, cooperate, group, Statements, process, Processes, no_process, beside, occurrence, location, action}
 use Rattle.st_program.specs.Spots.{entry, Spot, all_spots}
 use Rattle.st_program.specs.Groups.{Link, paths_along, inserted, Composed, nothing_composed, composed}
+use Rattle.spl_semantics.specs.Moves.{starts, ends}
 use Rattle.spl_semantics.specs.Stores.{one_less, one_more}
 
 -- right sides by rising variable
@@ -55,15 +56,6 @@ giving l guard xs next = moving (l ∷ []) guard (numbers_of xs) (truths_of xs) 
 
 abbrev pub always : Formula
 always = truth_value true
-
--- the first locations of the children, and their end locations
-abbrev pub starts : Processes → List ℕ
-starts no_process = []
-starts (beside (process ss end) ps) = entry ss end ∷ starts ps
-
-abbrev pub ends : Processes → List ℕ
-ends no_process = []
-ends (beside (process ss end) ps) = end ∷ ends ps
 
 -- a path of a group: all its composed tests hold, and its composed values are given
 abbrev pub path_mode : ℕ → Option Composed → ℕ → List PlainMode

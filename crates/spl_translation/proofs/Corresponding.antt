@@ -26,7 +26,7 @@ use Rattle.spl_semantics.specs.Steps.{Act, steps_of}
 use Rattle.spl_semantics.specs.Names.{own_names, all_names}
 use Rattle.spl_semantics.specs.Moves.{Move, starts, spot_moves, all_moves}
 use Rattle.spl_semantics.specs.Moving.{Moves}
-use Rattle.spl_semantics.specs.Runs.{State, behind_act, Leads, IsFirst, Reached, control, image}
+use Rattle.spl_semantics.specs.Runs.{State, behind_act, IsFirst, Reached, control, image}
 use Rattle.spl_semantics.proofs.Members.{member_none, member_left, member_right, member_cases, member_at, at_member}
 use Rattle.spl_semantics.proofs.Texts.{either}
 use Rattle.spl_semantics.proofs.Follows.{move_in}
@@ -34,7 +34,7 @@ use Rattle.spl_semantics.proofs.Origins.{move_of, own_name}
 use Rattle.spl_semantics.proofs.ControlMoves.{control_moves, first_control}
 use Rattle.spl_semantics.proofs.ControlMet.{listed, is_member}
 use Rattle.spl_translation.specs.Translation.{passing, always, own_transitions, spot_transitions, idling, all_transitions, initial_form, translation}
-use Rattle.spl_translation.specs.Correspondence.{GoesBy, Corresponds}
+use Rattle.spl_translation.specs.Correspondence.{GoesBy, LeadsBy, Corresponds}
 use Rattle.spl_translation.proofs.Values.{blind}
 use Rattle.spl_translation.proofs.Pairs.{Matches, ModeOf, MoveOf, paired}
 
@@ -229,13 +229,14 @@ module _ (vs : List Variable) (initial : Formula) (p : Processes) (locations : �
       let holds_there = opened_truth (image p s) initial ∙ blind vs _ initial fits s.store (λ l. is_listed l (control p s)) (λ l. false) ∙ f.meets in
       append_truth (image p s) (formulas.formulas (map (λ l. at l) (starts p))) (opened initial) ∙ rw (there_is, holds_there) refl
 
-  follows : (s t : State) (name : TransName) → Reached p initial s → Leads p s name t → GoesBy system (image p s) name (image p t)
-  follows s t Idle r l = record {
+  follows : (s t : State) (name : TransName) (mode : ℕ) → Reached p initial s → LeadsBy p s name mode t → GoesBy system (image p s) name mode (image p t)
+  follows s t Idle mode r l = record {
     number = 0;
-    step = record { transition = idling; numbered = refl; mode = _; place = 0; placed = refl; goes = refl; leads = ap (image p) l };
+    step = record { transition = idling; numbered = refl; mode = _; place = 0; placed = refl; goes = refl; leads = ap (image p) l.0 };
     named = refl;
+    moded = sym l.1;
   }
-  follows s t (Step o part) r l =
+  follows s t (Step o part) mode r l =
       let a = l.0 in
       let m = (control_moves p initial well).steps s r a l.1 in
       let x = move_of m.0.move (all_spots p) m.0.is_in in
@@ -251,32 +252,33 @@ module _ (vs : List Variable) (initial : Formula) (p : Processes) (locations : �
           place = d.place;
           placed = d.placed;
           goes = goes_of m.0.move d.mode (control p s) (control p (behind_act a)) s.store a.store d.matches m.1;
-          leads = ap (image p) l.3 ∙ image_behind m.0.move d.mode (control p s) (control p (behind_act a)) s.store a.store d.matches m.1;
+          leads = ap (image p) l.4 ∙ image_behind m.0.move d.mode (control p s) (control p (behind_act a)) s.store a.store d.matches m.1;
         };
         named = d.name_is ∙ m.0.name_is ∙ l.2;
+        moded = sym d.numbered ∙ m.0.mode_is ∙ l.3;
       }
 
   -- a step from a state with a name of the program
-  leads_by : (s : State) (name : TransName) (a : Act Rests) → Member a (steps_of s.left p s.store) → a.name ≡ name → ((part : Part) (o : ℕ) → name ≡ Step o part → Leads p s name (behind_act a))
-  leads_by s name a i e part o q = subst (λ z. Leads p s z (behind_act a)) (sym q) (a, i, e ∙ q, refl)
+  leads_by : (s : State) (name : TransName) (mode : ℕ) (a : Act Rests) → Member a (steps_of s.left p s.store) → a.name ≡ name → a.mode ≡ mode → (part : Part) (o : ℕ) → name ≡ Step o part → LeadsBy p s name mode (behind_act a)
+  leads_by s name mode a i e f part o q = subst (λ z. LeadsBy p s z mode (behind_act a)) (sym q) (a, i, e ∙ q, f, refl)
 
-  follows_back : (s : State) (name : TransName) (t : Situation) → Reached p initial s → GoesBy system (image p s) name t → (u : State) × Leads p s name u × (image p u ≡ t)
-  follows_back s name t r g = by_number g.number g.step g.named
+  follows_back : (s : State) (name : TransName) (mode : ℕ) (t : Situation) → Reached p initial s → GoesBy system (image p s) name mode t → (u : State) × LeadsBy p s name mode u × (image p u ≡ t)
+  follows_back s name mode t r g = by_number g.number g.step g.named g.moded
     where
-      idle_back : (number : ℕ) (step : Goes system (image p s) number t) → idling ≡ step.transition → step.transition.name ≡ name → (u : State) × Leads p s name u × (image p u ≡ t)
-      idle_back number step q e =
+      idle_back : (number : ℕ) (step : Goes system (image p s) number t) → idling ≡ step.transition → step.transition.name ≡ name → suc step.place ≡ mode → (u : State) × LeadsBy p s name mode u × (image p u ≡ t)
+      idle_back number step q e f =
           let is : Idle ≡ name = ap (λ z. z.name) q ∙ e in
           let modes : slice_get idling.modes step.place ≡ Some step.mode = ap (λ z. slice_get z.modes step.place) q ∙ step.placed in
           let only = one_mode step.place step.mode modes in
-          (s, subst (λ z. Leads p s z s) is refl, sym (step.leads ∙ ap (λ z. gone z (image p s)) (sym only)))
+          (s, subst (λ z. LeadsBy p s z mode s) is (refl, sym f ∙ ap suc only.1), sym (step.leads ∙ ap (λ z. gone z (image p s)) (sym only.0)))
         where
-          one_mode : (k : ℕ) (d : PlainMode) → slice_get idling.modes k ≡ Some d → passing [] always [] ≡ d
-          one_mode zero d q = cc
+          one_mode : (k : ℕ) (d : PlainMode) → slice_get idling.modes k ≡ Some d → (passing [] always [] ≡ d) × (k ≡ 0)
+          one_mode zero d q = (cc, refl)
           one_mode (suc k) d q = cc
 
-      by_number : (number : ℕ) (step : Goes system (image p s) number t) → step.transition.name ≡ name → (u : State) × Leads p s name u × (image p u ≡ t)
-      by_number zero step e = idle_back zero step (let q = step.numbered in cc) e
-      by_number (suc number) step e =
+      by_number : (number : ℕ) (step : Goes system (image p s) number t) → step.transition.name ≡ name → suc step.place ≡ mode → (u : State) × LeadsBy p s name mode u × (image p u ≡ t)
+      by_number zero step e f = idle_back zero step (let q = step.numbered in cc) e f
+      by_number (suc number) step e f =
           let x = of_flat step.transition (all_spots p) (at_member step.transition (flat_map spot_transitions (all_spots p)) number step.numbered) in
           let y = x.0 in
           let m = (paired vs (action y.stmt) (occurrence y.stmt) (location y.stmt) y.next (typed y x.1)).move_of step.transition x.2 step.place step.mode step.placed in
@@ -286,7 +288,7 @@ module _ (vs : List Variable) (initial : Formula) (p : Processes) (locations : �
           let same_control : (l : ℕ) → is_listed l (control p (behind_act a.step)) ≡ is_listed l to = λ l.
           same_bool _ _ (λ h. listed l to (a.to l (is_member l (control p (behind_act a.step)) h))) (λ h. listed l (control p (behind_act a.step)) (a.from l (is_member l to h))) in
           let seen_is : image p (behind_act a.step) ≡ situation (m.move.result s.store) (λ l. is_listed l to) = λ i. situation (a.store_is i) (λ l. same_control l i) in
-          (behind_act a.step, (let part = own_name (action y.stmt) (occurrence y.stmt) (location y.stmt) y.next m.move m.is_in in leads_by s name a.step a.is_in (a.name_is ∙ m.name_is ∙ e) part.0 (occurrence y.stmt) (sym e ∙ sym m.name_is ∙ part.1)), seen_is ∙ image_behind m.move step.mode (control p s) to s.store (m.move.result s.store) m.matches moves ∙ sym step.leads)
+          (behind_act a.step, (let part = own_name (action y.stmt) (occurrence y.stmt) (location y.stmt) y.next m.move m.is_in in leads_by s name mode a.step a.is_in (a.name_is ∙ m.name_is ∙ e) (a.mode_is ∙ m.numbered ∙ f) part.0 (occurrence y.stmt) (sym e ∙ sym m.name_is ∙ part.1)), seen_is ∙ image_behind m.move step.mode (control p s) to s.store (m.move.result s.store) m.matches moves ∙ sym step.leads)
 
   pub corresponds : Corresponds p initial system
   corresponds = record {

@@ -2,3 +2,4 @@ pub mod Values
 pub mod Paths
 pub mod Pairs
 pub mod Corresponding
+pub mod Observed

@@ -1,11 +1,10 @@
-use Rattle.std.proofs.Common.{◌≡◌, ℕ, zero, suc, ◌+◌, ◌-◌, ◌<◌, ◌≤◌, Bool, true, false, List, [], ◌∷◌, length, get_or, refl, ap, ◌∙◌, sym, subst, Option, Some, None, arith, ◌⊎◌, inl, inr}
-use Rattle.std.specs.Prelude.{not, ◌||◌, ◌==◌, IsTrue, ◌↔◌, if◌then◌else◌, slice_get, slice_index_or, option_and_then}
+use Rattle.std.proofs.Common.{◌≡◌, ℕ, zero, suc, ◌-◌, ◌<◌, ◌≤◌, Bool, true, false, List, length, refl, ap, ◌∙◌, sym, subst, Option, Some, None, arith, ◌⊎◌, inl, inr}
+use Rattle.std.specs.Prelude.{not, ◌||◌, ◌==◌, IsTrue, slice_get, slice_index_or, option_and_then}
 use Rattle.std.proofs.lemmas.Bool.Decides.{nat_tests}
-use Rattle.std.proofs.lemmas.Bool.{cases_eq}
 use Rattle.std.proofs.lemmas.Option.{slice_get_past}
 use Rattle.control_facts.specs.declared.components.Alternative.{Alternative}
 use Rattle.control_facts.specs.declared.components.Alternative.TheVariants.{Location, Inside}
-use Rattle.control_facts.specs.Control.{Strand, Control, strand_at, no_strand, Active, process, child, IsAt, InControl}
+use Rattle.control_facts.specs.Control.{Strand, Control, strand_at, Active, process, child, InControl}
 use Rattle.control_facts.specs.Places.{is_inside, is_location, elsewhere, cut_by, cut_off, place_by, place_in, place, Follows}
 
 pub cut_off-step : (strands : List Strand) (cases : List (Option Alternative)) (n c : ℕ) → 0 < n → cut_off strands cases n c ≡ cut_by cases (cut_off strands cases (n - 1)) (strand_at strands c).around

@@ -4,7 +4,7 @@
 -- location of a cooperation in it "inside that cooperation". Where several cooperations have one location, their insides
 -- stand behind it in text order.
 use Rattle.std.specs.Prelude.{ℕ, suc, ◌+◌, not, ◌==◌, if◌then◌else◌, List, [], ◌∷◌, ◌++◌, map, flat_map, filter, length, Option, Some, None}
-use Rattle.st_program.specs.Tree.{Statement, stated, Action, skip, if_then, if_else, while_do, block, select, cooperate, Statements, no_statement, statement, process, Processes, no_process, beside, occurrence, location, action}
+use Rattle.st_program.specs.Tree.{Statement, stated, Action, skip, if_then, if_else, while_do, block, select, cooperate, Statements, no_statement, statement, process, Processes, no_process, beside, location}
 use Rattle.st_program.specs.Spots.{bodies, bodies_in}
 use Rattle.control_facts.specs.declared.components.Alternative.{Alternative}
 use Rattle.control_facts.specs.declared.components.Alternative.TheVariants.{Location, Inside}

@@ -1,5 +1,5 @@
 -- What decisions on components say of locations: that control is at one, that it isn't, or nothing yet.
-use Rattle.std.specs.Prelude.{◌≡◌, ℕ, zero, suc, ◌<◌, Bool, true, false, not, ◌||◌, ◌==◌, if◌then◌else◌, List, length, slice_get, slice_index_or, Option, Some, None, option_and_then}
+use Rattle.std.specs.Prelude.{◌≡◌, ℕ, zero, suc, Bool, false, not, ◌||◌, ◌==◌, if◌then◌else◌, List, length, slice_get, slice_index_or, Option, Some, None, option_and_then}
 use Rattle.control_facts.specs.declared.components.Alternative.{Alternative}
 use Rattle.control_facts.specs.declared.components.Alternative.TheVariants.{Location, Inside}
 use Rattle.control_facts.specs.Control.{Strand, Control, strand_at, Active}

@@ -2,32 +2,32 @@
 --
 -- The table of a state gives each active component one alternative of its own, and no other component one. It is read
 -- along what is left, with the places of components and locations in their lists carried along.
-use Rattle.std.proofs.Common.{◌≡◌, ℕ, zero, suc, ◌+◌, ◌<◌, ◌≤◌, Bool, true, false, List, [], ◌∷◌, ◌++◌, length, Option, Some, None, refl, sym, ap, ◌∙◌, subst, ◌⊎◌, inl, inr, arith}
-use Rattle.std.specs.Prelude.{slice_get, slice_index_or, IsTrue, ◌||◌, ◌==◌, if◌then◌else◌, ◌↔◌}
+use Rattle.std.proofs.Common.{◌≡◌, ℕ, zero, suc, ◌+◌, ◌<◌, Bool, true, false, List, [], ◌∷◌, ◌++◌, length, Option, Some, None, refl, sym, ap, ◌∙◌, subst, ◌⊎◌, inl, inr, arith}
+use Rattle.std.specs.Prelude.{slice_get, IsTrue, ◌||◌, ◌==◌, if◌then◌else◌}
 use Rattle.std.proofs.lemmas.Bool.Decides.{nat_tests}
 use Rattle.st_form.specs.Formula.{Formula}
 use Rattle.st_form.specs.Exchange.{is_listed}
-use Rattle.st_program.specs.Tree.{Statement, stated, Action, skip, if_then, if_else, while_do, block, select, cooperate, Statements, no_statement, statement, process, Processes, no_process, beside, occurrence, location, action}
+use Rattle.st_program.specs.Tree.{Statement, stated, skip, if_then, if_else, while_do, block, select, cooperate, Statements, no_statement, statement, process, Processes, no_process, beside, occurrence, location, action}
 use Rattle.st_program.specs.Member.{Member, here, there}
-use Rattle.st_program.specs.Spots.{entry, bodies, bodies_in, Spot, at_spot, spots, spots_within, spots_along, spots_among, spots_inside, all_spots, spot}
-use Rattle.st_program.specs.Locations.{along_end, inside_end, AlongPlaced, InsidePlaced}
+use Rattle.st_program.specs.Spots.{entry, bodies, bodies_in, Spot, at_spot, spots, spots_along, spots_among, spots_inside, all_spots, spot}
+use Rattle.st_program.specs.Locations.{along_end, AlongPlaced, InsidePlaced}
 use Rattle.st_program.specs.Programs.{WellFormed}
 use Rattle.st_program.specs.Residuals.{Rest, Done, Run, Then, Again, Inside, Rests, no_rest, rests}
 use Rattle.control_facts.specs.declared.components.Alternative.{Alternative}
 use Rattle.control_facts.specs.declared.components.Alternative.TheVariants.{Location, Inside as Held}
-use Rattle.control_facts.specs.Control.{Strand, Control, strand_at, no_strand, Active, process as outer, child as inner, IsOneOf, IsControlState, IsAt, InControl}
-use Rattle.control_facts.specs.Alternatives.{alternatives_of, strands, strands_within, strands_among, strands_inside, owners_along, owners_inside, control_of}
+use Rattle.control_facts.specs.Control.{Strand, strand_at, Active, process as outer, child as inner, IsOneOf, InControl}
+use Rattle.control_facts.specs.Alternatives.{alternatives_of, strands, strands_among, strands_inside, owners_along, owners_inside, control_of}
 use Rattle.spl_semantics.specs.Control.{children_of, children_at}
 use Rattle.spl_semantics.specs.Runs.{State, Reached, control, image}
 use Rattle.spl_semantics.specs.Facts.{MeetsControl}
 use Rattle.spl_semantics.proofs.Members.{member_none, member_left, member_right, member_cases}
-use Rattle.spl_semantics.proofs.Texts.{either, near_along, found, Region, along_region}
+use Rattle.spl_semantics.proofs.Texts.{either, near_along, found, along_region}
 use Rattle.spl_semantics.proofs.Fits.{location_of, Layout, Fits, FitsAll}
 use Rattle.spl_semantics.proofs.Bodies.{HasAt, has_front, has_back, has_all}
 use Rattle.spl_semantics.proofs.Layouts.{layout_of, ends_of, apart_of}
 use Rattle.spl_semantics.proofs.ControlMoves.{reached_good}
-use Rattle.spl_semantics.proofs.Tables.{numbers, Table, Given, NotTwice, ChildOf, before_at, table, tables, all_once, given_numbers, all_inner, all_at, all_from}
-use Rattle.spl_semantics.proofs.Strands.{near_own_along, one_of, at_end, at_statement, at_inside, count, count_among, near_strands_along, owned_along, owned_inside, Owned, near_owned_along}
+use Rattle.spl_semantics.proofs.Tables.{numbers, Table, Given, NotTwice, before_at, table, tables, all_once, given_numbers, all_inner, all_at, all_from}
+use Rattle.spl_semantics.proofs.Strands.{near_own_along, one_of, at_end, at_statement, at_inside, count, count_among, near_strands_along, owned_along, near_owned_along}
 
 -- components with their numbers
 abbrev numbered : List Strand → ℕ → List (ℕ × Strand)

@@ -1,13 +1,13 @@
 -- The steps of a program are the moves of its statements, in every state of every run.
-use Rattle.std.proofs.Common.{◌≡◌, ℕ, ◌+◌, Bool, true, List, [], ◌∷◌, ◌++◌, length, refl, sym, ap, ◌∙◌, subst, inl, inr, arith}
+use Rattle.std.proofs.Common.{◌≡◌, ℕ, ◌+◌, true, List, [], ◌++◌, length, refl, sym, ap, ◌∙◌, subst, inl, inr, arith}
 use Rattle.st_form.specs.Formula.{Formula}
 use Rattle.st_form.specs.declared.conditions.TransName.{TransName}
 use Rattle.st_form.specs.declared.conditions.TransName.TheVariants.{Idle, Step}
 use Rattle.observations.specs.declared.Fairness.{Fairness}
 use Rattle.observations.specs.declared.Fairness.TheVariants.{Unfair}
 use Rattle.st_program.specs.Tree.{stated, cooperate, process, Processes, no_process, beside, occurrence, location, action}
-use Rattle.st_program.specs.Member.{Member, here, there}
-use Rattle.st_program.specs.Spots.{bodies_of, Spot, at_spot, all_spots}
+use Rattle.st_program.specs.Member.{Member, here}
+use Rattle.st_program.specs.Spots.{bodies_of, at_spot, all_spots}
 use Rattle.st_program.specs.Programs.{WellFormed}
 use Rattle.st_program.specs.Residuals.{Rests}
 use Rattle.spl_semantics.specs.Stores.{Store}
@@ -15,8 +15,8 @@ use Rattle.spl_semantics.specs.Steps.{Act, begin, steps_of}
 use Rattle.spl_semantics.specs.Moves.{Move, starts, ends, spot_moves, all_moves}
 use Rattle.spl_semantics.specs.Control.{fronts}
 use Rattle.spl_semantics.specs.Names.{all_names}
-use Rattle.spl_semantics.specs.Runs.{State, behind_act, Leads, IsFirst, Reached, first, next, control}
-use Rattle.spl_semantics.specs.Moving.{Moves, NamedMove, StepsAreMoves, StepOf, MovesAreSteps, ControlMoves}
+use Rattle.spl_semantics.specs.Runs.{State, behind_act, Leads, Reached, first, next, control}
+use Rattle.spl_semantics.specs.Moving.{Moves, NamedMove, StepsAreMoves, MovesAreSteps, ControlMoves}
 use Rattle.spl_semantics.proofs.Members.{member_left, member_right, member_cases}
 use Rattle.spl_semantics.proofs.Texts.{either, Has, same_number}
 use Rattle.spl_semantics.proofs.Fits.{fronts_to, Layout, FitsAll}
@@ -26,7 +26,7 @@ use Rattle.spl_semantics.proofs.Enabled.{Apart, all_do}
 use Rattle.spl_semantics.proofs.Ended.{Ends, all_exits}
 use Rattle.spl_semantics.proofs.Layouts.{layout_of, ends_of, apart_of}
 use Rattle.spl_semantics.proofs.Fronts.{NoDup, no_dup_split, no_dup_right, no_dups, fronts_front}
-use Rattle.spl_semantics.proofs.Origins.{FromAct, FromExit, origin, move_of, own_once, same_statement, move_named}
+use Rattle.spl_semantics.proofs.Origins.{origin, move_of, own_once, same_statement, move_named}
 
 -- a segment of a list without doubles is exchanged
 moved_segment : (m : Move) (store store' : Store) (left right before after : List ℕ) → m.allowed store ≡ true → store' ≡ m.result store → before ≡ left ++ (m.from ++ right) → after ≡ left ++ (m.to ++ right) → NoDup before → Moves m before store after store'

@@ -1,10 +1,9 @@
 -- Each move that is allowed where control is can be taken by what is left.
-use Rattle.std.proofs.Common.{◌≡◌, ℕ, suc, ◌+◌, List, [], ◌∷◌, ◌++◌, map, length, Option, Some, refl, sym, ap, ◌∙◌, subst, arith}
+use Rattle.std.proofs.Common.{◌≡◌, ℕ, suc, ◌+◌, List, [], ◌∷◌, ◌++◌, map, length, Some, refl, sym, ap, ◌∙◌, subst, arith}
 use Rattle.std.specs.Prelude.{slice_get}
-use Rattle.st_form.specs.declared.conditions.TransName.{TransName}
 use Rattle.st_program.specs.Tree.{Statement, stated, skip, block, select, cooperate, Statements, no_statement, statement, process, Processes, no_process, beside, occurrence, location}
 use Rattle.st_program.specs.Member.{Member, here, there}
-use Rattle.st_program.specs.Spots.{entry, bodies, bodies_in, bodies_of, Body, Spot, at_spot, spots, spots_along, spots_among, spots_inside, all_spots, spot, body}
+use Rattle.st_program.specs.Spots.{entry, bodies, bodies_in, bodies_of, Body, Spot, at_spot, spots, spots_along, spots_among, spots_inside, all_spots, body}
 use Rattle.st_program.specs.Residuals.{Rest, Done, Run, Then, Again, Inside, Rests, no_rest, rests}
 use Rattle.spl_semantics.specs.Stores.{Store}
 use Rattle.spl_semantics.specs.Steps.{Act, around, join, joined_acts, back, first_acts, acts_along, acts_among, acts_at, steps, steps_of}

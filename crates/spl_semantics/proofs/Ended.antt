@@ -1,14 +1,14 @@
 -- The exit of a cooperation can be taken where control is at all its end locations.
 --
 -- Components side by side have locations one after another, so an end location leads to the one child that has it.
-use Rattle.std.proofs.Common.{◌≡◌, ℕ, suc, ◌+◌, ◌<◌, ◌≤◌, Bool, true, List, [], ◌∷◌, ◌++◌, map, length, refl, sym, ap, ◌∙◌, subst, ◌⊎◌, inl, inr, arith}
+use Rattle.std.proofs.Common.{◌≡◌, ℕ, suc, ◌+◌, ◌<◌, ◌≤◌, true, List, [], ◌∷◌, map, length, refl, sym, ap, ◌∙◌, subst, ◌⊎◌, inl, inr, arith}
 use Rattle.std.specs.Prelude.{if◌then◌else◌}
 use Rattle.std.proofs.lemmas.Bool.Decides.{eqb_tells}
 use Rattle.st_form.specs.declared.conditions.Part.TheVariants.{Exit}
 use Rattle.st_form.specs.declared.conditions.TransName.TheVariants.{Step}
 use Rattle.st_program.specs.Tree.{stated, cooperate, Statements, process, Processes, no_process, beside, occurrence, location, action}
 use Rattle.st_program.specs.Member.{Member, here, there}
-use Rattle.st_program.specs.Spots.{bodies_in, Spot, at_spot, spots_along, spots_inside, all_spots, spot, body}
+use Rattle.st_program.specs.Spots.{bodies_in, Spot, at_spot, spots_along, spots_inside, all_spots, body}
 use Rattle.st_program.specs.Residuals.{Rest, Done, Run, Then, Again, Inside, Rests, no_rest, rests}
 use Rattle.spl_semantics.specs.Stores.{Store}
 use Rattle.spl_semantics.specs.Steps.{Act, act, around, join, joined_acts, back, all_done, steps, steps_of}

@@ -2,9 +2,9 @@
 --
 -- `Fits` says, by recursion on what is left, that it is left of something that stands in a part of the text, and which
 -- location control reaches behind it. With that location, joining what is left with what follows moves no control.
-use Rattle.std.proofs.Common.{◌≡◌, ℕ, zero, suc, ◌+◌, List, [], ◌∷◌, ◌++◌, length, Option, Some, None, refl, ap, ◌∙◌}
+use Rattle.std.proofs.Common.{◌≡◌, ℕ, suc, ◌+◌, List, [], ◌∷◌, ◌++◌, length, Option, Some, None, refl, ap, ◌∙◌}
 use Rattle.st_form.specs.Formula.{Formula}
-use Rattle.st_program.specs.Tree.{Statement, stated, Action, skip, if_then, if_else, while_do, block, select, cooperate, Statements, no_statement, statement, process, Processes, no_process, beside, occurrence, location, action, nth}
+use Rattle.st_program.specs.Tree.{Statement, stated, skip, if_then, if_else, while_do, block, select, cooperate, Statements, no_statement, statement, process, Processes, no_process, beside, occurrence, location, nth}
 use Rattle.st_program.specs.Member.{Member}
 use Rattle.st_program.specs.Spots.{bodies_in, Body, Spot, at_spot, spots_along, all_spots, spot, IsNumbered, body}
 use Rattle.st_program.specs.Residuals.{Rest, Done, Run, Then, Again, Inside, Rests, no_rest, rests}

@@ -2,7 +2,7 @@
 use Rattle.std.proofs.Common.{◌≡◌, ℕ, suc, ◌+◌, ◌≤◌, List, [], ◌∷◌, ◌++◌, length, sym, ap, ◌∙◌, subst, refl, arith}
 use Rattle.st_program.specs.Tree.{stated, cooperate, process, Processes, no_process, beside, location}
 use Rattle.st_program.specs.Member.{Member, here, there}
-use Rattle.st_program.specs.Spots.{bodies_in, Spot, at_spot, spots_along, spots_inside, all_spots, spot, body}
+use Rattle.st_program.specs.Spots.{bodies_in, Spot, at_spot, spots_along, spots_inside, all_spots, body}
 use Rattle.st_program.specs.Residuals.{Rest, Done, Run, Then, Again, Inside, Rests, no_rest, rests}
 use Rattle.spl_semantics.specs.Control.{children_at, location_at, front, fronts}
 use Rattle.spl_semantics.proofs.Members.{member_none, member_left, member_right, member_cases}

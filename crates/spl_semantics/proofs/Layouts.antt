@@ -2,7 +2,7 @@
 --
 -- The locations of a part of the text are an interval, but for the one that it takes over. For a fixed statement x one
 -- walk over the text carries along that x stands in this part, or that none of its locations is in the part's interval.
-use Rattle.std.proofs.Common.{◌≡◌, ℕ, zero, suc, ◌+◌, ◌<◌, ◌≤◌, List, [], ◌∷◌, ◌++◌, length, Option, Some, None, refl, sym, ap, ◌∙◌, subst, ◌⊎◌, inl, inr, arith}
+use Rattle.std.proofs.Common.{◌≡◌, ℕ, zero, suc, ◌+◌, ◌<◌, ◌≤◌, List, [], ◌∷◌, length, Some, refl, sym, ap, ◌∙◌, subst, ◌⊎◌, inl, inr, arith}
 use Rattle.st_program.specs.Tree.{Statement, stated, Action, skip, if_then, if_else, while_do, block, select, cooperate, Statements, no_statement, statement, process, Processes, no_process, beside, occurrence, location, action, nth}
 use Rattle.st_program.specs.Member.{Member, here, there}
 use Rattle.st_program.specs.Spots.{entry, bodies, bodies_in, bodies_of, Body, Spot, at_spot, spots, spots_along, spots_among, spots_inside, all_spots}
@@ -11,10 +11,10 @@ use Rattle.st_program.specs.Programs.{WellFormed}
 use Rattle.spl_semantics.specs.Control.{children_of}
 use Rattle.spl_semantics.specs.Moves.{ends}
 use Rattle.spl_semantics.proofs.Members.{member_none, member_left, member_right, member_cases, at_member}
-use Rattle.spl_semantics.proofs.Texts.{either, Has}
+use Rattle.spl_semantics.proofs.Texts.{either}
 use Rattle.spl_semantics.proofs.Fits.{IsActing, firsts, firsts_along, firsts_among, Top, AllTop, ProcessTops, TopOk, SameLocs, HeadOk, Layout}
 use Rattle.spl_semantics.proofs.Enabled.{Apart}
-use Rattle.spl_semantics.proofs.Ended.{Between, InSpan, SpanOf, Spans, Ends}
+use Rattle.spl_semantics.proofs.Ended.{Between, InSpan, Spans, Ends}
 
 mutual
   grow : (s : Statement) (f : ℕ) → f ≤ location_end s f

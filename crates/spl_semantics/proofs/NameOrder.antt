@@ -1,5 +1,5 @@
 -- No name stands twice in the list of a program's names.
-use Rattle.std.proofs.Common.{◌≡◌, ◌≢◌, ℕ, zero, suc, ◌+◌, ◌≤◌, ◌<◌, Bool, true, false, List, [], ◌∷◌, ◌++◌, Option, Some, None, refl, sym, ap, ◌∙◌, subst, inl, inr, ◌⊎◌, arith}
+use Rattle.std.proofs.Common.{◌≡◌, ◌≢◌, ℕ, zero, suc, ◌+◌, ◌≤◌, Bool, true, false, List, [], ◌∷◌, ◌++◌, Some, refl, sym, ap, ◌∙◌, arith}
 use Rattle.std.specs.Prelude.{◌&&◌, ◌==◌, slice_get, flat_map, if◌then◌else◌}
 use Rattle.std.proofs.lemmas.Bool.Decides.{nat_tests}
 use Rattle.st_form.specs.declared.conditions.Part.{Part}
@@ -8,12 +8,12 @@ use Rattle.st_form.specs.declared.conditions.TransName.{TransName}
 use Rattle.st_form.specs.declared.conditions.TransName.TheVariants.{Idle, Step}
 use Rattle.observations.specs.declared.Fairness.{Fairness}
 use Rattle.observations.specs.declared.Fairness.TheVariants.{Unfair, Just, Compassionate}
-use Rattle.st_program.specs.Tree.{Statement, Action, skip, noncritical, request, block, select, cooperate, Processes, occurrence, action}
+use Rattle.st_program.specs.Tree.{Action, skip, noncritical, request, block, select, cooperate, Processes, occurrence, action}
 use Rattle.st_program.specs.Member.{Member, here, there}
 use Rattle.st_program.specs.Spots.{Spot, all_spots, IsNumbered}
 use Rattle.spl_semantics.specs.Names.{own_names, all_names, same_part, same_name}
 use Rattle.spl_semantics.specs.Runs.{place_in, place_of}
-use Rattle.spl_semantics.proofs.Members.{member_none, member_cases, member_left, member_right}
+use Rattle.spl_semantics.proofs.Members.{member_none, member_cases}
 use Rattle.spl_semantics.proofs.Texts.{either}
 
 abbrev pub Named : Type 0

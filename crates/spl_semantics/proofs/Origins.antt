@@ -1,5 +1,5 @@
 -- What each move comes from, and that a name and a mode belong to one move.
-use Rattle.std.proofs.Common.{◌≡◌, ◌≢◌, ℕ, suc, ◌+◌, ◌<◌, ◌≤◌, Bool, true, false, List, [], ◌∷◌, ◌++◌, Option, Some, None, refl, sym, ap, ◌∙◌, subst, ◌⊎◌, inl, inr, arith}
+use Rattle.std.proofs.Common.{◌≡◌, ℕ, suc, ◌≤◌, Bool, true, false, List, [], ◌∷◌, Option, Some, None, refl, sym, ap, ◌∙◌, subst, ◌⊎◌, inl, inr, arith}
 use Rattle.std.specs.Prelude.{not, is_some, unwrap_or, flat_map, if◌then◌else◌}
 use Rattle.st_form.specs.Formula.{Formula, row}
 use Rattle.st_form.specs.declared.conditions.Part.{Part}
@@ -16,7 +16,7 @@ use Rattle.st_program.specs.Residuals.{Rest, Done, Run, Again, Inside}
 use Rattle.spl_semantics.specs.Stores.{Store, holds, assigned, walked, one_less, one_more}
 use Rattle.spl_semantics.specs.Steps.{Act, act, begin, path_act, path_acts, first_acts}
 use Rattle.spl_semantics.specs.Names.{own_names, all_names}
-use Rattle.spl_semantics.specs.Moves.{Move, move, always, same, test_moves, path_moves, starts, ends, own_moves, spot_moves, all_moves}
+use Rattle.spl_semantics.specs.Moves.{Move, test_moves, path_moves, ends, own_moves, spot_moves, all_moves}
 use Rattle.spl_semantics.proofs.Members.{member_none, member_left, member_right, member_cases}
 use Rattle.spl_semantics.proofs.Texts.{either}
 use Rattle.spl_semantics.proofs.Fits.{IsActing}

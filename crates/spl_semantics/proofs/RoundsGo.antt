@@ -1,17 +1,14 @@
 -- Every run of a program goes on to as many consecutive rounds as are wanted.
 --
 -- The schedule of the observations' theorem is played by steps: a name is enabled exactly where some step has it.
-use Rattle.std.proofs.Common.{◌≡◌, ℕ, zero, suc, ◌+◌, ◌≤◌, ◌<◌, Bool, true, false, List, [], ◌∷◌, ◌++◌, map, length, Option, Some, None, refl, sym, ap, ◌∙◌, subst, ◌⊎◌, inl, inr, arith}
+use Rattle.std.proofs.Common.{◌≡◌, ℕ, zero, suc, Bool, true, false, List, [], ◌∷◌, ◌++◌, map, length, Option, Some, None, refl, sym, ap, ◌∙◌, subst, inl, inr, arith}
 use Rattle.std.specs.Prelude.{◌||◌, slice_get, if◌then◌else◌}
 use Rattle.std.specs.List.{list_any}
-use Rattle.st_form.specs.Formula.{Formula, Situation}
-use Rattle.st_form.specs.declared.conditions.Part.{Part}
 use Rattle.st_form.specs.declared.conditions.TransName.{TransName}
 use Rattle.st_form.specs.declared.conditions.TransName.TheVariants.{Idle, Step}
-use Rattle.observations.specs.declared.Fairness.{Fairness}
-use Rattle.observations.specs.Observation.{Moment, Observation, moment_after, name_at, moment_at, last, IsEnabled, IsTaken}
+use Rattle.observations.specs.Observation.{Moment, Observation, moment_after, name_at, last}
 use Rattle.observations.specs.Rounds.{Round, Rounds}
-use Rattle.observations.specs.Extension.{FollowsBy, IsObserved, MayGoOn, extended, EndsInRounds}
+use Rattle.observations.specs.Extension.{FollowsBy, MayGoOn, extended}
 use Rattle.observations.proofs.RoundsExist.{rounds_exist}
 use Rattle.st_program.specs.Tree.{Processes}
 use Rattle.st_program.specs.Member.{Member, here, there}

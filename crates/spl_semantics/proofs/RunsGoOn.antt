@@ -7,7 +7,7 @@ use Rattle.st_program.specs.Tree.{Processes}
 use Rattle.st_program.specs.Member.{Member, here, there}
 use Rattle.st_program.specs.Programs.{WellFormed}
 use Rattle.spl_semantics.specs.Names.{all_names}
-use Rattle.spl_semantics.specs.Runs.{State, IsFirst, Reached, first, next, Leads, Follows, place_in, place_of}
+use Rattle.spl_semantics.specs.Runs.{State, IsFirst, Reached, first, next, Follows, place_in, place_of}
 use Rattle.spl_semantics.specs.Facts.{GoesOn}
 use Rattle.spl_semantics.proofs.Members.{member_none}
 use Rattle.spl_semantics.proofs.NameOrder.{Named, at_its_place}

@@ -1,20 +1,18 @@
 -- The components of a program: what stands at their numbers, and of which component each location is.
-use Rattle.std.proofs.Common.{◌≡◌, ◌≢◌, ℕ, zero, suc, ◌+◌, ◌<◌, ◌≤◌, Bool, true, false, List, [], ◌∷◌, ◌++◌, map, length, Option, Some, None, refl, sym, ap, ◌∙◌, subst, ◌⊎◌, inl, inr, arith, length-append}
-use Rattle.std.specs.Prelude.{slice_get, slice_index_or, flat_map, filter, not, ◌==◌, if◌then◌else◌}
+use Rattle.std.proofs.Common.{◌≡◌, ◌≢◌, ℕ, suc, ◌+◌, Bool, true, false, List, [], ◌∷◌, ◌++◌, map, length, Option, Some, refl, sym, ap, ◌∙◌, subst, inl, inr, arith, length-append}
+use Rattle.std.specs.Prelude.{slice_get, flat_map, filter, not, ◌==◌, if◌then◌else◌}
 use Rattle.std.proofs.lemmas.Bool.Decides.{nat_tests}
-use Rattle.st_program.specs.Tree.{Statement, stated, Action, skip, if_then, if_else, while_do, block, select, cooperate, Statements, no_statement, statement, process, Processes, no_process, beside, occurrence, location, action}
+use Rattle.st_program.specs.Tree.{Statement, stated, Action, skip, if_then, if_else, while_do, block, select, cooperate, Statements, no_statement, statement, process, Processes, no_process, beside, location, action}
 use Rattle.st_program.specs.Member.{Member, here, there}
-use Rattle.st_program.specs.Spots.{entry, bodies, bodies_inside, bodies_in, bodies_of, Spot, at_spot, spots, spots_within, spots_along, spots_among, spots_inside}
-use Rattle.st_program.specs.Locations.{location_end, within_end, head_end, along_end, among_end, inside_end, IsPlaced, WithinPlaced, HeadPlaced, AlongPlaced, AmongPlaced, InsidePlaced}
+use Rattle.st_program.specs.Spots.{entry, bodies, bodies_inside, bodies_in, bodies_of, Spot, at_spot}
+use Rattle.st_program.specs.Locations.{location_end, within_end, head_end, along_end, among_end, inside_end, IsPlaced, HeadPlaced, AlongPlaced, AmongPlaced, InsidePlaced}
 use Rattle.control_facts.specs.declared.components.Alternative.{Alternative}
 use Rattle.control_facts.specs.declared.components.Alternative.TheVariants.{Location, Inside as Held}
-use Rattle.control_facts.specs.Control.{Strand, strand_at, no_strand, IsOneOf}
+use Rattle.control_facts.specs.Control.{Strand, IsOneOf}
 use Rattle.control_facts.specs.Alternatives.{own, own_within, own_among, once, inside_at, alternatives_at, alternatives_of, strands, strands_within, strands_among, strands_inside, owners, owners_within, owners_head, owners_along, owners_among, owners_inside}
-use Rattle.spl_semantics.specs.Control.{children_of}
 use Rattle.spl_semantics.proofs.Members.{member_none, member_left, member_right, member_cases, map_member}
 use Rattle.spl_semantics.proofs.Texts.{either, near, near_within, near_along, near_among}
 use Rattle.spl_semantics.proofs.Bodies.{HasAt, has_front, has_back}
-use Rattle.spl_semantics.proofs.Tables.{numbers}
 
 -- a statement near in a part of the text is one of its own
 mutual

@@ -1,8 +1,8 @@
 -- Where statements stand in a program's text.
-use Rattle.std.proofs.Common.{◌≡◌, ℕ, suc, ◌+◌, List, [], ◌∷◌, ◌++◌, length, Option, Some, refl, sym, ap, ◌∙◌, subst, ◌⊎◌, inl, inr}
+use Rattle.std.proofs.Common.{◌≡◌, ℕ, suc, ◌+◌, List, [], ◌∷◌, ◌++◌, length, Some, refl, sym, ap, ◌∙◌, subst, ◌⊎◌, inl, inr}
 use Rattle.st_program.specs.Tree.{Statement, stated, Action, skip, if_then, if_else, while_do, block, select, cooperate, Statements, no_statement, statement, process, Processes, no_process, beside, occurrence}
 use Rattle.st_program.specs.Member.{Member, here, there}
-use Rattle.st_program.specs.Spots.{entry, bodies, bodies_in, Spot, at_spot, spots, spots_within, spots_along, spots_among, spots_inside, all_spots, spot, IsNumbered}
+use Rattle.st_program.specs.Spots.{entry, bodies, Spot, at_spot, spots, spots_within, spots_along, spots_among, spots_inside, all_spots, spot, IsNumbered}
 use Rattle.spl_semantics.proofs.Members.{member_none, member_left, member_right, member_cases, member_at, at_member}
 
 pub either : {A B C : Type 0} → A ⊎ B → (A → C) → (B → C) → C

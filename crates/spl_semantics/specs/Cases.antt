@@ -1,5 +1,5 @@
 -- The steps of what is left to run, as a relation: one row for each case.
-use Rattle.std.specs.Prelude.{◌≡◌, ℕ, suc, ◌+◌, true, false, List, [], ◌∷◌, slice_get, Option, Some, length}
+use Rattle.std.specs.Prelude.{◌≡◌, ℕ, suc, ◌+◌, true, false, List, [], ◌∷◌, slice_get, Some, length}
 use Rattle.st_form.specs.Formula.{Formula, row}
 use Rattle.st_form.specs.declared.conditions.Part.TheVariants.{Whole, Entry, Exit}
 use Rattle.st_form.specs.declared.conditions.TransName.{TransName}
@@ -7,7 +7,7 @@ use Rattle.st_form.specs.declared.conditions.TransName.TheVariants as names
 use Rattle.st_program.specs.Tree.{Term, number, Statement, stated, Action, Statements, statement, Processes, Pieces, occurrence}
 use Rattle.st_program.specs.Tree
 use Rattle.st_program.specs.Groups.{Link, paths_along}
-use Rattle.st_program.specs.Spots.{Body, Spot, at_spot, all_spots, spot, body}
+use Rattle.st_program.specs.Spots.{Body, at_spot, all_spots, spot, body}
 use Rattle.st_program.specs.Residuals.{Rest, Done, Run, Then, Again, Inside, Rests, rests}
 use Rattle.spl_semantics.specs.Stores.{Store, holds, assigned, one_less, one_more, walked}
 use Rattle.spl_semantics.specs.Steps.{join, back, begin, all_done}

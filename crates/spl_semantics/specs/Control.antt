@@ -1,6 +1,6 @@
 -- Where control is.
 use Rattle.std.specs.Prelude.{ℕ, List, [], ◌∷◌, ◌++◌, Option, Some, None}
-use Rattle.st_program.specs.Tree.{Statement, Action, skip, cooperate, Statements, process, Processes, no_process, beside, location, action}
+use Rattle.st_program.specs.Tree.{Action, skip, cooperate, process, Processes, no_process, beside, location, action}
 use Rattle.st_program.specs.Spots.{Spot, spot}
 use Rattle.st_program.specs.Residuals.{Rest, Done, Run, Then, Again, Inside, Rests, no_rest, rests}
 

@@ -2,13 +2,13 @@
 --
 -- A move leads from locations to others where the store allows it. The moves of a program are read on the text alone,
 -- statement by statement; that its steps are exactly these moves is a law.
-use Rattle.std.specs.Prelude.{◌≡◌, ℕ, suc, Bool, true, not, List, [], ◌∷◌, ◌++◌, flat_map, Option, Some, None, is_some, unwrap_or}
+use Rattle.std.specs.Prelude.{ℕ, suc, Bool, true, not, List, [], ◌∷◌, ◌++◌, is_some, unwrap_or}
 use Rattle.st_form.specs.Formula.{Formula, row}
 use Rattle.st_form.specs.declared.conditions.Part.TheVariants.{Whole, Entry, Exit}
 use Rattle.st_form.specs.declared.conditions.TransName.{TransName}
 use Rattle.st_form.specs.declared.conditions.TransName.TheVariants.{Step}
 use Rattle.st_program.specs.Tree.{number, Action, skip, critical, noncritical, assign, await, request, release, if_then, if_else, while_do, block, select, cooperate, group, process, Processes, no_process, beside, occurrence, location, action}
-use Rattle.st_program.specs.Spots.{entry, Spot, all_spots}
+use Rattle.st_program.specs.Spots.{entry, Spot}
 use Rattle.st_program.specs.Groups.{Link, paths_along}
 use Rattle.spl_semantics.specs.Stores.{Store, holds, assigned, one_less, one_more, walked}
 

@@ -10,7 +10,7 @@ use Rattle.st_form.specs.declared.conditions.TransName.{TransName}
 use Rattle.st_form.specs.declared.conditions.TransName.TheVariants.{Idle, Step}
 use Rattle.observations.specs.declared.Fairness.{Fairness}
 use Rattle.observations.specs.declared.Fairness.TheVariants.{Unfair, Just, Compassionate}
-use Rattle.st_program.specs.Tree.{Statement, Action, skip, noncritical, request, block, select, cooperate, Processes, occurrence, action}
+use Rattle.st_program.specs.Tree.{Action, skip, noncritical, request, block, select, cooperate, Processes, occurrence, action}
 use Rattle.st_program.specs.Spots.{all_spots}
 
 abbrev pub own_names : Action → ℕ → List (TransName × Fairness)

@@ -6,7 +6,6 @@ use Rattle.std.specs.Prelude.{◌≡◌, ℕ, suc, Bool, true, List, [], ◌∷�
 use Rattle.std.specs.List.{list_any}
 use Rattle.st_form.specs.Formula.{Formula, Situation}
 use Rattle.st_form.specs.Exchange.{is_listed}
-use Rattle.st_form.specs.declared.conditions.Part.{Part}
 use Rattle.st_form.specs.declared.conditions.TransName.{TransName}
 use Rattle.st_form.specs.declared.conditions.TransName.TheVariants.{Idle, Step}
 use Rattle.observations.specs.declared.Fairness.{Fairness}

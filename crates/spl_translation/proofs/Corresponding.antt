@@ -1,12 +1,12 @@
 -- A typed program corresponds to its translation.
-use Rattle.std.proofs.Common.{cond, ◌≡◌, ℕ, zero, suc, Bool, true, false, List, [], ◌∷◌, ◌++◌, map, Option, Some, refl, sym, ap, ◌∙◌, subst, ◌⊎◌, inl, inr}
-use Rattle.std.specs.Prelude.{◌&&◌, ◌||◌, not, slice_get, flat_map, filter, IsTrue}
+use Rattle.std.proofs.Common.{cond, ◌≡◌, ℕ, zero, suc, Bool, true, false, List, [], ◌∷◌, ◌++◌, map, Some, refl, sym, ap, ◌∙◌, subst, ◌⊎◌, inl, inr}
+use Rattle.std.specs.Prelude.{◌&&◌, ◌||◌, not, slice_get, flat_map, filter}
 use Rattle.std.specs.List.{list_all}
 use Rattle.st_linear.specs.Linear.{changed}
 use Rattle.st_form.specs.Formula.{Formula, Formulas, Situation, truth_value, row, equal, bool_var, at, negation, every, some, none, more, every_truth}
 use Rattle.st_form.specs.Formula as formulas
 use Rattle.st_form.specs.Simple.{opened, append}
-use Rattle.st_form.specs.Exchange.{truth_for, is_listed, before}
+use Rattle.st_form.specs.Exchange.{truth_for, is_listed}
 use Rattle.st_form.specs.declared.conditions.Part.{Part}
 use Rattle.st_form.specs.declared.conditions.TransName.{TransName}
 use Rattle.st_form.specs.declared.conditions.TransName.TheVariants.{Idle, Step}
@@ -23,8 +23,8 @@ use Rattle.st_program.specs.Types.{TestFits, ActionFits}
 use Rattle.spl_semantics.specs.Stores.{Store, situation}
 use Rattle.st_program.specs.Residuals.{Rests}
 use Rattle.spl_semantics.specs.Steps.{Act, steps_of}
-use Rattle.spl_semantics.specs.Names.{own_names, all_names}
-use Rattle.spl_semantics.specs.Moves.{Move, starts, spot_moves, all_moves}
+use Rattle.spl_semantics.specs.Names.{own_names}
+use Rattle.spl_semantics.specs.Moves.{Move, starts}
 use Rattle.spl_semantics.specs.Moving.{Moves}
 use Rattle.spl_semantics.specs.Runs.{State, behind_act, IsFirst, Reached, control, image}
 use Rattle.spl_semantics.proofs.Members.{member_none, member_left, member_right, member_cases, member_at, at_member}
@@ -33,10 +33,10 @@ use Rattle.spl_semantics.proofs.Follows.{move_in}
 use Rattle.spl_semantics.proofs.Origins.{move_of, own_name}
 use Rattle.spl_semantics.proofs.ControlMoves.{control_moves, first_control}
 use Rattle.spl_semantics.proofs.ControlMet.{listed, is_member}
-use Rattle.spl_translation.specs.Translation.{passing, always, own_transitions, spot_transitions, idling, all_transitions, initial_form, translation}
+use Rattle.spl_translation.specs.Translation.{passing, always, own_transitions, spot_transitions, idling, translation}
 use Rattle.spl_translation.specs.Correspondence.{GoesBy, LeadsBy, Corresponds}
 use Rattle.spl_translation.proofs.Values.{blind}
-use Rattle.spl_translation.proofs.Pairs.{Matches, ModeOf, MoveOf, paired}
+use Rattle.spl_translation.proofs.Pairs.{Matches, paired}
 
 -- names with their fairness, in order
 abbrev named : PlainTransition → TransName × Fairness

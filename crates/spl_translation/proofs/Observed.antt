@@ -1,26 +1,23 @@
 -- The observation of a run of a program is that of a run of its translation.
-use Rattle.std.proofs.Common.{◌≡◌, ℕ, zero, suc, Bool, true, false, List, [], ◌∷◌, ◌++◌, map, Option, Some, refl, sym, ap, ◌∙◌, subst}
-use Rattle.std.specs.Prelude.{◌||◌, slice_get, IsTrue}
+use Rattle.std.proofs.Common.{◌≡◌, ℕ, zero, suc, Bool, true, false, List, [], ◌∷◌, map, Some, refl, sym, ap, ◌∙◌, subst}
+use Rattle.std.specs.Prelude.{◌||◌, slice_get}
 use Rattle.std.specs.List.{list_any}
 use Rattle.st_form.specs.Formula.{Formula, Situation}
-use Rattle.st_form.specs.declared.conditions.Part.{Part}
 use Rattle.st_form.specs.declared.conditions.TransName.{TransName}
 use Rattle.st_form.specs.declared.conditions.TransName.TheVariants.{Idle, Step}
-use Rattle.observations.specs.declared.Fairness.{Fairness}
-use Rattle.observations.specs.Observation.{Moment, Observation}
-use Rattle.observations.specs.Extension.{FollowsBy, IsObserved}
-use Rattle.transition_system.specs.Systems.{PlainMode, PlainTransition, System}
+use Rattle.observations.specs.Observation.{Observation}
+use Rattle.observations.specs.Extension.{FollowsBy}
+use Rattle.transition_system.specs.Systems.{PlainTransition, System}
 use Rattle.transition_system.specs.Meaning.{can_go, gone, is_enabled as can_be_taken, enabled_in, Goes, IsRun}
 use Rattle.st_program.specs.Tree.{Processes}
 use Rattle.st_program.specs.Member.{Member, here, there}
-use Rattle.st_program.specs.Residuals.{Rests}
 use Rattle.st_program.specs.Spots.{IsNumbered}
-use Rattle.spl_semantics.specs.Steps.{Act, steps_of}
-use Rattle.spl_semantics.specs.Names.{all_names, same_name}
-use Rattle.spl_semantics.specs.Runs.{State, behind_act, Leads, Follows, IsFirst, Reached, first, next, image, is_enabled, enabled_names, seen, place_in, place_of, observed, IsRunOf}
+use Rattle.spl_semantics.specs.Steps.{steps_of}
+use Rattle.spl_semantics.specs.Names.{same_name}
+use Rattle.spl_semantics.specs.Runs.{State, behind_act, Leads, Follows, IsFirst, Reached, first, next, image, is_enabled, enabled_names, seen, place_of, observed, IsRunOf}
 use Rattle.spl_semantics.proofs.Members.{member_none, at_member}
-use Rattle.spl_semantics.proofs.NameOrder.{Named, NotTwice, all_once, name_same, same_name_is, place_at}
-use Rattle.spl_translation.specs.Correspondence.{GoesBy, LeadsBy, Corresponds}
+use Rattle.spl_semantics.proofs.NameOrder.{Named, name_same, same_name_is, place_at}
+use Rattle.spl_translation.specs.Correspondence.{LeadsBy, Corresponds}
 
 -- a test that some element passes, and the element
 some_passes : {X : Type 0} (test : X → Bool) (xs : List X) → list_any test xs ≡ true → (k : ℕ) × (x : X) × (slice_get xs k ≡ Some x) × (test x ≡ true)

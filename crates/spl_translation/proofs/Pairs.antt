@@ -1,6 +1,6 @@
 -- The moves of a statement and the modes of its transitions are the same, one by one.
 use Rattle.std.proofs.Common.{◌≡◌, ℕ, zero, suc, ◌+◌, Bool, true, false, List, [], ◌∷◌, ◌++◌, map, Option, Some, None, refl, sym, ap, ◌∙◌, subst, arith}
-use Rattle.std.specs.Prelude.{◌&&◌, not, slice_get, flat_map, is_some, unwrap_or, IsSome}
+use Rattle.std.specs.Prelude.{not, slice_get, flat_map, is_some, unwrap_or, IsSome}
 use Rattle.st_linear.specs.Linear.{changed}
 use Rattle.st_form.specs.Formula.{Formula, row, negation, truth_value, every, formulas as listed, every_truth}
 use Rattle.st_form.specs.Formula as formulas
@@ -12,16 +12,16 @@ use Rattle.observations.specs.declared.Fairness.{Fairness}
 use Rattle.observations.specs.declared.Fairness.TheVariants.{Unfair, Just, Compassionate}
 use Rattle.transition_system.specs.Systems.{PlainMode, PlainTransition}
 use Rattle.st_program.specs.declared.trees.Variable.{Variable}
-use Rattle.st_program.specs.Tree.{Term, number, Piece, Pieces, piece_skip, piece_assign, piece_await, piece_if, no_piece, piece, Action, skip, critical, noncritical, assign, await, request, release, if_then, if_else, while_do, block, select, cooperate, group, Processes, location}
+use Rattle.st_program.specs.Tree.{Term, number, Piece, Pieces, piece_skip, piece_assign, piece_await, piece_if, no_piece, piece, Action, skip, critical, noncritical, assign, await, request, release, if_then, if_else, while_do, block, select, cooperate, group, location}
 use Rattle.st_program.specs.Member.{Member, here, there}
-use Rattle.st_program.specs.Groups.{Link, tested, given, paths, paths_along, Composed, nothing_composed, composed, GroupFits}
+use Rattle.st_program.specs.Groups.{Link, tested, paths, paths_along, Composed, nothing_composed, composed}
 use Rattle.st_program.specs.Types.{TestFits, PieceFits, PiecesFit, ActionFits}
 use Rattle.spl_semantics.specs.Stores.{Store, situation, holds, assigned, walked, one_less, one_more}
 use Rattle.spl_semantics.specs.Moves.{Move, move, always as allowed_always, same, test_moves, path_moves, starts, ends, own_moves}
 use Rattle.spl_semantics.proofs.Members.{member_none, member_left, member_right, member_cases}
 use Rattle.spl_semantics.proofs.Texts.{either}
-use Rattle.spl_translation.specs.Translation.{passing, moving, giving, always, numbers_of, truths_of, path_mode, path_modes, transition, whole, own_transitions}
-use Rattle.spl_translation.proofs.Values.{IsBlind, blind, Plainly, plainly, numbers-given, truths-given}
+use Rattle.spl_translation.specs.Translation.{passing, moving, giving, always, path_mode, path_modes, transition, own_transitions}
+use Rattle.spl_translation.proofs.Values.{blind, Plainly, plainly, numbers-given, truths-given}
 use Rattle.spl_translation.proofs.Paths.{PlainLink, PlainPath, nothing_stands, amounts}
 
 -- a mode does what a move does

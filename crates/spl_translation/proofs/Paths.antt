@@ -3,7 +3,7 @@
 -- Along a path the composed values, read in the store before the step, are the store that the walk has left; so a
 -- composed test is true where the test is, and a path can be walked exactly where all its composed tests hold.
 use Rattle.std.proofs.Common.{◌≡◌, ◌≢◌, ℕ, Bool, true, false, List, [], ◌∷◌, ◌++◌, Option, Some, None, ℤ, refl, sym, ap, ◌∙◌, subst, arith}
-use Rattle.std.specs.Prelude.{◌==◌, ◌&&◌, not, is_some, if◌then◌else◌, option_and_then}
+use Rattle.std.specs.Prelude.{◌==◌, ◌&&◌, is_some, if◌then◌else◌, option_and_then}
 use Rattle.std.specs.Option.{option_map}
 use Rattle.std.proofs.lemmas.Bool.Decides.{nat_tests}
 use Rattle.st_linear.specs.Linear.{Linear, value, value_or, form_for, changed, replaced}
@@ -14,7 +14,7 @@ use Rattle.st_form.specs.Exchange.{exchanged, truth_for, before}
 use Rattle.st_form.proofs.Truths.{truth-exchanged}
 use Rattle.st_program.specs.Tree.{Term, number, truth}
 use Rattle.st_program.specs.Types.{IsNoTarget}
-use Rattle.st_program.specs.Groups.{Link, tested, given, inserted, Composed, nothing_composed, exchange_of, is_written, if_written, composed_term, put, put_all, signed, met, composed_link, composed}
+use Rattle.st_program.specs.Groups.{Link, tested, given, Composed, nothing_composed, exchange_of, is_written, if_written, composed_term, put, put_all, signed, met, composed}
 use Rattle.spl_semantics.specs.Stores.{Store, situation, holds, number_given, truth_given, assigned, is_wanted, walked}
 use Rattle.spl_translation.proofs.Values.{IsBlind, BlindTerm, Plainly, put-number, put-truth}
 

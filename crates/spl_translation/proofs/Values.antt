@@ -1,6 +1,6 @@
 -- Formulas of programs don't look at locations, and values by rising variable are those of the assignment.
-use Rattle.std.proofs.Common.{◌≡◌, ◌≢◌, ℕ, Bool, true, false, List, [], ◌∷◌, Option, Some, None, ℤ, refl, sym, ap, ◌∙◌, subst, arith}
-use Rattle.std.specs.Prelude.{◌==◌, ◌&&◌, ◌||◌, not, nat_lt, if◌then◌else◌}
+use Rattle.std.proofs.Common.{◌≡◌, ◌≢◌, ℕ, Bool, true, false, List, [], ◌∷◌, Some, None, refl, sym, ap, ◌∙◌, subst, arith}
+use Rattle.std.specs.Prelude.{◌==◌, not, nat_lt, if◌then◌else◌}
 use Rattle.std.proofs.lemmas.Bool.Decides.{nat_tests}
 use Rattle.st_linear.specs.Linear.{Linear, value, value_or, form_for, changed}
 use Rattle.st_form.specs.Formula.{Formula, Formulas, truth_value, row, equal, bool_var, at, negation, every, some, none, more, Situation, every_truth, some_truth}
@@ -10,8 +10,8 @@ use Rattle.st_program.specs.declared.trees.Variable.{Variable}
 use Rattle.st_program.specs.Tree.{Term, number, truth}
 use Rattle.st_program.specs.Types.{FormulaFits, FormulasFit, TermFits, IsNoTarget, TargetsFit}
 use Rattle.st_program.specs.Groups.{inserted}
-use Rattle.spl_semantics.specs.Stores.{Store, situation, holds, number_or, truth_or, number_given, truth_given}
-use Rattle.spl_translation.specs.Translation.{number_put, truth_put, numbers_of, truths_of}
+use Rattle.spl_semantics.specs.Stores.{Store, situation, holds, number_given, truth_given}
+use Rattle.spl_translation.specs.Translation.{numbers_of, truths_of}
 
 -- the truth of the formula is the same wherever control is
 abbrev pub IsBlind : Formula → Type 0

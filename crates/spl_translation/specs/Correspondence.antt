@@ -1,5 +1,5 @@
 -- A program and a transition system that correspond: the runs of the one are, seen from outside, runs of the other.
-use Rattle.std.specs.Prelude.{◌≡◌, ℕ, suc, List, map, IsTrue}
+use Rattle.std.specs.Prelude.{◌≡◌, ℕ, suc, map, IsTrue}
 use Rattle.st_form.specs.Formula.{Formula, Situation}
 use Rattle.st_form.specs.Formula as formulas
 use Rattle.st_form.specs.declared.conditions.TransName.{TransName}

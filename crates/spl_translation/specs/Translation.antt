@@ -3,11 +3,10 @@
 -- Each statement gives its own transitions, so the translation is one list over the statements in text order (Manna and
 -- Pnueli, *Temporal Verification of Reactive Systems: Safety*, section 0.3 and 0.5). The locations that a mode enters are
 -- read on the text.
-use Rattle.std.specs.Prelude.{ℕ, Bool, true, List, [], ◌∷◌, ◌++◌, map, flat_map, Option, Some, None}
+use Rattle.std.specs.Prelude.{ℕ, true, List, [], ◌∷◌, map, flat_map, Option, Some, None}
 use Rattle.st_linear.specs.Linear.{Linear}
-use Rattle.st_form.specs.Formula.{Formula, Formulas, truth_value, row, at, negation, every, none, more, formulas}
+use Rattle.st_form.specs.Formula.{Formula, truth_value, row, at, negation, every, formulas}
 use Rattle.st_form.specs.Simple.{opened, append}
-use Rattle.st_form.specs.Exchange.{Exchange}
 use Rattle.st_form.specs.declared.conditions.Part.TheVariants.{Whole, Entry, Exit}
 use Rattle.st_form.specs.declared.conditions.TransName.{TransName}
 use Rattle.st_form.specs.declared.conditions.TransName.TheVariants.{Idle, Step}
@@ -15,8 +14,8 @@ use Rattle.observations.specs.declared.Fairness.{Fairness}
 use Rattle.observations.specs.declared.Fairness.TheVariants.{Unfair, Just, Compassionate}
 use Rattle.transition_system.specs.Systems.{PlainMode, PlainTransition, System}
 use Rattle.st_program.specs.declared.trees.Variable.{Variable}
-use Rattle.st_program.specs.Tree.{Term, number, truth, Action, skip, critical, noncritical, assign, await, request, release, if_then, if_else, while_do, block, select, cooperate, group, Statements, process, Processes, no_process, beside, occurrence, location, action}
-use Rattle.st_program.specs.Spots.{entry, Spot, all_spots}
+use Rattle.st_program.specs.Tree.{Term, number, truth, Action, skip, critical, noncritical, assign, await, request, release, if_then, if_else, while_do, block, select, cooperate, group, Processes, occurrence, location, action}
+use Rattle.st_program.specs.Spots.{Spot, all_spots}
 use Rattle.st_program.specs.Groups.{Link, paths_along, inserted, Composed, nothing_composed, composed}
 use Rattle.spl_semantics.specs.Moves.{starts, ends}
 use Rattle.spl_semantics.specs.Stores.{one_less, one_more}

@@ -1,6 +1,6 @@
 -- What a transition system keeps: numbers in range, variables used by their types, and entries within bounds.
-use Rattle.std.specs.Prelude.{◌≡◌, ℕ, suc, ◌+◌, ◌^◌, ◌<◌, ◌≤◌, Bool, true, false, List, [], ◌∷◌, length, slice_get, unsigned_abs, ℤ, Option, Some, ⊤, All}
-use Rattle.st_linear.specs.Linear.{Linear}
+use Rattle.std.specs.Prelude.{◌≡◌, ℕ, suc, ◌+◌, ◌^◌, ◌<◌, ◌≤◌, Bool, true, false, List, [], ◌∷◌, length, slice_get, unsigned_abs, ℤ, Some, ⊤, All}
+use Rattle.st_linear.specs.Linear.{Linear, AreEntries}
 use Rattle.st_form.specs.Formula.{Formula, Formulas, truth_value, row, equal, bool_var, at, negation, every, some, none, more}
 use Rattle.st_form.specs.Exchange.{Exchange}
 use Rattle.transition_system.specs.Systems.{PlainMode, PlainTransition, System}
@@ -10,7 +10,9 @@ abbrev pub EntriesWithin : List Bool → ℕ → List (ℕ × ℤ) → Type 0
 EntriesWithin truths bound [] = ⊤
 EntriesWithin truths bound (e ∷ es) = (slice_get truths e.0 ≡ Some false) × (unsigned_abs e.1 < bound) × EntriesWithin truths bound es
 
+-- variables rise in it, as in every form
 pub record LinearWithin (truths : List Bool) (bound : ℕ) (f : Linear) : Type 0 where
+  pub rising : AreEntries f.entries
   pub constant : unsigned_abs f.constant < bound
   pub entries : EntriesWithin truths bound f.entries
 

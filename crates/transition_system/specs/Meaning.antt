@@ -1,10 +1,12 @@
 -- What modes, steps and runs of a transition system are.
 --
 -- A state is a situation: the value of each variable, and at which locations control is.
-use Rattle.std.specs.Prelude.{◌≡◌, ℕ, Bool, true, ◌&&◌, IsTrue, List, [], ◌∷◌, ◌++◌, map, slice_get, Option, Some}
+use Rattle.std.specs.Prelude.{◌≡◌, ◌≢◌, ℕ, Bool, ◌&&◌, IsTrue, All, List, [], ◌∷◌, ◌++◌, map, slice_get, Some}
 use Rattle.std.specs.List.{list_any, list_all}
+use Rattle.std.specs.Option.{option_map}
 use Rattle.st_form.specs.Formula.{Formula, Situation, truth, at, every, some, formulas}
 use Rattle.st_form.specs.Exchange.{before}
+use Rattle.st_form.specs.declared.conditions.TransName.{TransName}
 use Rattle.observations.specs.Observation.{Observation}
 use Rattle.observations.specs.Extension.{IsObserved}
 use Rattle.transition_system.specs.Systems.{PlainMode, PlainTransition, System}
@@ -45,3 +47,11 @@ conditions_of m = map (λ l. at l) m.at ++ m.guard ∷ []
 -- the formula that holds where the transition is enabled
 abbrev pub enabled_form : PlainTransition → Formula
 enabled_form t = some (formulas (map (λ m. every (formulas (conditions_of m))) t.modes))
+
+-- the transition with this number has the name
+abbrev pub IsNamed : System → ℕ → TransName → Type 0
+IsNamed system number name = option_map (λ t. t.name) (slice_get system.transitions number) ≡ Some name
+
+-- no transition has the name
+abbrev pub HasNoName : System → TransName → Type 0
+HasNoName system name = All (λ t. t.name ≢ name) system.transitions

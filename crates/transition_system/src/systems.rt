@@ -1,7 +1,7 @@
 //! Transition systems.
 
-use crate::transitions::Transition;
-use st_form::Form;
+use crate::transitions::{Transition, find_among};
+use st_form::{Form, TransName};
 use std::marker::Model;
 
 /// A fair transition system: how many locations it has, whether each variable is boolean, what holds at the beginning,
@@ -27,16 +27,30 @@ impl Model for Fts {
     ghost coded = { view_code };
 
     ghost view = { λ s. record {
-        locations = s.locations;
-        truths = s.truths.items;
-        initial = s.initial;
-        transitions = s.transitions.items;
+      locations = s.locations;
+      truths = s.truths.items;
+      initial = s.initial;
+      transitions = s.transitions.items;
     } };
 
     ghost invariant = { λ s. IsSystem (plain_system (record {
-        locations = s.locations;
-        truths = s.truths.items;
-        initial = s.initial;
-        transitions = s.transitions.items;
+      locations = s.locations;
+      truths = s.truths.items;
+      initial = s.initial;
+      transitions = s.transitions.items;
     })) };
+}
+
+impl Fts {
+    ghost use Rattle.std.specs.Prelude.{◌≡◌, ◌≢◌, ℕ, IfSome, None, Some, slice_get};
+    ghost use Rattle.transition_system.specs.Meaning.{IsNamed, HasNoName};
+    ghost use Rattle.transition_system.specs.Plain.{plain_system};
+
+    /// The number of the transition with this name, or `None` where none has it.
+    pub fn find(&self, name: TransName) -> Option<u32>
+        ensures found { IfSome result (λ number. IsNamed (plain_system self.now) number name) }
+        ensures absent { result ≡ None → HasNoName (plain_system self.now) name }
+    {
+        find_among(&self.transitions, name)
+    }
 }

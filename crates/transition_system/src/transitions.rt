@@ -1,9 +1,10 @@
 //! Transitions and their modes.
 
-ghost use Rattle.std.specs.Prelude.{◌≡◌, IfOk, map};
-ghost use Rattle.st_form.specs.Formula.{Situation, truth, formulas, at, every};
-ghost use Rattle.st_form.specs.Plain.{plain, plain_list};
-ghost use Rattle.transition_system.specs.Meaning.{enabled_form, is_enabled, conditions_of};
+ghost use Rattle.std.specs.Prelude.{◌≡◌, ◌≢◌, ◌<◌, ◌^◌, ℕ, All, IfOk, IfSome, None, Some, length, map, slice_get};
+ghost use Rattle.std.specs.Option.{option_map};
+ghost use Rattle.st_form.specs.Formula.{formulas, every};
+ghost use Rattle.st_form.specs.Plain.{plain};
+ghost use Rattle.transition_system.specs.Meaning.{enabled_form, conditions_of};
 ghost use Rattle.transition_system.specs.Plain.{plain_mode, plain_transition};
 
 use observations::Fairness;
@@ -50,4 +51,18 @@ fn mode_enabled(alloc: Global, mode: &Mode) -> Result<Form, Memory>
     }
     parts.push(mode.guard.copy(alloc)?)?;
     Ok(Form::And(parts))
+}
+
+/// The place of the first transition with this name.
+pub fn find_among(transitions: &[Transition], name: TransName) -> Option<u32>
+    requires { length transitions.now < 2 ^ 32 }
+    ensures found { IfSome result (λ place. option_map (λ t. t.name) (slice_get transitions.now place) ≡ Some name) }
+    ensures absent { result ≡ None → All (λ t. t.name ≢ name) transitions.now }
+{
+    for (place, transition) in transitions.iter().enumerate() {
+        if transition.name == name {
+            return Some(place as u32);
+        }
+    }
+    None
 }

@@ -1,4 +1,4 @@
-use Rattle.std.proofs.Common.{◌≤◌, ◌<◌, ◌⊎◌, inl, inr, length, None, sym, ◌∙◌, get_or, arith}
+use Rattle.std.proofs.Common.{◌≤◌, inl, inr, length, None, sym, ◌∙◌, arith}
 use Rattle.std.proofs.Math.ListN.{get_or-eq_default}
 use Rattle.std.proofs.lemmas.Bool.{cases_lt}
 use Rattle.control_facts.proofs.PlaceLaws.{place-past}

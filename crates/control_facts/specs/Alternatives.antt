@@ -6,9 +6,9 @@
 use Rattle.std.specs.Prelude.{ℕ, suc, ◌+◌, not, ◌==◌, if◌then◌else◌, List, [], ◌∷◌, ◌++◌, map, flat_map, filter, length, Option, Some, None}
 use Rattle.st_program.specs.Tree.{Statement, stated, Action, skip, if_then, if_else, while_do, block, select, cooperate, Statements, no_statement, statement, process, Processes, no_process, beside, location}
 use Rattle.st_program.specs.Spots.{bodies, bodies_in}
-use Rattle.control_facts.specs.declared.components.Alternative.{Alternative}
-use Rattle.control_facts.specs.declared.components.Alternative.TheVariants.{Location, Inside}
-use Rattle.control_facts.specs.Control.{Strand, Control}
+use Rattle.control_states.specs.declared.alternative.Alternative.{Alternative}
+use Rattle.control_states.specs.declared.alternative.Alternative.TheVariants.{Location, Inside}
+use Rattle.control_states.specs.Control.{ComponentFacts, ControlFacts}
 
 -- the statements of a component, in text order, without what stands in the children of its cooperations
 abbrev mutual
@@ -48,10 +48,10 @@ alternatives_of ss end = flat_map (alternatives_at (own_among ss)) (once (map lo
 
 -- the components in a part of the text that stands in component c; n is the number of the first of them
 abbrev mutual
-  pub strands : Statement → ℕ → ℕ → List Strand
+  pub strands : Statement → ℕ → ℕ → List ComponentFacts
   strands (stated o l a) c n = strands_within a o c n
 
-  pub strands_within : Action → ℕ → ℕ → ℕ → List Strand
+  pub strands_within : Action → ℕ → ℕ → ℕ → List ComponentFacts
   strands_within (if_then t y) o c n = strands y c n
   strands_within (if_else t y z) o c n = strands y c n ++ strands z c (n + length (bodies y))
   strands_within (while_do t b) o c n = strands b c n
@@ -61,12 +61,12 @@ abbrev mutual
   strands_within skip o c n = []
   strands_within _ o c n = []
 
-  pub strands_among : Statements → ℕ → ℕ → List Strand
+  pub strands_among : Statements → ℕ → ℕ → List ComponentFacts
   strands_among no_statement c n = []
   strands_among (statement s ss) c n = strands s c n ++ strands_among ss c (n + length (bodies s))
 
   -- side by side; around them is a component inside its cooperation, or nothing
-  pub strands_inside : Processes → Option (ℕ × ℕ) → ℕ → List Strand
+  pub strands_inside : Processes → Option (ℕ × ℕ) → ℕ → List ComponentFacts
   strands_inside no_process around n = []
   strands_inside (beside (process ss end) ps) around n =
       record { alternatives = alternatives_of ss end; around = around }
@@ -109,5 +109,5 @@ abbrev mutual
       owners_along ss n (suc n) ++ (n ∷ owners_inside ps (suc n + length (bodies_in ss)))
 
 -- the components of a program, and of each location the component whose own it is
-abbrev pub control_of : Processes → Control
-control_of p = record { strands = strands_inside p None 0; owners = owners_inside p 0 }
+abbrev pub control_of : Processes → ControlFacts
+control_of p = record { components = strands_inside p None 0; owners = owners_inside p 0 }

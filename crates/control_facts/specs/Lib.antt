@@ -1,3 +1,1 @@
-pub mod Control
-pub mod Places
 pub mod Alternatives

@@ -13,9 +13,9 @@ use Rattle.st_program.specs.Spots.{entry, bodies, bodies_in, Spot, at_spot, spot
 use Rattle.st_program.specs.Locations.{along_end, AlongPlaced, InsidePlaced}
 use Rattle.st_program.specs.Programs.{WellFormed}
 use Rattle.st_program.specs.Residuals.{Rest, Done, Run, Then, Again, Inside, Rests, no_rest, rests}
-use Rattle.control_facts.specs.declared.components.Alternative.{Alternative}
-use Rattle.control_facts.specs.declared.components.Alternative.TheVariants.{Location, Inside as Held}
-use Rattle.control_facts.specs.Control.{Strand, strand_at, Active, process as outer, child as inner, IsOneOf, InControl}
+use Rattle.control_states.specs.declared.alternative.Alternative.{Alternative}
+use Rattle.control_states.specs.declared.alternative.Alternative.TheVariants.{Location, Inside as Held}
+use Rattle.control_states.specs.Control.{ComponentFacts, component_at, Active, process as outer, child as inner, IsOneOf, InControl}
 use Rattle.control_facts.specs.Alternatives.{alternatives_of, strands, strands_among, strands_inside, owners_along, owners_inside, control_of}
 use Rattle.spl_semantics.specs.Control.{children_of, children_at}
 use Rattle.spl_semantics.specs.Runs.{State, Reached, control, image}
@@ -30,15 +30,15 @@ use Rattle.spl_semantics.proofs.Tables.{numbers, Table, Given, NotTwice, before_
 use Rattle.spl_semantics.proofs.Strands.{near_own_along, one_of, at_end, at_statement, at_inside, count, count_among, near_strands_along, owned_along, near_owned_along}
 
 -- components with their numbers
-abbrev numbered : List Strand → ℕ → List (ℕ × Strand)
+abbrev numbered : List ComponentFacts → ℕ → List (ℕ × ComponentFacts)
 numbered [] n = []
 numbered (x ∷ xs) n = (n, x) ∷ numbered xs (suc n)
 
-numbered-append : (xs ys : List Strand) (n m : ℕ) → n + length xs ≡ m → numbered (xs ++ ys) n ≡ numbered xs n ++ numbered ys m
+numbered-append : (xs ys : List ComponentFacts) (n m : ℕ) → n + length xs ≡ m → numbered (xs ++ ys) n ≡ numbered xs n ++ numbered ys m
 numbered-append [] ys n m e = ap (numbered ys) (let f : n ≡ m = omega arith in f)
 numbered-append (x ∷ xs) ys n m e = ap (λ z. (n, x) ∷ z) (numbered-append xs ys (suc n) m (omega arith))
 
-in_numbered : (xs : List Strand) (n k : ℕ) (x : Strand) → slice_get xs k ≡ Some x → Member (n + k, x) (numbered xs n)
+in_numbered : (xs : List ComponentFacts) (n k : ℕ) (x : ComponentFacts) → slice_get xs k ≡ Some x → Member (n + k, x) (numbered xs n)
 in_numbered [] n k x q = cc
 in_numbered (y ∷ xs) n zero x q =
     let same : y ≡ x = cc in
@@ -49,17 +49,17 @@ in_numbered (y ∷ xs) n (suc k) x q =
     there (subst (λ z. Member (z, x) (numbered xs (suc n))) e (in_numbered xs (suc n) k x q))
 
 -- what is around a component in a part of the text: a cooperation of that part, whose child it is
-pub record ChildIn (all : List Spot) (k : ℕ) (x : Strand) : Type 0 where
+pub record ChildIn (all : List Spot) (k : ℕ) (x : ComponentFacts) : Type 0 where
   pub outer_number : ℕ
   pub at : Spot
   pub is_in : Member at all
   pub around_is : x.around ≡ Some (outer_number, occurrence at.stmt)
   pub is_child : Member k (numbers (children_of (action at.stmt)) at.before)
 
-wider_child : (k : ℕ) (x : Strand) (all more : List Spot) → ((y : Spot) → Member y all → Member y more) → ChildIn all k x → ChildIn more k x
+wider_child : (k : ℕ) (x : ComponentFacts) (all more : List Spot) → ((y : Spot) → Member y all → Member y more) → ChildIn all k x → ChildIn more k x
 wider_child k x all more f c = record { outer_number = c.outer_number; at = c.at; is_in = f c.at c.is_in; around_is = c.around_is; is_child = c.is_child }
 
-module _ (k : ℕ) (x : Strand) where
+module _ (k : ℕ) (x : ComponentFacts) where
   mutual
     child_in : (s : Statement) (e c n : ℕ) → Member (k, x) (numbered (strands s c n) n) → ChildIn (spots s e n) k x
     child_in (stated o l (cooperate ps)) e c n m =
@@ -106,12 +106,12 @@ module _ (k : ℕ) (x : Strand) where
         (λ r. inl (r.0, there r.1))
         (λ r. inr (wider_child k x _ _ (λ y i. member_right (spots_along ss end (suc n)) i) r)))
 
-found_at : (xs : List Strand) (k : ℕ) (x : Strand) → slice_get xs k ≡ Some x → (strand_at xs k ≡ x) × (k < length xs)
+found_at : (xs : List ComponentFacts) (k : ℕ) (x : ComponentFacts) → slice_get xs k ≡ Some x → (component_at xs k ≡ x) × (k < length xs)
 found_at [] k x q = cc
 found_at (y ∷ xs) zero x q = (cc, omega arith)
 found_at (y ∷ xs) (suc k) x q = let r = found_at xs k x q in (r.0, let lt = r.1 in omega arith)
 
-at_found : (xs : List Strand) (k : ℕ) → k < length xs → slice_get xs k ≡ Some (strand_at xs k)
+at_found : (xs : List ComponentFacts) (k : ℕ) → k < length xs → slice_get xs k ≡ Some (component_at xs k)
 at_found [] k h = absurd (omega arith)
 at_found (y ∷ xs) zero h = refl
 at_found (y ∷ xs) (suc k) h = at_found xs k (omega arith)
@@ -159,8 +159,8 @@ inside_own y z i = go y.stmt y.next y.before i
     go (stated o l _) n c i = member_none i
 
 module _ (p : Processes) (layout : Layout p) (in_text : InsidePlaced p 0) where
-  abbrev parts : List Strand
-  parts = (control_of p).strands
+  abbrev parts : List ComponentFacts
+  parts = (control_of p).components
 
   abbrev whose : List ℕ
   whose = (control_of p).owners
@@ -169,7 +169,7 @@ module _ (p : Processes) (layout : Layout p) (in_text : InsidePlaced p 0) where
   module _ (m : ℕ → Alternative) where
     pub record Right (k : ℕ) (a : Alternative) : Type 0 where
       pub active : Active parts m k
-      pub among : IsOneOf a (strand_at parts k).alternatives
+      pub among : IsOneOf a (component_at parts k).alternatives
       pub owner : (l : ℕ) → a ≡ Location l → slice_get whose l ≡ Some k
 
     abbrev AllRight : Table → Type 0
@@ -181,7 +181,7 @@ module _ (p : Processes) (layout : Layout p) (in_text : InsidePlaced p 0) where
     -- component c has these statements and this end, and its places in the lists are these
     pub record Stands (ss : Statements) (c end f : ℕ) : Type 0 where
       pub active : Active parts m c
-      pub alternatives : (strand_at parts c).alternatives ≡ alternatives_of ss end
+      pub alternatives : (component_at parts c).alternatives ≡ alternatives_of ss end
       pub inner : HasAt parts (suc c) (strands_among ss c (suc c))
       pub placed : AlongPlaced ss f
       pub owners : HasAt whose f (owners_along ss c (suc c))
@@ -221,7 +221,7 @@ module _ (p : Processes) (layout : Layout p) (in_text : InsidePlaced p 0) where
           let named : n ≡ fits.0 = sym (layout.numbered n y fits.4) in
           subst (λ z. Right z.0 z.1) (sym q) record {
             active = st.active;
-            among = subst (λ z. IsOneOf (Held z) (strand_at parts c).alternatives) (sym named)
+            among = subst (λ z. IsOneOf (Held z) (component_at parts c).alternatives) (sym named)
                 (subst (IsOneOf (Held fits.0)) (sym st.alternatives) (one_of _ _ (at_inside ss end fits.0 fits.1 fits.2 (near_own_along y ss end (suc c) fits.7))));
             owner = λ l q. absurd (no_location l n q);
           }
@@ -243,7 +243,7 @@ module _ (p : Processes) (layout : Layout p) (in_text : InsidePlaced p 0) where
           along_closed : (y z : Spot) → Member y (spots_along ss end (suc c)) → Member z (spots_inside (children_of (action y.stmt)) y.before) → Member z (spots_along ss end (suc c))
           along_closed y z h i = (along_region p ss end (suc c) sub).closed_in y z h (inside_own y z i)
 
-      all_right : (rs : Rests) (ps : Processes) (around : Option (ℕ × ℕ)) (c f : ℕ) → FitsAll p rs ps c → HasAt parts c (strands_inside ps around c) → ((k : ℕ) → k < length parts → (strand_at parts k).around ≡ around → Active parts m k) → InsidePlaced ps f → HasAt whose f (owners_inside ps c) → Agrees (tables rs p ps c) → ((y : Spot) → Member y (spots_inside ps c) → Member y (all_spots p)) → AllRight (tables rs p ps c)
+      all_right : (rs : Rests) (ps : Processes) (around : Option (ℕ × ℕ)) (c f : ℕ) → FitsAll p rs ps c → HasAt parts c (strands_inside ps around c) → ((k : ℕ) → k < length parts → (component_at parts k).around ≡ around → Active parts m k) → InsidePlaced ps f → HasAt whose f (owners_inside ps c) → Agrees (tables rs p ps c) → ((y : Spot) → Member y (spots_inside ps c) → Member y (all_spots p)) → AllRight (tables rs p ps c)
       all_right no_rest ps around c f fits places active pl own agrees sub k a i = member_none i
       all_right (rests r rs) no_process around c f fits places active pl own agrees sub k a i = member_none i
       all_right (rests r rs) (beside (process ss end) ps) around c f fits places active pl own agrees sub k a i =
@@ -281,10 +281,10 @@ module _ (p : Processes) (layout : Layout p) (in_text : InsidePlaced p 0) where
         all_right place_of s.left p None 0 0 fits (has_all [] parts) (λ k lt around. outer k lt around) in_text (has_all [] whose) agreed (λ y i. i) k a i
 
     -- a component of the list is a process, or a child of a cooperation
-    origin_of : (c : ℕ) → c < length parts → (((strand_at parts c).around ≡ None) × Member c (numbers p 0)) ⊎ ChildIn (all_spots p) c (strand_at parts c)
+    origin_of : (c : ℕ) → c < length parts → (((component_at parts c).around ≡ None) × Member c (numbers p 0)) ⊎ ChildIn (all_spots p) c (component_at parts c)
     origin_of c lt =
         let e : 0 + c ≡ c = omega arith in
-        child_inside c (strand_at parts c) p None 0 (subst (λ z. Member (z, strand_at parts c) (numbered parts 0)) e (in_numbered parts 0 c (strand_at parts c) (at_found parts c lt)))
+        child_inside c (component_at parts c) p None 0 (subst (λ z. Member (z, component_at parts c) (numbered parts 0)) e (in_numbered parts 0 c (component_at parts c) (at_found parts c lt)))
 
     is_given : (c : ℕ) → Active parts place_of c → Given at_all c
     is_given c (outer _ lt none) =
@@ -295,7 +295,7 @@ module _ (p : Processes) (layout : Layout p) (in_text : InsidePlaced p 0) where
     is_given c (inner _ a o lt way act is) =
         inner_given (is_given a act) (origin_of c lt)
       where
-        inner_given : Given at_all a → (((strand_at parts c).around ≡ None) × Member c (numbers p 0)) ⊎ ChildIn (all_spots p) c (strand_at parts c) → Given at_all c
+        inner_given : Given at_all a → (((component_at parts c).around ≡ None) × Member c (numbers p 0)) ⊎ ChildIn (all_spots p) c (component_at parts c) → Given at_all c
         inner_given g (inl r) = given_numbers p layout s.left p 0 c fits r.1
         inner_given g (inr r) =
             let pair : Some (r.outer_number, occurrence r.at.stmt) ≡ Some (a, o) = sym r.around_is ∙ way in
@@ -311,7 +311,7 @@ module _ (p : Processes) (layout : Layout p) (in_text : InsidePlaced p 0) where
     meets = record {
       state = λ c act.
           let g = is_given c act in
-          subst (λ z. IsOneOf z (strand_at parts c).alternatives) (sym (agreed c g.0 g.1)) (right c g.0 g.1).among;
+          subst (λ z. IsOneOf z (component_at parts c).alternatives) (sym (agreed c g.0 g.1)) (right c g.0 g.1).among;
       located = λ l. (
         λ h. let g = all_from p layout s.left p 0 fits l (is_member l (control p s) h) in
             let r = right g.0 (Location l) g.1 in

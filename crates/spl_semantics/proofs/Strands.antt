@@ -6,9 +6,9 @@ use Rattle.st_program.specs.Tree.{Statement, stated, Action, skip, if_then, if_e
 use Rattle.st_program.specs.Member.{Member, here, there}
 use Rattle.st_program.specs.Spots.{entry, bodies, bodies_inside, bodies_in, bodies_of, Spot, at_spot}
 use Rattle.st_program.specs.Locations.{location_end, within_end, head_end, along_end, among_end, inside_end, IsPlaced, HeadPlaced, AlongPlaced, AmongPlaced, InsidePlaced}
-use Rattle.control_facts.specs.declared.components.Alternative.{Alternative}
-use Rattle.control_facts.specs.declared.components.Alternative.TheVariants.{Location, Inside as Held}
-use Rattle.control_facts.specs.Control.{Strand, IsOneOf}
+use Rattle.control_states.specs.declared.alternative.Alternative.{Alternative}
+use Rattle.control_states.specs.declared.alternative.Alternative.TheVariants.{Location, Inside as Held}
+use Rattle.control_states.specs.Control.{ComponentFacts, IsOneOf}
 use Rattle.control_facts.specs.Alternatives.{own, own_within, own_among, once, inside_at, alternatives_at, alternatives_of, strands, strands_within, strands_among, strands_inside, owners, owners_within, owners_head, owners_along, owners_among, owners_inside}
 use Rattle.spl_semantics.proofs.Members.{member_none, member_left, member_right, member_cases, map_member}
 use Rattle.spl_semantics.proofs.Texts.{either, near, near_within, near_along, near_among}
@@ -121,7 +121,7 @@ mutual
       let x = count_among ss n (suc n) in let y = count_inside ps around (suc n + length (bodies_in ss)) in omega arith
 
 -- the components that stand in a statement near in a part of the text have their places in the list
-module _ (all : List Strand) (c : ℕ) (y : Spot) where
+module _ (all : List ComponentFacts) (c : ℕ) (y : Spot) where
   abbrev Placed : Type 0
   Placed = HasAt all y.before (strands y.stmt c y.before)
 

@@ -4,8 +4,8 @@ use Rattle.st_program.specs.Tree.{Statement, stated, Action, skip, if_then, if_e
 use Rattle.st_program.specs.Member.{Member, here, there}
 use Rattle.st_program.specs.Spots.{entry, bodies, bodies_inside, bodies_in, bodies_of, Spot, at_spot, spots, spots_within, spots_along, spots_among, spots_inside, spot}
 use Rattle.st_program.specs.Residuals.{Rest, Done, Run, Then, Again, Inside, Rests, no_rest, rests}
-use Rattle.control_facts.specs.declared.components.Alternative.{Alternative}
-use Rattle.control_facts.specs.declared.components.Alternative.TheVariants.{Location, Inside as Held}
+use Rattle.control_states.specs.declared.alternative.Alternative.{Alternative}
+use Rattle.control_states.specs.declared.alternative.Alternative.TheVariants.{Location, Inside as Held}
 use Rattle.spl_semantics.specs.Control.{children_of, children_at, location_at, front, fronts}
 use Rattle.spl_semantics.proofs.Members.{member_none, member_left, member_right, member_cases}
 use Rattle.spl_semantics.proofs.Texts.{either, near_along}

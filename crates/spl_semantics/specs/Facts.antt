@@ -3,8 +3,8 @@ use Rattle.std.specs.Prelude.{ℕ, ◌≤◌, List, ◌++◌, length}
 use Rattle.st_form.specs.declared.conditions.TransName.{TransName}
 use Rattle.observations.specs.Rounds.{Rounds}
 use Rattle.st_program.specs.Tree.{Processes}
-use Rattle.control_facts.specs.declared.components.Alternative.{Alternative}
-use Rattle.control_facts.specs.Control.{InControl}
+use Rattle.control_states.specs.declared.alternative.Alternative.{Alternative}
+use Rattle.control_states.specs.Control.{InControl}
 use Rattle.control_facts.specs.Alternatives.{control_of}
 use Rattle.spl_semantics.specs.Runs.{State, Follows, image, observed}
 

@@ -14,7 +14,7 @@ use Rattle.observations.specs.declared.Fairness.{Fairness}
 use Rattle.observations.specs.declared.Fairness.TheVariants.{Unfair}
 use Rattle.transition_system.specs.Systems.{PlainMode, PlainTransition, System}
 use Rattle.transition_system.specs.Meaning.{can_go, gone, Goes}
-use Rattle.st_program.specs.declared.trees.Variable.{Variable}
+use Rattle.st_form.specs.declared.variables.Variable.{Variable}
 use Rattle.st_program.specs.Tree.{Action, skip, critical, noncritical, assign, await, request, release, if_then, if_else, while_do, block, select, cooperate, group, Processes, occurrence, location, action}
 use Rattle.st_program.specs.Member.{Member, here, there}
 use Rattle.st_program.specs.Spots.{Spot, all_spots}

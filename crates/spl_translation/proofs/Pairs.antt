@@ -11,7 +11,7 @@ use Rattle.st_form.specs.declared.conditions.TransName.TheVariants.{Step}
 use Rattle.observations.specs.declared.Fairness.{Fairness}
 use Rattle.observations.specs.declared.Fairness.TheVariants.{Unfair, Just, Compassionate}
 use Rattle.transition_system.specs.Systems.{PlainMode, PlainTransition}
-use Rattle.st_program.specs.declared.trees.Variable.{Variable}
+use Rattle.st_form.specs.declared.variables.Variable.{Variable}
 use Rattle.st_program.specs.Tree.{Term, number, Piece, Pieces, piece_skip, piece_assign, piece_await, piece_if, no_piece, piece, Action, skip, critical, noncritical, assign, await, request, release, if_then, if_else, while_do, block, select, cooperate, group, location}
 use Rattle.st_program.specs.Member.{Member, here, there}
 use Rattle.st_program.specs.Groups.{Link, tested, paths, paths_along, Composed, nothing_composed, composed}

@@ -6,7 +6,7 @@ use Rattle.st_linear.specs.Linear.{Linear, value, value_or, form_for, changed}
 use Rattle.st_form.specs.Formula.{Formula, Formulas, truth_value, row, equal, bool_var, at, negation, every, some, none, more, Situation, every_truth, some_truth}
 use Rattle.st_form.specs.Formula as formulas
 use Rattle.st_form.specs.Exchange.{truth_for}
-use Rattle.st_program.specs.declared.trees.Variable.{Variable}
+use Rattle.st_form.specs.declared.variables.Variable.{Variable}
 use Rattle.st_program.specs.Tree.{Term, number, truth}
 use Rattle.st_program.specs.Types.{FormulaFits, FormulasFit, TermFits, IsNoTarget, TargetsFit}
 use Rattle.st_program.specs.Groups.{inserted}

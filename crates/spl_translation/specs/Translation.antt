@@ -13,7 +13,7 @@ use Rattle.st_form.specs.declared.conditions.TransName.TheVariants.{Idle, Step}
 use Rattle.observations.specs.declared.Fairness.{Fairness}
 use Rattle.observations.specs.declared.Fairness.TheVariants.{Unfair, Just, Compassionate}
 use Rattle.transition_system.specs.Systems.{PlainMode, PlainTransition, System}
-use Rattle.st_program.specs.declared.trees.Variable.{Variable}
+use Rattle.st_form.specs.declared.variables.Variable.{Variable}
 use Rattle.st_program.specs.Tree.{Term, number, truth, Action, skip, critical, noncritical, assign, await, request, release, if_then, if_else, while_do, block, select, cooperate, group, Processes, occurrence, location, action}
 use Rattle.st_program.specs.Spots.{Spot, all_spots}
 use Rattle.st_program.specs.Groups.{Link, paths_along, inserted, Composed, nothing_composed, composed}

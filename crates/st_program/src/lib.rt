@@ -8,7 +8,8 @@ pub mod trees;
 
 pub use programs::Program;
 pub use residuals::{Datum, Residual, State};
-pub use trees::{Child, Inner, Kind, Stmt, Value, Variable};
+pub use st_form::Variable;
+pub use trees::{Child, Inner, Kind, Stmt, Value};
 
 #[cfg(test)]
 mod tests {

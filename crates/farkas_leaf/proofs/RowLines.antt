@@ -47,8 +47,7 @@ signed-rows lines (p ∷ ps) = (λ e. omega (arith, ints), signed-rows lines ps)
 pub closes-lines : (rows : List Linear) (picks : List (ℕ × ℕ)) → of_rows.Closes rows picks ↔ of_lines.Closes (map as_row rows) (signed_picks (λ n. pos n) picks)
 closes-lines rows picks =
     let same = total-rows rows picks in
-    let long = length-map rows as_row in
-    (
+    let long = length-map rows as_row in (
       λ h. record {
         rising = rw long (rise-lines (length rows) 0 picks h.rising);
         signed = signed-rows (map as_row rows) picks;

@@ -58,3 +58,7 @@ coefficient v (e ∷ es) = (if e.0 == v then e.1 else pos 0) +ℤ coefficient v 
 -- picks with their multipliers as whole numbers
 abbrev pub signed_picks : {M : Type 0} → (M → ℤ) → List (ℕ × M) → List (ℕ × ℤ)
 signed_picks signed picks = map (λ p. (p.0, signed p.1)) picks
+
+-- the sum of the picked multiples, where lines and multipliers are read from other types
+abbrev pub picked_sum : {L M : Type 0} → (L → Line) → (M → ℤ) → List L → List (ℕ × M) → Linear
+picked_sum line signed lines picks = total (map line lines) (signed_picks signed picks)

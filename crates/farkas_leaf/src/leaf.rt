@@ -4,7 +4,7 @@ ghost use Rattle.std.specs.Prelude.{◌<◌, ◌≤◌, ◌^◌, ◌↔◌, IsTr
 ghost use Rattle.farkas_leaf.specs.Leaf.{Closes, HaveNoSolution};
 ghost use Rattle.st_linear.specs.Linear.{IsSlim};
 
-use crate::sums::closes;
+use crate::closing::closes;
 use st_linear::Lin;
 
 /// Whether row numbers rise and are in range, and the sum of the picked multiples is a negative constant. It takes no memory.

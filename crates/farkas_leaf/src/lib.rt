@@ -1,11 +1,17 @@
 //! Leaves of certificates: sums of rows and equations that no whole values meet, by Farkas' lemma.
 #![tactic(auto)]
 
+mod balance;
+mod closing;
 mod leaf;
 mod lines;
+mod picks;
 mod sums;
 mod terms;
 mod window;
 
 pub use leaf::leaf_closes;
 pub use lines::linear_closes;
+
+#[cfg(test)]
+mod tests;

@@ -4,7 +4,7 @@ ghost use Rattle.std.specs.Prelude.{◌<◌, ◌≤◌, ◌^◌, ◌↔◌, IsTr
 ghost use Rattle.farkas_leaf.specs.Lines.{Closes, HaveNoSolution};
 ghost use Rattle.st_linear.specs.Linear.{IsSlim};
 
-use crate::sums::closes;
+use crate::closing::closes;
 use st_linear::Line;
 
 /// Whether line numbers rise and are in range, no row has a negative multiplier, and the sum of the picked multiples is a negative

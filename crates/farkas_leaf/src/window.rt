@@ -1,11 +1,12 @@
-//! Running sums of coefficients, over a window of variables.
+//! Running sums of coefficients over a window of 64 variables. They stand in a fixed table, so that adding up takes no memory and
+//! goes over the picked entries once for each window that is touched; a problem's variables all lie in the first.
 
-ghost use Rattle.std.specs.Prelude.{◌≡◌, ◌+◌, ◌<◌, ◌≤◌, ◌^◌, ℕ, All, IfSome, length, pos, ◌*ℤ◌, ◌+ℤ◌, unsigned_abs, slice_index_or};
+ghost use Rattle.std.specs.Prelude.{◌↔◌, IsTrue, ◌≡◌, ◌+◌, ◌<◌, ◌≤◌, ◌^◌, ℕ, All, IfSome, length, pos, ◌*ℤ◌, ◌+ℤ◌, unsigned_abs, slice_index_or};
 ghost use Rattle.st_linear.specs.Linear.{AreEntries};
 ghost use Rattle.farkas_leaf.specs.Lines.{coefficient};
-ghost use Rattle.farkas_leaf.specs.Windows.{IsClear};
+ghost use Rattle.farkas_leaf.specs.Windows.{IsClear, nearer};
 
-/// How many variables are summed in one pass. A problem has at most as many.
+/// How many variables are summed in one pass. A program has at most as many.
 pub const WIDTH: usize = 64;
 
 /// A number times a multiplier.
@@ -57,4 +58,34 @@ pub fn add_multiple(
         sums[place] = sum_with(&sums[place], &e.1, by);
     }
     None
+}
+
+pub fn no_sums() -> [i128; WIDTH]
+    ensures { (j : ℕ) → slice_index_or result j (pos 0) ≡ pos 0 }
+{
+    [0; WIDTH]
+}
+
+pub fn are_zero(sums: &[i128; WIDTH]) -> bool
+    ensures { IsTrue result ↔ ((j : ℕ) → j < 64 → slice_index_or sums.now j (pos 0) ≡ pos 0) }
+{
+    for sum in sums {
+        if *sum != 0 {
+            return false;
+        }
+    }
+    true
+}
+
+/// The lesser of two variables, where there are such.
+pub fn nearer(a: Option<u64>, b: Option<u64>) -> Option<u64>
+    ensures { result ≡ nearer a b }
+{
+    match a {
+        None => b,
+        Some(v) => match b {
+            None => Some(v),
+            Some(w) => if w < v { Some(w) } else { Some(v) },
+        },
+    }
 }

@@ -6,3 +6,8 @@ pub mod Loops
 pub mod CountedLoops
 pub mod Quiet
 pub mod ExpressionLaw
+pub mod Witnesses
+pub mod ListLaw
+pub mod StatementLaw
+pub mod BodyLaw
+pub mod WholeLaw

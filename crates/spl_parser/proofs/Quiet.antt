@@ -9,7 +9,7 @@ use Rattle.st_reading.specs.declared.sign.Sign.{Sign}
 use Rattle.st_reading.specs.declared.sign.Sign.TheVariants as signs
 use Rattle.st_reading.specs.Mark.{number}
 use Rattle.st_reading.specs.Sign.{sign_of, is}
-use Rattle.spl_parser.specs.Calm.{loud, calm, calm_but}
+use Rattle.spl_parser.specs.Calm.{loud, calm, calm_but, calm_but2}
 use Rattle.spl_parser.specs.Signs.{product_sign, sum_sign, comparison_sign}
 use Rattle.spl_parser.specs.Reading.{only}
 
@@ -99,3 +99,17 @@ but_none m g h = let e = not_true (is g m) (and_parts (calm g) (not (is g m)) h)
 pub but_false : (m : Mark) (g : Sign) → calm_but m g ≡ true → is g m ≡ false
 unfolding calm_but
 but_false m g h = not_true (is g m) (and_parts (calm g) (not (is g m)) h).1
+
+pub but2_but : (m k : Mark) (g : Sign) → calm_but2 m k g ≡ true → calm_but m g ≡ true
+unfolding calm_but2
+but2_but m k g h = (and_parts (calm_but m g) (not (is g k)) h).0
+
+pub but2_other : (m k : Mark) (g : Sign) → calm_but2 m k g ≡ true → calm_but k g ≡ true
+unfolding calm_but2 calm_but
+but2_other m k g h =
+    let a = and_parts (calm_but m g) (not (is g k)) h in
+    let b = and_parts (calm g) (not (is g m)) a.0 in
+    rw (b.0, a.1) refl
+
+pub but2_none : (m k : Mark) (g : Sign) → calm_but2 m k g ≡ true → only m g ≡ None
+but2_none m k g h = but_none m g (but2_but m k g h)

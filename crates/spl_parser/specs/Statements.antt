@@ -59,6 +59,27 @@ unfoldable pub listed_of : {A : Type 0} → Reader A → Reader (List A)
 listed_of r s =
     then_reads r (λ x. then_reads (expected marks.Comma) (λ m. then_reads r (λ y. then_reads (further marks.Comma r (x ∷ y ∷ [])) (λ xs. then_reads (expected marks.Close) (λ m. gives xs))))) s
 
+-- a statement is an item
+abbrev pub an_item : Counted Statement → Counted Item
+an_item x = (item x.0, x.1)
+
+-- the body ends, or goes on
+abbrev pub turned_by : List Statement → Counted Item → Turn (Counted Body) (Counted (List Statement))
+turned_by xs (last l, n) = leaves (body (statements xs) (Some l), n)
+turned_by xs (item x, n) = goes (xs ++ x ∷ [], n)
+
+-- "]"
+abbrev pub closed_body : Counted (List Statement) → Reader (Counted Body)
+closed_body xs = then_reads (expected marks.CloseBlock) (λ m. gives (body (statements xs.0) None, xs.1))
+
+-- a list up to a mark
+abbrev pub enclosed : {A : Type 0} → (List A → Action) → Mark → Reader (Counted (List A)) → Reader (Counted Action)
+enclosed action mark r = then_reads r (λ xs. then_reads (expected mark) (λ m. gives (action xs.0, xs.1)))
+
+-- a statement that stands there
+abbrev pub standing : Option Label → ℕ → Counted Action → Counted Statement
+standing label place a = (stated label place a.0, a.1)
+
 module _ (value : Reader Expr) where
   -- ":=" expr
   unfoldable pub right_side_of : Reader Expr
@@ -83,10 +104,6 @@ module _ (value : Reader Expr) where
     selection_of n s =
         then_reads (lower (fresh false) n) (λ x. then_reads (expected marks.Either) (λ m. then_reads (lower (fresh false) x.1) (λ y. linked marks.Either (lower (fresh false)) (x.0 ∷ y.0 ∷ [], y.1)))) s
 
-    -- a statement is an item
-    abbrev pub an_item : Counted Statement → Counted Item
-    an_item x = (item x.0, x.1)
-
     -- behind a name and a colon
     abbrev pub labelled_item : ℕ → Label → Reader (Counted Item)
     labelled_item n l s = cond (is (ahead s) marks.CloseBlock) (Ok ((last l, n), behind s)) (then_reads (lower (after_label l) n) (λ x. gives (an_item x)) s)
@@ -98,17 +115,8 @@ module _ (value : Reader Expr) where
     unfoldable pub item_of : ℕ → Reader (Counted Item)
     item_of n s = cond (is_name (ahead s)) (named_item n (name_of s) (behind s)) (then_reads (lower (fresh false) n) (λ x. gives (an_item x)) s)
 
-    -- the body ends, or goes on
-    abbrev pub turned_by : List Statement → Counted Item → Turn (Counted Body) (Counted (List Statement))
-    turned_by xs (last l, n) = leaves (body (statements xs) (Some l), n)
-    turned_by xs (item x, n) = goes (xs ++ x ∷ [], n)
-
     abbrev pub continuing : Unit {0} → ℕ → Counted (List Statement) → Reader (Turn (Counted Body) (Counted (List Statement)))
     continuing o place xs = then_reads (item_of xs.1) (λ x. gives (turned_by xs.0 x))
-
-    -- "]"
-    abbrev pub closed_body : Counted (List Statement) → Reader (Counted Body)
-    closed_body xs = then_reads (expected marks.CloseBlock) (λ m. gives (body (statements xs.0) None, xs.1))
 
     -- { ";" statement } [ ";" name ":" ] "]"
     abbrev pub rest_of_body : Counted (List Statement) → Reader (Counted Body)
@@ -140,10 +148,6 @@ module _ (value : Reader Expr) where
     abbrev pub doing : (Statement → Action) → ℕ → Reader (Counted Action)
     doing action n = then_reads (expected marks.Do) (λ m. then_reads (lower (fresh false) n) (λ x. gives (action x.0, x.1)))
 
-    -- statements up to a mark
-    abbrev pub enclosed : (List Statement → Action) → Mark → Reader (Counted (List Statement)) → Reader (Counted Action)
-    enclosed action mark r = then_reads r (λ xs. then_reads (expected mark) (λ m. gives (action xs.0, xs.1)))
-
     -- Behind the first token of a statement; where it is a name, l is that name.
     unfoldable pub action_of : Bool → ℕ → Label → Start → Reader (Counted Action)
     action_of inner n l starts.Named s = then_reads right_side_of (λ e. gives (assign l e, n)) s
@@ -159,12 +163,8 @@ module _ (value : Reader Expr) where
     action_of inner n l starts.Loop s = then_reads (expected marks.Forever) (λ m. doing forever n) s
     action_of inner n l starts.Block s = enclosed (λ xs. block (statements xs)) marks.CloseBlock (sequence_of inner n) s
     action_of inner n l starts.Select s = then_reads (expected marks.OpenBlock) (λ m. enclosed (λ xs. select (statements xs)) marks.CloseBlock (selection_of n)) s
-    action_of inner n l starts.Cooperate s = then_reads (children_of n) (λ xs. then_reads (expected marks.Coend) (λ m. gives (cooperate (bodies xs.0), xs.1))) s
+    action_of inner n l starts.Cooperate s = enclosed (λ xs. cooperate (bodies xs)) marks.Coend (children_of n) s
     action_of inner n l starts.Group s = enclosed (λ xs. group (statements xs)) marks.CloseGroup (sequence_of true n) s
-
-    -- a statement that stands there
-    abbrev pub standing : Option Label → ℕ → Counted Action → Counted Statement
-    standing label place a = (stated label place a.0, a.1)
 
     -- a statement behind its label
     unfoldable pub bare_of : Bool → Option Label → ℕ → Reader (Counted Statement)

@@ -1,3 +1,4 @@
+-- A list of formulas is exchanged one after the other.
 use Rattle.std.proofs.Common.{◌≡◌, ℕ, ◌+◌, ◌<◌, ◌≤◌, List, [], ◌∷◌, ◌++◌, length, drop, get_or, refl, ap, ◌∙◌, sym, Option, Some, None}
 use Rattle.std.specs.Prelude.{option_and_then}
 use Rattle.std.specs.Option.{option_map}
@@ -5,9 +6,13 @@ use Rattle.std.proofs.lemmas.List.{drop_more}
 use Rattle.std.proofs.Math.ListN.{drop_of_length-le}
 use Rattle.st_form.specs.Formula.{Formulas, none, more}
 use Rattle.st_form.specs.Plain.{plain, plain_list}
-use Rattle.st_form.specs.Onto.{onto}
 use Rattle.st_form.specs.Exchange.{Exchange, exchanged, all_exchanged}
 use Rattle.st_form.specs.declared.formulas.Form.{Form}
+
+-- formulas of the program in front of others
+abbrev pub onto : List Form → Formulas → Formulas
+onto [] gs = gs
+onto (f ∷ fs) gs = more (plain f) (onto fs gs)
 
 onto-push : (fs : List Form) (f : Form) (gs : Formulas) → onto (fs ++ f ∷ []) gs ≡ onto fs (more (plain f) gs)
 onto-push [] f gs = refl

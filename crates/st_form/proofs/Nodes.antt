@@ -1,3 +1,4 @@
+-- The plain data of each node, for proofs over formulas of the program.
 use Rattle.std.proofs.Common.{◌≡◌, true, false, sym, ap, ◌∙◌}
 use Rattle.std.proofs.Common.{Vec, Box, Global}
 use Rattle.st_form.specs.Formula.{Formula, truth_value, negation, every, some}

@@ -1,3 +1,4 @@
+-- The simplified formula is true in the same situations.
 use Rattle.std.proofs.Common.{◌≡◌, ◌≢◌, ℕ, zero, suc, ◌*◌, ◌%◌, ◌<◌, ◌≤◌, Bool, true, false, List, [], ◌∷◌, refl, ap, ◌∙◌, sym, subst, Option, Some, None, arith, ℤ, pos, negsuc, ◌+ℤ◌, ◌*ℤ◌, neg_ℤ}
 use Rattle.std.specs.Prelude.{not, ◌&&◌, ◌||◌, ◌==◌, int_le, unsigned_abs, option_and_then, if◌then◌else◌}
 use Rattle.std.specs.Option.{option_map}
@@ -14,12 +15,7 @@ use Rattle.st_linear.specs.Simple.{common_divisor, divided, complement, lowered,
 use Rattle.st_linear.proofs.Ints.{+ℤ-*ℤ}
 use Rattle.st_linear.proofs.Dividing.{sign-divided, common_divisor-divides, value-negated, value-complement, value-lowered, value-divided_whole, value-divided, quotient-rest, rest_of, rest_of-lt}
 use Rattle.st_form.specs.Formula.{Formula, Formulas, truth_value, row, equal, bool_var, at, negation, every, some, none, more, Situation, truth, every_truth, some_truth, is_zero}
-use Rattle.st_form.specs.Simple.{leads_negative, simple_row, simple_equal, simple_apart, leading, divides_constant, append, parts, gathered, closed, joined_parts, signed, literal, simple, simples, Decided, Agrees, nothing}
-
--- a truth value under a sign
-abbrev pub under : Bool → Bool → Bool
-under true b = b
-under false b = not b
+use Rattle.st_form.specs.Simple.{leads_negative, simple_row, simple_equal, simple_apart, leading, divides_constant, append, parts, gathered, closed, joined_parts, signed, literal, simple, simples, Decided, Agrees, nothing, under}
 
 -- ---- numbers
 suc_positive : (n : ℕ) → 1 ≤ suc n

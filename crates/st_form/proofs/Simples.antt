@@ -1,3 +1,4 @@
+-- The parts that are taken in, one after the other.
 use Rattle.std.proofs.Common.{map, take, length-drop, ◌-◌, ◌≡◌, ℕ, ◌+◌, ◌<◌, ◌≤◌, Bool, true, false, List, [], ◌∷◌, ◌++◌, length, drop, get_or, refl, ap, ◌∙◌, sym, Option, Some, None, arith}
 use Rattle.std.specs.Prelude.{not, option_and_then}
 use Rattle.std.specs.Option.{option_map}

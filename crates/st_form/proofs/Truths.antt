@@ -1,3 +1,4 @@
+-- A formula after a change is true where the formula was before it.
 use Rattle.std.proofs.Common.{◌≡◌, ℕ, Bool, true, false, refl, ap, ◌∙◌, sym, Option, Some, None, pos}
 use Rattle.std.specs.Prelude.{not, ◌&&◌, ◌||◌, int_le, if◌then◌else◌}
 use Rattle.std.specs.Option.{option_map}

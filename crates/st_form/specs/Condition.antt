@@ -1,3 +1,4 @@
+-- Conditions.
 use Rattle.st_form.specs.Formula.{Formula}
 use Rattle.st_form.specs.declared.conditions.CondName.{CondName}
 

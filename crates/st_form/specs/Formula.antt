@@ -1,3 +1,4 @@
+-- Formulas, and when they are true.
 use Rattle.std.specs.Prelude.{ℕ, ◌+◌, Bool, true, false, not, ◌&&◌, ◌||◌, ℤ, pos, int_le, List, [], ◌∷◌, length}
 use Rattle.st_linear.specs.Linear.{Linear, value}
 

@@ -2,5 +2,4 @@ pub mod Formula
 pub mod Exchange
 pub mod Condition
 pub mod Plain
-pub mod Onto
 pub mod Simple

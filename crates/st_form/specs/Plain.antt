@@ -1,3 +1,4 @@
+-- The types of the program as plain data.
 use Rattle.std.specs.declared.vec.Vec.{Vec}
 use Rattle.std.specs.declared.alloc.Global.{Global}
 use Rattle.std.specs.Prelude.{true, false, List, map, Option, Some, None}

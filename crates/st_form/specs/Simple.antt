@@ -1,8 +1,9 @@
+-- What a simplified formula is.
 use Rattle.std.specs.Prelude.{◌≡◌, ℕ, ◌%◌, ◌<◌, ◌^◌, Bool, true, false, not, ◌==◌, if◌then◌else◌, List, [], ◌∷◌, slice_index_or, ℤ, pos, int_le, int_lt, unsigned_abs, Option, Some, None, option_and_then}
 use Rattle.std.specs.Option.{option_map}
 use Rattle.st_linear.specs.Linear.{Linear}
 use Rattle.st_linear.specs.Simple.{common_divisor, divided, complement, lowered, negated}
-use Rattle.st_form.specs.Formula.{Formula, Formulas, truth_value, row, equal, bool_var, at, negation, every, some, none, more, is_zero, Situation}
+use Rattle.st_form.specs.Formula.{Formula, Formulas, truth_value, row, equal, bool_var, at, negation, every, some, none, more, is_zero, Situation, truth}
 
 abbrev pub no_entries : List (ℕ × ℤ) → Bool
 no_entries [] = true
@@ -104,6 +105,11 @@ abbrev mutual
   simples d none plus = none
   simples d (more f fs) plus = more (simple d f plus) (simples d fs plus)
 
+-- a truth value under a sign
+abbrev pub under : Bool → Bool → Bool
+under true b = b
+under false b = not b
+
 -- a situation has the decided truth values
 pub record Agrees (s : Situation) (d : Decided) : Type 0 where
   pub truths : (v : ℕ) (b : Bool) → d.truths v ≡ Some b → s.truths v ≡ b
@@ -129,3 +135,7 @@ abbrev mutual
 abbrev pub TakesPart : Bool → Formulas → Formulas → Option Formulas → Type 0
 TakesPart goes old new None = goes ≡ false
 TakesPart goes old new (Some gs) = (goes ≡ true) × (new ≡ append old gs)
+
+-- the law of simplification: where the decisions are right, the simplified formula has the formula's truth value under the sign
+abbrev pub KeepsTruth : Type 0
+KeepsTruth = (d : Decided) (f : Formula) (plus : Bool) (s : Situation) → Agrees s d → truth s (simple d f plus) ≡ under plus (truth s f)

@@ -1,4 +1,4 @@
-//! Lists of conjuncts.
+//! Lists of simplified conjuncts, as a search for certificates and their check keep them.
 
 ghost use Rattle.std.specs.Prelude.{◌≡◌, ◌+◌, ◌<◌, IfOk, true, take, drop, length};
 ghost use Rattle.std.specs.Option.{option_map};
@@ -22,7 +22,7 @@ pub fn joined_conjuncts(alloc: Global, fs: &[Form], f: Form) -> Result<Option<Ve
     Ok(Some(out))
 }
 
-pub fn single(alloc: Global, f: Form) -> Result<Vec<Form>, Memory>
+fn single(alloc: Global, f: Form) -> Result<Vec<Form>, Memory>
     ensures { IfOk result (λ v. plain_list v.items ≡ more (plain f) none) }
 {
     let mut out = Vec::new(alloc);

@@ -1,4 +1,4 @@
-//! How large a formula is.
+//! How large a formula is. Counts that pass the largest number of 64 bits stand still there.
 
 ghost use Rattle.std.specs.Prelude.{◌≡◌, ◌-◌, ◌^◌, min};
 ghost use Rattle.st_form.specs.Formula.{atoms, atoms_of, weight, weight_of};
@@ -40,7 +40,7 @@ impl Form {
 }
 
 #[cycle(atoms)]
-pub fn sum_of_atoms(fs: &[Form]) -> u64
+fn sum_of_atoms(fs: &[Form]) -> u64
     ensures { result ≡ min (atoms_of (plain_list fs.now)) (2 ^ 64 - 1) }
 {
     let mut sum: u64 = 0;
@@ -51,7 +51,7 @@ pub fn sum_of_atoms(fs: &[Form]) -> u64
 }
 
 #[cycle(weight)]
-pub fn sum_of_weights(fs: &[Form]) -> u64
+fn sum_of_weights(fs: &[Form]) -> u64
     ensures { result ≡ min (weight_of (plain_list fs.now)) (2 ^ 64 - 1) }
 {
     let mut sum: u64 = 0;

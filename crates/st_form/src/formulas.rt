@@ -1,4 +1,4 @@
-//! Formulas over rows, equations, boolean variables and locations.
+//! Formulas over rows (a linear form is at least 0), equations (it is 0), boolean variables and control locations.
 
 ghost use Rattle.std.specs.Prelude.{◌≡◌, map, IfOk};
 ghost use Rattle.st_form.specs.Plain.{plain};
@@ -7,6 +7,7 @@ use st_linear::Lin;
 use st_memory::Memory;
 use std::alloc::Global;
 
+/// A formula without quantifiers.
 #[derive(Drop)]
 pub enum Form {
     True,
@@ -15,7 +16,9 @@ pub enum Form {
     Row(Lin),
     /// The form is 0.
     Equal(Lin),
+    /// The boolean variable is true.
     BoolVar(u32),
+    /// Control is at the location.
     At(u32),
     Not(Box<Form>),
     And(Vec<Form>),
@@ -43,6 +46,7 @@ impl Form {
     }
 }
 
+/// Equal formulas.
 #[cycle(copy)]
 pub fn copy_all(alloc: Global, fs: &[Form]) -> Result<Vec<Form>, Memory>
     ensures { IfOk result (λ v. map plain v.items ≡ map plain fs.now) }

@@ -5,6 +5,7 @@ mod conditions;
 mod conjuncts;
 mod counts;
 mod formulas;
+pub mod laws;
 mod literals;
 mod parts;
 mod replacement;

@@ -1,4 +1,7 @@
-//! Simplified literals.
+//! Simplified literals. A row is divided by the greatest common divisor of its coefficients and its constant rounded down, which
+//! no whole value can tell from the row itself (the cut of Gomory and Chvátal: Schrijver, Theory of Linear and Integer Programming,
+//! 1986, chapter 23). An equation whose constant the divisor does not divide is false. Where an equation is denied, the form is
+//! above 0 or below, so two rows take its place.
 
 ghost use Rattle.std.specs.Prelude.{◌≡◌, ◌^◌, ◌<◌, IfOk, unsigned_abs, if◌then◌else◌, slice_index_or, None};
 ghost use Rattle.st_form.specs.Formula.{truth_value};
@@ -11,6 +14,7 @@ use st_linear::Lin;
 use st_memory::Memory;
 use std::alloc::Global;
 
+/// A truth value as a formula.
 pub fn constant(value: bool) -> Form
     ensures { plain result ≡ truth_value value }
 {
@@ -27,7 +31,7 @@ pub fn known(table: &[Option<bool>], number: u32) -> Option<bool>
     }
 }
 
-/// A literal under a sign, or its truth value where that is decided.
+/// A variable or a location under a sign, or its truth value where that is decided.
 pub fn literal(alloc: Global, f: Form, known: Option<bool>, plus: bool) -> Result<Form, Memory>
     ensures { IfOk result (λ g. plain g ≡ literal plus (plain f) known) }
 {
@@ -37,8 +41,9 @@ pub fn literal(alloc: Global, f: Form, known: Option<bool>, plus: bool) -> Resul
     }
 }
 
+/// A formula with a sign before it.
 #[tactic(auto, using(crate::proofs::Nodes::nodes))]
-pub fn signed(alloc: Global, f: Form, plus: bool) -> Result<Form, Memory>
+fn signed(alloc: Global, f: Form, plus: bool) -> Result<Form, Memory>
     ensures { IfOk result (λ g. plain g ≡ signed plus (plain f)) }
 {
     if plus {
@@ -48,6 +53,7 @@ pub fn signed(alloc: Global, f: Form, plus: bool) -> Result<Form, Memory>
     }
 }
 
+/// A simplified row under a sign: where it is denied, its form is below 0.
 pub fn signed_row(alloc: Global, f: &Lin, plus: bool) -> Result<Form, Memory>
     requires { unsigned_abs f.now.constant < 2 ^ 99 }
     ensures { IfOk result (λ g. plain g ≡ simple_row (if plus then f.now else complement f.now)) }
@@ -59,7 +65,8 @@ pub fn signed_row(alloc: Global, f: &Lin, plus: bool) -> Result<Form, Memory>
     }
 }
 
-pub fn simple_row(alloc: Global, f: &Lin) -> Result<Form, Memory>
+/// A simplified row.
+fn simple_row(alloc: Global, f: &Lin) -> Result<Form, Memory>
     ensures { IfOk result (λ g. plain g ≡ simple_row f.now) }
 {
     if f.entries().is_empty() {
@@ -68,6 +75,7 @@ pub fn simple_row(alloc: Global, f: &Lin) -> Result<Form, Memory>
     Ok(Form::Row(f.divided(alloc, f.divisor())?))
 }
 
+/// A simplified equation under a sign.
 pub fn signed_equal(alloc: Global, f: &Lin, plus: bool) -> Result<Form, Memory>
     requires { unsigned_abs f.now.constant < 2 ^ 99 }
     ensures { IfOk result (λ g. plain g ≡ (if plus then simple_equal f.now else simple_apart f.now)) }
@@ -79,7 +87,8 @@ pub fn signed_equal(alloc: Global, f: &Lin, plus: bool) -> Result<Form, Memory>
     }
 }
 
-pub fn simple_equal(alloc: Global, f: &Lin) -> Result<Form, Memory>
+/// A simplified equation.
+fn simple_equal(alloc: Global, f: &Lin) -> Result<Form, Memory>
     ensures { IfOk result (λ g. plain g ≡ simple_equal f.now) }
 {
     if f.entries().is_empty() {
@@ -92,7 +101,8 @@ pub fn simple_equal(alloc: Global, f: &Lin) -> Result<Form, Memory>
     Ok(Form::Equal(leading(alloc, f.divided(alloc, divisor)?)?))
 }
 
-pub fn leading(alloc: Global, f: Lin) -> Result<Lin, Memory>
+/// The form with its first coefficient above 0, which is 0 where the form is.
+fn leading(alloc: Global, f: Lin) -> Result<Lin, Memory>
     ensures { IfOk result (λ g. g ≡ leading f) }
 {
     match f.entries() {
@@ -101,8 +111,9 @@ pub fn leading(alloc: Global, f: Lin) -> Result<Lin, Memory>
     }
 }
 
+/// The simplified denial of an equation.
 #[tactic(auto, using(crate::proofs::Nodes::nodes))]
-pub fn simple_apart(alloc: Global, f: &Lin) -> Result<Form, Memory>
+fn simple_apart(alloc: Global, f: &Lin) -> Result<Form, Memory>
     requires { unsigned_abs f.now.constant < 2 ^ 99 }
     ensures { IfOk result (λ g. plain g ≡ simple_apart f.now) }
 {

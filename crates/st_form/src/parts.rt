@@ -1,4 +1,5 @@
-//! The parts of a conjunction or a disjunction.
+//! The parts of a conjunction or a disjunction. A part of the same kind gives its own parts, a truth value that decides nothing
+//! is dropped, and one that decides ends the whole.
 
 ghost use Rattle.std.specs.Prelude.{◌≡◌, IfOk, Some};
 ghost use Rattle.st_form.specs.Formula.{more, none};
@@ -41,7 +42,7 @@ pub fn take_part(out: &mut Vec<Form>, all: bool, part: Form) -> Result<bool, Mem
 }
 
 /// Takes a part in as it is.
-pub fn put(out: &mut Vec<Form>, all: bool, part: Form) -> Result<bool, Memory>
+fn put(out: &mut Vec<Form>, all: bool, part: Form) -> Result<bool, Memory>
     requires { parts all (plain part) ≡ Some (more (plain part) none) }
     ensures { IfOk result
         (λ goes. TakesPart goes (plain_list out.old.items) (plain_list out.new.items) (parts all (plain part))) }
@@ -51,15 +52,15 @@ pub fn put(out: &mut Vec<Form>, all: bool, part: Form) -> Result<bool, Memory>
 }
 
 /// Takes the parts of a part in.
-pub fn put_parts(out: &mut Vec<Form>, parts: Vec<Form>) -> Result<bool, Memory>
+fn put_parts(out: &mut Vec<Form>, mut parts: Vec<Form>) -> Result<bool, Memory>
     ensures { IfOk result
         (λ goes. TakesPart goes (plain_list out.old.items) (plain_list out.new.items) (Some (plain_list parts.items))) }
 {
-    let mut parts = parts;
     out.append(&mut parts)?;
     Ok(true)
 }
 
+/// The conjunction, or the disjunction, of these parts: one part is itself, and none are `True`, or `False`.
 #[tactic(auto, using(crate::proofs::Nodes::nodes))]
 pub fn closed(mut fs: Vec<Form>, all: bool) -> Form
     ensures { plain result ≡ closed all (plain_list fs.items) }

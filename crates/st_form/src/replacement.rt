@@ -1,4 +1,6 @@
-//! Formulas after a change: variables replaced at once, locations left and entered.
+//! Formulas before a step, from formulas behind it: assigned variables are replaced by their right sides, all at once, and being at
+//! a location that the step leaves or enters is decided (the weakest precondition of an assignment: Hoare, An axiomatic basis for
+//! computer programming, 1969; Manna and Pnueli, Temporal Verification of Reactive Systems: Safety, 1995, section 1.3).
 
 ghost use Rattle.std.specs.Prelude.{◌≡◌, map, IfOk};
 ghost use Rattle.st_form.specs.Formula.{Situation, truth};
@@ -11,7 +13,7 @@ use st_linear::{Lin, LinFault};
 use st_memory::Memory;
 use std::alloc::Global;
 
-/// What is put in the place of variables, and which locations are left and entered.
+/// What is put in the place of variables, and which locations are left and entered. A location in both lists is entered.
 #[derive(Drop)]
 pub struct Change {
     pub numbers: Vec<(u32, Lin)>,
@@ -21,7 +23,8 @@ pub struct Change {
 }
 
 impl Form {
-    /// The formula with its variables replaced at once and its locations moved.
+    /// The formula with its variables replaced at once and its locations moved: where the same variable is listed twice, the first
+    /// entry counts, and a location that is entered is not left. `TooLarge` exactly where a linear form in it has no replacement.
     pub fn replace(&self, alloc: Global, change: &Change) -> Result<Form, LinFault>
         ensures exact { Gives plain result (exchanged (plain_change change.now) (plain self.now)) }
         ensures truth { IfOk result (λ f. (s : Situation)
@@ -50,7 +53,7 @@ impl Form {
 }
 
 #[cycle(replace)]
-pub fn replace_all(alloc: Global, change: &Change, fs: &[Form]) -> Result<Vec<Form>, LinFault>
+fn replace_all(alloc: Global, change: &Change, fs: &[Form]) -> Result<Vec<Form>, LinFault>
     ensures { Gives (λ v. plain_list v.items) result (all_exchanged (plain_change change.now) (plain_list fs.now)) }
 {
     let mut out = Vec::new(alloc);
@@ -62,7 +65,7 @@ pub fn replace_all(alloc: Global, change: &Change, fs: &[Form]) -> Result<Vec<Fo
 }
 
 /// The formula that is listed for a truth variable, or the variable.
-pub fn truth_for(alloc: Global, truths: &[(u32, Form)], var: u32) -> Result<Form, Memory>
+fn truth_for(alloc: Global, truths: &[(u32, Form)], var: u32) -> Result<Form, Memory>
     ensures { IfOk result (λ f. plain f ≡ truth_for var (map (λ p. (p.0, plain p.1)) truths.now)) }
 {
     for pair in truths {
@@ -73,7 +76,8 @@ pub fn truth_for(alloc: Global, truths: &[(u32, Form)], var: u32) -> Result<Form
     Ok(Form::BoolVar(var))
 }
 
-pub fn location_after(change: &Change, location: u32) -> Form
+/// Being at a location behind the change.
+fn location_after(change: &Change, location: u32) -> Form
     ensures { plain result ≡ location_after location (plain_change change.now) }
 {
     if change.enters.contains(&location) {

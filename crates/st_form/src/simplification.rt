@@ -1,4 +1,6 @@
-//! Simplification, where some truth values are decided.
+//! Simplification. Signs move inwards until they stand before literals (the negation normal form), literals are simplified, and
+//! conjunctions and disjunctions take in parts of their own kind. Where the truth value of a variable, or of being at a location, is
+//! decided, it stands in the literal's place.
 
 ghost use Rattle.std.specs.Prelude.{◌≡◌, IfOk, true};
 ghost use Rattle.st_form.specs.Formula.{Situation, truth};
@@ -12,7 +14,7 @@ use st_memory::Memory;
 use std::alloc::Global;
 
 impl Form {
-    /// The simplified formula, which is true in the same states.
+    /// The simplified formula with nothing decided, which is true in the same states.
     pub fn normal(&self, alloc: Global) -> Result<Form, Memory>
         requires { IsModest (plain self.now) }
         ensures exact { IfOk result (λ f. plain f ≡ simple nothing (plain self.now) true) }
@@ -49,8 +51,9 @@ impl Form {
     }
 }
 
+/// The conjunction (`all`) or disjunction of the simplified parts.
 #[cycle(simple)]
-pub fn simple_all(
+fn simple_all(
     alloc: Global,
     fs: &[Form],
     truths: &[Option<bool>],

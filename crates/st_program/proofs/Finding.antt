@@ -1,15 +1,15 @@
 -- In a program whose statements are numbered in text order, the first statement with an occurrence is the one of that
 -- place.
-use Rattle.std.proofs.Common.{◌≡◌, ◌≢◌, ℕ, zero, suc, ◌+◌, ◌-◌, ◌<◌, ◌≤◌, Bool, true, false, List, [], ◌∷◌, ◌++◌, drop, get_or, length, Option, Some, None, refl, sym, ap, ◌∙◌, inl, inr, arith}
+use Rattle.std.proofs.Common.{◌≡◌, ◌≢◌, ℕ, suc, ◌+◌, ◌-◌, ◌<◌, ◌≤◌, Bool, true, false, List, [], ◌∷◌, ◌++◌, drop, get_or, length, Option, Some, None, refl, sym, ap, ◌∙◌, inl, inr, arith}
 use Rattle.std.specs.Prelude.{nat_eq, if◌then◌else◌, slice_get}
 use Rattle.std.specs.Option.{option_map}
 use Rattle.std.proofs.Math.Seq.{drop-cons}
 use Rattle.std.proofs.Math.Numerals.{add-one}
 use Rattle.std.proofs.lemmas.Bool.Decides.{eqb_tells}
 use Rattle.st_program.specs.declared.trees.Child as GChild
-use Rattle.st_program.specs.Tree.{Statement, stated, skip, critical, noncritical, assign, await, request, release, if_then, if_else, while_do, block, select, cooperate, group, Action, Statements, no_statement, statement, process, Processes, no_process, beside, occurrence}
+use Rattle.st_program.specs.Tree.{Statement, stated, skip, if_then, if_else, while_do, block, select, cooperate, Action, Statements, no_statement, statement, process, Processes, no_process, beside, occurrence}
 use Rattle.st_program.specs.Plain.{plain_stmts, plain_children}
-use Rattle.st_program.specs.Spots.{entry, bodies, bodies_in, Spot, at_spot, spots, spots_along, spots_among, spots_inside, all_spots, spot, statement_at, IsNumbered}
+use Rattle.st_program.specs.Spots.{entry, bodies, bodies_in, Spot, spots, spots_within, spots_along, spots_among, spots_inside, all_spots, spot, statement_at, IsNumbered}
 use Rattle.st_program.specs.Search.{or_else, find_in, find_inside, find_along, find_among}
 use Rattle.st_program.proofs.Rows.{child_is}
 
@@ -37,28 +37,20 @@ first_append (x ∷ xs) ys n =
 two : (xs ys : List Spot) (n : ℕ) (a b : Option Statement) → a ≡ first_in xs n → b ≡ first_in ys n → or_else a b ≡ first_in (xs ++ ys) n
 two xs ys n a b e f = ap (λ z. or_else z b) e ∙ ap (or_else (first_in xs n)) f ∙ sym (first_append xs ys n)
 
--- the statement itself, or what is found in it
-own : (o l : ℕ) (a : Action) (next c n : ℕ) (inner : List Spot) → find_inside a n ≡ first_in inner n → find_in (stated o l a) n ≡ first_in (at_spot (stated o l a) next c ∷ inner) n
-own o l a next c n inner e = ap (λ z. if nat_eq o n then Some (stated o l a) else z) e
-
 mutual
   find_is : (s : Statement) (e c n : ℕ) → find_in s n ≡ first_in (spots s e c) n
-  find_is (stated o l skip) e c n = refl
-  find_is (stated o l critical) e c n = refl
-  find_is (stated o l noncritical) e c n = refl
-  find_is (stated o l (assign xs)) e c n = refl
-  find_is (stated o l (await t)) e c n = refl
-  find_is (stated o l (request v)) e c n = refl
-  find_is (stated o l (release v)) e c n = refl
-  find_is (stated o l (group xs)) e c n = refl
-  find_is (stated o l (if_then t y)) e c n = own o l (if_then t y) e c n (spots y e c) (find_is y e c n)
-  find_is (stated o l (if_else t y r)) e c n =
-      own o l (if_else t y r) e c n (spots y e c ++ spots r e (c + length (bodies y)))
-      (two (spots y e c) (spots r e (c + length (bodies y))) n _ _ (find_is y e c n) (find_is r e (c + length (bodies y)) n))
-  find_is (stated o l (while_do t b)) e c n = own o l (while_do t b) e c n (spots b l c) (find_is b l c n)
-  find_is (stated o l (block ss)) e c n = own o l (block ss) e c n (spots_along ss e c) (along_is ss e c n)
-  find_is (stated o l (select ss)) e c n = own o l (select ss) e c n (spots_among ss e c) (among_is ss e c n)
-  find_is (stated o l (cooperate ps)) e c n = own o l (cooperate ps) e c n (spots_inside ps c) (inside_is ps c n)
+  find_is (stated o l a) e c n = ap (λ z. if nat_eq o n then Some (stated o l a) else z) (inner_is a l e c n)
+
+  inner_is : (a : Action) (l e c n : ℕ) → find_inside a n ≡ first_in (spots_within a l e c) n
+  inner_is (if_then t y) l e c n = find_is y e c n
+  inner_is (if_else t y r) l e c n =
+      two (spots y e c) (spots r e (c + length (bodies y))) n _ _ (find_is y e c n) (find_is r e (c + length (bodies y)) n)
+  inner_is (while_do t b) l e c n = find_is b l c n
+  inner_is (block ss) l e c n = along_is ss e c n
+  inner_is (select ss) l e c n = among_is ss e c n
+  inner_is (cooperate ps) l e c n = inside_is ps c n
+  inner_is skip l e c n = refl
+  inner_is _ l e c n = refl
 
   along_is : (ss : Statements) (e c n : ℕ) → find_along ss n ≡ first_in (spots_along ss e c) n
   along_is no_statement e c n = refl

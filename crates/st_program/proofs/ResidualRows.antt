@@ -1,8 +1,8 @@
 -- How a residual is seen that holds a list.
-use Rattle.std.proofs.Common.{◌≡◌, ℕ, List, [], ◌∷◌, Vec, Global, refl, ap, ◌∙◌}
+use Rattle.std.proofs.Common.{◌≡◌, ℕ, Vec, Global, refl, ap, ◌∙◌}
 use Rattle.st_program.specs.declared.residuals.Residual as GResidual
 use Rattle.st_program.specs.declared.residuals.Residual.TheBlock as TB
-use Rattle.st_program.specs.Residuals.{Rests, no_rest, rests, Inside, plain_residual, plain_row, plain_residuals}
+use Rattle.st_program.specs.Residuals.{rests, Inside, plain_residual, plain_row, plain_residuals}
 
 row_items : {n : _} (row : GResidual.Row_of-Residual n) → plain_row row ≡ plain_residuals (GResidual.items-the_row-Residual n row)
 row_items GResidual.end_of-Residual = refl

@@ -1,10 +1,10 @@
 -- How statements and processes are seen that hold lists.
-use Rattle.std.proofs.Common.{◌≡◌, ℕ, List, [], ◌∷◌, Vec, Global, refl, ap, sym, ◌∙◌}
+use Rattle.std.proofs.Common.{◌≡◌, ℕ, Vec, Global, refl, ap, sym, ◌∙◌}
 use Rattle.st_program.specs.declared.trees.Stmt as GStmt
 use Rattle.st_program.specs.declared.trees.Kind as GKind
 use Rattle.st_program.specs.declared.trees.Child as GChild
 use Rattle.st_program.specs.declared.trees.Kind.TheBlock as TB
-use Rattle.st_program.specs.Tree.{Action, stated, statement, process, beside, block, select, cooperate}
+use Rattle.st_program.specs.Tree.{stated, statement, process, beside, block, select, cooperate}
 use Rattle.st_program.specs.Plain.{plain_kind, plain_row, plain_sides, plain_child, plain_stmts, plain_children}
 
 row_items : {n : _} (row : GKind.Row_of-Stmt n) → plain_row row ≡ plain_stmts (GKind.items-the_row-Stmt n row)

@@ -3,25 +3,22 @@
 -- The first statement of a block has the block's location and each branch of a selection the selection's; every other
 -- statement has one of its own, and so has the end of each component, behind all its statements.
 use Rattle.std.specs.Prelude.{◌≡◌, ℕ, suc, ⊤}
-use Rattle.st_program.specs.Tree.{Statement, stated, skip, critical, noncritical, assign, await, request, release, if_then, if_else, while_do, block, select, cooperate, group, Action, Statements, no_statement, statement, process, Processes, no_process, beside}
+use Rattle.st_program.specs.Tree.{Statement, stated, skip, if_then, if_else, while_do, block, select, cooperate, Action, Statements, no_statement, statement, process, Processes, no_process, beside}
 
 -- the next free location behind a statement whose own location is given and below next
 abbrev mutual
   pub location_end : Statement → ℕ → ℕ
-  location_end (stated o l skip) next = next
-  location_end (stated o l critical) next = next
-  location_end (stated o l noncritical) next = next
-  location_end (stated o l (assign xs)) next = next
-  location_end (stated o l (await t)) next = next
-  location_end (stated o l (request v)) next = next
-  location_end (stated o l (release v)) next = next
-  location_end (stated o l (if_then t y)) next = location_end y (suc next)
-  location_end (stated o l (if_else t y n)) next = location_end n (suc (location_end y (suc next)))
-  location_end (stated o l (while_do t b)) next = location_end b (suc next)
-  location_end (stated o l (block ss)) next = head_end ss next
-  location_end (stated o l (select ss)) next = among_end ss next
-  location_end (stated o l (cooperate ps)) next = inside_end ps next
-  location_end (stated o l (group xs)) next = next
+  location_end (stated o l a) next = within_end a next
+
+  pub within_end : Action → ℕ → ℕ
+  within_end (if_then t y) next = location_end y (suc next)
+  within_end (if_else t y n) next = location_end n (suc (location_end y (suc next)))
+  within_end (while_do t b) next = location_end b (suc next)
+  within_end (block ss) next = head_end ss next
+  within_end (select ss) next = among_end ss next
+  within_end (cooperate ps) next = inside_end ps next
+  within_end skip next = next
+  within_end _ next = next
 
   -- the first has the location of what it stands in
   pub head_end : Statements → ℕ → ℕ
@@ -49,21 +46,18 @@ SomeProcess (beside x ps) = ⊤
 -- a statement has the location own, and those in it are numbered in text order from next on
 abbrev mutual
   pub IsPlaced : Statement → ℕ → ℕ → Type 0
-  IsPlaced (stated o l skip) own next = l ≡ own
-  IsPlaced (stated o l critical) own next = l ≡ own
-  IsPlaced (stated o l noncritical) own next = l ≡ own
-  IsPlaced (stated o l (assign xs)) own next = l ≡ own
-  IsPlaced (stated o l (await t)) own next = l ≡ own
-  IsPlaced (stated o l (request v)) own next = l ≡ own
-  IsPlaced (stated o l (release v)) own next = l ≡ own
-  IsPlaced (stated o l (if_then t y)) own next = (l ≡ own) × IsPlaced y next (suc next)
-  IsPlaced (stated o l (if_else t y n)) own next =
-      (l ≡ own) × IsPlaced y next (suc next) × IsPlaced n (location_end y (suc next)) (suc (location_end y (suc next)))
-  IsPlaced (stated o l (while_do t b)) own next = (l ≡ own) × IsPlaced b next (suc next)
-  IsPlaced (stated o l (block ss)) own next = (l ≡ own) × HeadPlaced ss own next
-  IsPlaced (stated o l (select ss)) own next = (l ≡ own) × AmongPlaced ss own next
-  IsPlaced (stated o l (cooperate ps)) own next = (l ≡ own) × SomeProcess ps × InsidePlaced ps next
-  IsPlaced (stated o l (group xs)) own next = l ≡ own
+  IsPlaced (stated o l a) own next = (l ≡ own) × WithinPlaced a own next
+
+  pub WithinPlaced : Action → ℕ → ℕ → Type 0
+  WithinPlaced (if_then t y) own next = IsPlaced y next (suc next)
+  WithinPlaced (if_else t y n) own next =
+      IsPlaced y next (suc next) × IsPlaced n (location_end y (suc next)) (suc (location_end y (suc next)))
+  WithinPlaced (while_do t b) own next = IsPlaced b next (suc next)
+  WithinPlaced (block ss) own next = HeadPlaced ss own next
+  WithinPlaced (select ss) own next = AmongPlaced ss own next
+  WithinPlaced (cooperate ps) own next = SomeProcess ps × InsidePlaced ps next
+  WithinPlaced skip own next = ⊤
+  WithinPlaced _ own next = ⊤
 
   -- no block is empty
   pub HeadPlaced : Statements → ℕ → ℕ → Type 0
@@ -89,16 +83,7 @@ abbrev mutual
   NoLoop (stated o l (block ss)) = NoLoopFirst ss
   NoLoop (stated o l (select ss)) = NoLoops ss
   NoLoop (stated o l skip) = ⊤
-  NoLoop (stated o l critical) = ⊤
-  NoLoop (stated o l noncritical) = ⊤
-  NoLoop (stated o l (assign xs)) = ⊤
-  NoLoop (stated o l (await t)) = ⊤
-  NoLoop (stated o l (request v)) = ⊤
-  NoLoop (stated o l (release v)) = ⊤
-  NoLoop (stated o l (if_then t y)) = ⊤
-  NoLoop (stated o l (if_else t y n)) = ⊤
-  NoLoop (stated o l (cooperate ps)) = ⊤
-  NoLoop (stated o l (group xs)) = ⊤
+  NoLoop (stated o l _) = ⊤
 
   pub NoLoopFirst : Statements → Type 0
   NoLoopFirst no_statement = ⊤

@@ -4,9 +4,9 @@ use Rattle.std.specs.Coded.{Coded, code_by, coded×, coded_list, coded_ℕ}
 use Rattle.st_form.specs.Formula.{Formula}
 use Rattle.st_form.specs.declared.formulas.Form.{Form}
 use Rattle.st_form.specs.contracts.formulas.Form as form_code
-use Rattle.st_program.specs.declared.trees.Variable.{Variable}
+use Rattle.st_form.specs.declared.variables.Variable.{Variable}
 use Rattle.st_program.specs.declared.trees.Child.{Child}
-use Rattle.st_program.specs.contracts.trees.Variable as variable_code
+use Rattle.st_form.specs.contracts.variables.Variable as variable_code
 use Rattle.st_program.specs.contracts.trees.Child as child_code
 use Rattle.st_program.specs.Tree.{Processes, action}
 use Rattle.st_program.specs.Member.{Member}

@@ -1,6 +1,6 @@
 -- The first statement in text order with an occurrence.
 use Rattle.std.specs.Prelude.{ℕ, Option, Some, None, nat_eq, if◌then◌else◌}
-use Rattle.st_program.specs.Tree.{Statement, stated, skip, critical, noncritical, assign, await, request, release, if_then, if_else, while_do, block, select, cooperate, group, Action, Statements, no_statement, statement, process, Processes, no_process, beside}
+use Rattle.st_program.specs.Tree.{Statement, stated, skip, if_then, if_else, while_do, block, select, cooperate, Action, Statements, no_statement, statement, process, Processes, no_process, beside}
 
 abbrev pub or_else : Option Statement → Option Statement → Option Statement
 or_else None o = o
@@ -11,20 +11,14 @@ abbrev mutual
   find_in (stated o l a) n = if nat_eq o n then Some (stated o l a) else find_inside a n
 
   pub find_inside : Action → ℕ → Option Statement
-  find_inside skip n = None
-  find_inside critical n = None
-  find_inside noncritical n = None
-  find_inside (assign xs) n = None
-  find_inside (await t) n = None
-  find_inside (request v) n = None
-  find_inside (release v) n = None
   find_inside (if_then t y) n = find_in y n
   find_inside (if_else t y z) n = or_else (find_in y n) (find_in z n)
   find_inside (while_do t b) n = find_in b n
   find_inside (block ss) n = find_along ss n
   find_inside (select ss) n = find_along ss n
   find_inside (cooperate ps) n = find_among ps n
-  find_inside (group xs) n = None
+  find_inside skip n = None
+  find_inside _ n = None
 
   pub find_along : Statements → ℕ → Option Statement
   find_along no_statement n = None

@@ -3,9 +3,9 @@
 -- A component is a process or a child of a cooperation. A spot is a statement with what the text around it fixes: the
 -- location that control reaches behind it, and how many components begin before it. The occurrence of a statement is
 -- its place in the list of all spots.
-use Rattle.std.specs.Prelude.{◌≡◌, ℕ, suc, ◌+◌, ◌-◌, nat_lt, if◌then◌else◌, List, [], ◌∷◌, ◌++◌, length, slice_get, Option, Some, None, option_and_then}
+use Rattle.std.specs.Prelude.{◌≡◌, ℕ, suc, ◌+◌, ◌-◌, nat_lt, if◌then◌else◌, List, [], ◌∷◌, ◌++◌, length, slice_get, Option, Some, None}
 use Rattle.std.specs.Option.{option_map}
-use Rattle.st_program.specs.Tree.{Statement, stated, Action, skip, critical, noncritical, assign, await, request, release, if_then, if_else, while_do, block, select, cooperate, group, Statements, no_statement, statement, process, Processes, no_process, beside, occurrence, location, action}
+use Rattle.st_program.specs.Tree.{Statement, stated, Action, skip, if_then, if_else, while_do, block, select, cooperate, Statements, no_statement, statement, process, Processes, no_process, beside, occurrence, location, action}
 
 -- where control is at the beginning of a list, which is followed by the location next
 abbrev pub entry : Statements → ℕ → ℕ
@@ -13,30 +13,23 @@ entry no_statement next = next
 entry (statement s ss) next = location s
 
 -- the statements of a component or of a block, and the location behind them
-pub record Body : Type 0 where
-  pub statements : Statements
-  pub end : ℕ
-
-abbrev pub body_to : Statements → ℕ → Body
-body_to ss end = record { statements = ss; end = end }
+abbrev pub Body : Type 0
+Body = Statements × ℕ
 
 -- the components in a part of the text, in text order
 abbrev mutual
   pub bodies : Statement → List Body
-  bodies (stated o l skip) = []
-  bodies (stated o l critical) = []
-  bodies (stated o l noncritical) = []
-  bodies (stated o l (assign xs)) = []
-  bodies (stated o l (await t)) = []
-  bodies (stated o l (request v)) = []
-  bodies (stated o l (release v)) = []
-  bodies (stated o l (if_then t y)) = bodies y
-  bodies (stated o l (if_else t y n)) = bodies y ++ bodies n
-  bodies (stated o l (while_do t b)) = bodies b
-  bodies (stated o l (block ss)) = bodies_in ss
-  bodies (stated o l (select ss)) = bodies_in ss
-  bodies (stated o l (cooperate ps)) = bodies_of ps
-  bodies (stated o l (group xs)) = []
+  bodies (stated o l a) = bodies_inside a
+
+  pub bodies_inside : Action → List Body
+  bodies_inside (if_then t y) = bodies y
+  bodies_inside (if_else t y n) = bodies y ++ bodies n
+  bodies_inside (while_do t b) = bodies b
+  bodies_inside (block ss) = bodies_in ss
+  bodies_inside (select ss) = bodies_in ss
+  bodies_inside (cooperate ps) = bodies_of ps
+  bodies_inside skip = []
+  bodies_inside _ = []
 
   pub bodies_in : Statements → List Body
   bodies_in no_statement = []
@@ -44,7 +37,7 @@ abbrev mutual
 
   pub bodies_of : Processes → List Body
   bodies_of no_process = []
-  bodies_of (beside (process ss end) ps) = body_to ss end ∷ (bodies_in ss ++ bodies_of ps)
+  bodies_of (beside (process ss end) ps) = (ss, end) ∷ (bodies_in ss ++ bodies_of ps)
 
 pub record Spot : Type 0 where
   pub stmt : Statement
@@ -57,21 +50,18 @@ at_spot s next c = record { stmt = s; next = next; before = c }
 -- all statements of a part of the text, in text order
 abbrev mutual
   pub spots : Statement → ℕ → ℕ → List Spot
-  spots (stated o l skip) next c = at_spot (stated o l skip) next c ∷ []
-  spots (stated o l critical) next c = at_spot (stated o l critical) next c ∷ []
-  spots (stated o l noncritical) next c = at_spot (stated o l noncritical) next c ∷ []
-  spots (stated o l (assign xs)) next c = at_spot (stated o l (assign xs)) next c ∷ []
-  spots (stated o l (await t)) next c = at_spot (stated o l (await t)) next c ∷ []
-  spots (stated o l (request v)) next c = at_spot (stated o l (request v)) next c ∷ []
-  spots (stated o l (release v)) next c = at_spot (stated o l (release v)) next c ∷ []
-  spots (stated o l (if_then t y)) next c = at_spot (stated o l (if_then t y)) next c ∷ spots y next c
-  spots (stated o l (if_else t y n)) next c =
-      at_spot (stated o l (if_else t y n)) next c ∷ (spots y next c ++ spots n next (c + length (bodies y)))
-  spots (stated o l (while_do t b)) next c = at_spot (stated o l (while_do t b)) next c ∷ spots b l c
-  spots (stated o l (block ss)) next c = at_spot (stated o l (block ss)) next c ∷ spots_along ss next c
-  spots (stated o l (select ss)) next c = at_spot (stated o l (select ss)) next c ∷ spots_among ss next c
-  spots (stated o l (cooperate ps)) next c = at_spot (stated o l (cooperate ps)) next c ∷ spots_inside ps c
-  spots (stated o l (group xs)) next c = at_spot (stated o l (group xs)) next c ∷ []
+  spots (stated o l a) next c = at_spot (stated o l a) next c ∷ spots_within a l next c
+
+  -- what stands in a statement with the location l
+  pub spots_within : Action → ℕ → ℕ → ℕ → List Spot
+  spots_within (if_then t y) l next c = spots y next c
+  spots_within (if_else t y n) l next c = spots y next c ++ spots n next (c + length (bodies y))
+  spots_within (while_do t b) l next c = spots b l c
+  spots_within (block ss) l next c = spots_along ss next c
+  spots_within (select ss) l next c = spots_among ss next c
+  spots_within (cooperate ps) l next c = spots_inside ps c
+  spots_within skip l next c = []
+  spots_within _ l next c = []
 
   -- one after another
   pub spots_along : Statements → ℕ → ℕ → List Spot
@@ -106,14 +96,18 @@ IsNumbered p = (n : ℕ) (x : Spot) → spot p n ≡ Some x → occurrence x.stm
 
 -- the statements of a block
 abbrev pub block_items : Action → ℕ → Option Body
-block_items (block ss) next = Some (body_to ss next)
+block_items (block ss) next = Some (ss, next)
 block_items skip next = None
 block_items _ next = None
 
--- what a number of a block or of a component names: below the number of statements the block of that occurrence, above
--- it a component's body
+abbrev pub items_of : Option Spot → Option Body
+items_of None = None
+items_of (Some x) = block_items (action x.stmt) x.next
+
+-- what a number of a block or of a component names: below the number of statements the block of that occurrence, from
+-- there on a component's body
 abbrev pub body : Processes → ℕ → Option Body
 body p b =
     if nat_lt b (length (all_spots p))
-    then option_and_then (λ x. block_items (action x.stmt) x.next) (spot p b)
+    then items_of (spot p b)
     else slice_get (bodies_of p) (b - length (all_spots p))

@@ -1,9 +1,9 @@
 -- Forms and statements that use each variable by its type, with numbers as small as the texts write them.
-use Rattle.std.specs.Prelude.{◌≡◌, ◌≢◌, ℕ, suc, ◌^◌, ◌<◌, ◌≤◌, Bool, true, false, List, [], ◌∷◌, length, slice_get, unsigned_abs, ℤ, Option, Some, ⊤}
+use Rattle.std.specs.Prelude.{◌≡◌, ◌≢◌, ℕ, suc, ◌^◌, ◌<◌, Bool, true, false, List, [], ◌∷◌, slice_get, unsigned_abs, ℤ, Option, Some, ⊤}
 use Rattle.std.specs.Option.{option_map}
-use Rattle.st_linear.specs.Linear.{Linear}
+use Rattle.st_linear.specs.Linear.{Linear, AreEntries}
 use Rattle.st_form.specs.Formula.{Formula, Formulas, truth_value, row, equal, bool_var, at, negation, every, some, none, more}
-use Rattle.st_program.specs.declared.trees.Variable.{Variable}
+use Rattle.st_form.specs.declared.variables.Variable.{Variable}
 use Rattle.st_program.specs.Tree.{Term, number, truth, Piece, Pieces, piece_skip, piece_assign, piece_await, piece_if, no_piece, piece, Action, skip, critical, noncritical, assign, await, request, release, if_then, if_else, while_do, block, select, cooperate, group}
 use Rattle.st_program.specs.Groups.{GroupFits}
 
@@ -16,7 +16,9 @@ abbrev pub EntriesFit : List Variable → ℕ → List (ℕ × ℤ) → Type 0
 EntriesFit vs bound [] = ⊤
 EntriesFit vs bound (e ∷ es) = (type_of vs e.0 ≡ Some false) × (unsigned_abs e.1 < bound) × EntriesFit vs bound es
 
+-- variables rise in it, as in every form
 pub record LinearFits (vs : List Variable) (bound : ℕ) (f : Linear) : Type 0 where
+  pub rising : AreEntries f.entries
   pub constant : unsigned_abs f.constant < bound
   pub entries : EntriesFit vs bound f.entries
 

@@ -1,8 +1,8 @@
 //! Programs.
 
 use crate::search::find_among;
-use crate::trees::{Child, Stmt, Variable};
-use st_form::Form;
+use crate::trees::{Child, Stmt};
+use st_form::{Form, Variable};
 use std::marker::Model;
 
 /// A typed program within the limits: its variables, what holds of them at the beginning (the conjunction of the `where`

@@ -2,13 +2,6 @@
 
 use st_form::{Form, Lin};
 
-/// A variable: whether the program never changes it, and whether it is boolean.
-#[derive(Clone, Copy, Debug, PartialEq, Eq)]
-pub struct Variable {
-    pub input: bool,
-    pub truth: bool,
-}
-
 /// A right side: a whole number, or a truth value.
 #[derive(Drop)]
 pub enum Value {

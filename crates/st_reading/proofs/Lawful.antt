@@ -81,7 +81,7 @@ lawful_chain front calm calm1 fits meets op calms none turn turn2 finish finish2
 abbrev pub branching : {X A : Type 0} → (Sign → Bool) → (ℕ → Label → Stream → Read X A) → (Stream → Read X A) → Stream → Read X A
 branching test a b s = cond (test (ahead s)) (a (place_of s) (name_of s) (behind s)) (b s)
 
-shrinks_branching : {X A : Type 0} (test : Sign → Bool) (a : ℕ → Label → Stream → Read X A) (b : Stream → Read X A) → ((n : ℕ) (l : Label) → Shrinks (a n l)) → Shrinks b → Shrinks (branching test a b)
+pub shrinks_branching : {X A : Type 0} (test : Sign → Bool) (a : ℕ → Label → Stream → Read X A) (b : Stream → Read X A) → ((n : ℕ) (l : Label) → Shrinks (a n l)) → Shrinks b → Shrinks (branching test a b)
 shrinks_branching test a b sa sb s x rest h = at_test (test (ahead s)) h
   where
     at_test : (c : Bool) → cond c (a (place_of s) (name_of s) (behind s)) (b s) ≡ Ok (x, rest) → size rest ≤ size s

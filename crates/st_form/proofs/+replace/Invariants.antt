@@ -3,7 +3,7 @@ use Rattle.std.specs.Option.{option_map}
 use Rattle.st_form.specs.Plain.{plain_list}
 use Rattle.st_form.specs.Exchange.{all_exchanged}
 use Rattle.st_form.specs.Plain.{plain_change}
-use Rattle.st_form.specs.Onto.{onto}
+use Rattle.st_form.proofs.Exchanging.{onto}
 use Rattle.st_form.proofs.+replace.Given as goal
 
 abbrev pub invariant-replacement::replace_all-loop-f : goal.invariant-replacement::replace_all-loop-f

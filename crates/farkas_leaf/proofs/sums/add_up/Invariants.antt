@@ -11,8 +11,8 @@ invariant-loop-p g l = record {
   rising : RiseWithin (length l.lines) 0 (signed_picks g.M.Multiplier.signed (drop l.p-index l.picks));
   same : (j : ℕ) → j < 64 → slice_index_or l.sums j (pos 0) +ℤ coefficient (l.base + j) (total (map g.L.Constraint.line l.lines) (signed_picks g.M.Multiplier.signed (drop l.p-index l.picks))).entries ≡ coefficient (l.base + j) (total (map g.L.Constraint.line l.lines) (signed_picks g.M.Multiplier.signed l.picks)).entries;
   behind : AgreeUpTo (l.base + 64) l.next
-    (λ v. coefficient v (total (map g.L.Constraint.line l.lines) (signed_picks g.M.Multiplier.signed l.picks)).entries)
-    (λ v. coefficient v (total (map g.L.Constraint.line l.lines) (signed_picks g.M.Multiplier.signed (drop l.p-index l.picks))).entries);
+      (λ v. coefficient v (total (map g.L.Constraint.line l.lines) (signed_picks g.M.Multiplier.signed l.picks)).entries)
+      (λ v. coefficient v (total (map g.L.Constraint.line l.lines) (signed_picks g.M.Multiplier.signed (drop l.p-index l.picks))).entries);
   bound : IfSome l.next (λ v. v < 2 ^ 32);
   kept : AreEntries (total (map g.L.Constraint.line l.lines) (signed_picks g.M.Multiplier.signed (drop l.p-index l.picks))).entries → AreEntries (total (map g.L.Constraint.line l.lines) (signed_picks g.M.Multiplier.signed l.picks)).entries;
 }

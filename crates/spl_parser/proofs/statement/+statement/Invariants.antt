@@ -65,7 +65,7 @@ abbrev pub decreases-further-chain : goal.decreases-further-chain
 decreases-further-chain l = size (stream l.tokens)
 
 abbrev pub invariant-rest_of_body-chain : goal.invariant-rest_of_body-chain
-invariant-rest_of_body-chain l = Running (only marks.Semicolon) (continuing (value_of usual) (lower_of usual l.room)) (closed_body (value_of usual) (lower_of usual l.room)) (statement_views l.statements.items, l.count) (stream l.tokens) (stream l.fn.tokens) (rest_of_body (value_of usual) (lower_of usual l.room) (statement_views l.fn.statements.items, l.fn.count) (stream l.fn.tokens))
+invariant-rest_of_body-chain l = Running (only marks.Semicolon) (continuing (value_of usual) (lower_of usual l.room)) closed_body (statement_views l.statements.items, l.count) (stream l.tokens) (stream l.fn.tokens) (rest_of_body (value_of usual) (lower_of usual l.room) (statement_views l.fn.statements.items, l.fn.count) (stream l.fn.tokens))
 
 abbrev pub decreases-rest_of_body-chain : goal.decreases-rest_of_body-chain
 decreases-rest_of_body-chain l = size (stream l.tokens)

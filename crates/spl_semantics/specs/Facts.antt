@@ -1,0 +1,21 @@
+-- What is promised of every run: its states meet the control facts, and it goes on to as many rounds as are wanted.
+use Rattle.std.specs.Prelude.{ℕ, ◌≤◌, List, ◌++◌, length}
+use Rattle.st_form.specs.declared.conditions.TransName.{TransName}
+use Rattle.observations.specs.Rounds.{Rounds}
+use Rattle.st_program.specs.Tree.{Processes}
+use Rattle.control_states.specs.declared.alternative.Alternative.{Alternative}
+use Rattle.control_states.specs.Control.{InControl}
+use Rattle.control_facts.specs.Alternatives.{control_of}
+use Rattle.spl_semantics.specs.Runs.{State, Follows, image, observed}
+
+-- control is at the locations of a control state of the program
+abbrev pub MeetsControl : Processes → State → Type 0
+MeetsControl p s = (place : ℕ → Alternative) × InControl (control_of p) place (image p s).located
+
+-- the run from s goes on, and the last part of the longer run is n consecutive rounds
+pub record GoesOn (p : Processes) (s : State) (later : List (TransName × State)) (n : ℕ) : Type 0 where
+  pub more : List (TransName × State)
+  pub follow : Follows p s (later ++ more)
+  pub begin : ℕ
+  pub behind : length later ≤ begin
+  pub rounds : Rounds (observed p s (later ++ more)) n begin (length (later ++ more))

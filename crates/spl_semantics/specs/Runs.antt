@@ -1,0 +1,95 @@
+-- States and runs of a program, and what is seen of a run.
+--
+-- A run is a finite one: a first state, and for each step its name and the state behind it. What is seen of a state is
+-- where control is, and the store; with it is seen which names are enabled.
+use Rattle.std.specs.Prelude.{◌≡◌, ℕ, suc, Bool, true, List, [], ◌∷◌, map, length, if◌then◌else◌, ⊤}
+use Rattle.std.specs.List.{list_any}
+use Rattle.st_form.specs.Formula.{Formula, Situation}
+use Rattle.st_form.specs.Exchange.{is_listed}
+use Rattle.st_form.specs.declared.conditions.TransName.{TransName}
+use Rattle.st_form.specs.declared.conditions.TransName.TheVariants.{Idle, Step}
+use Rattle.observations.specs.declared.Fairness.{Fairness}
+use Rattle.observations.specs.Observation.{Moment, Observation}
+use Rattle.st_program.specs.Tree.{Processes}
+use Rattle.st_program.specs.Member.{Member}
+use Rattle.st_program.specs.Spots.{all_spots}
+use Rattle.st_program.specs.Residuals.{Rests}
+use Rattle.spl_semantics.specs.Stores.{Store, situation, holds}
+use Rattle.spl_semantics.specs.Steps.{Act, begin, steps_of}
+use Rattle.spl_semantics.specs.Control.{fronts}
+use Rattle.spl_semantics.specs.Names.{all_names, same_name}
+
+pub record State : Type 0 where
+  pub left : Rests
+  pub store : Store
+
+-- the state behind a step
+abbrev pub behind_act : Act Rests → State
+behind_act a = record { left = a.left; store = a.store }
+
+-- all processes at the beginning of their bodies
+abbrev pub start : Processes → Store → State
+start p store = record { left = begin p (length (all_spots p)); store = store }
+
+-- a step of the name leads from the one state to the other: idling changes nothing, and another step is one of the list
+abbrev pub Leads : Processes → State → TransName → State → Type 0
+Leads p s Idle t = t ≡ s
+Leads p s (Step o part) t = (a : Act Rests) × Member a (steps_of s.left p s.store) × (a.name ≡ Step o part) × (t ≡ behind_act a)
+
+-- each step leads to the state behind it
+abbrev pub Follows : Processes → State → List (TransName × State) → Type 0
+Follows p s [] = ⊤
+Follows p s (step ∷ later) = Leads p s step.0 step.1 × Follows p step.1 later
+
+-- a first state of a program: all processes are at their beginning, and the initial condition holds
+pub record IsFirst (p : Processes) (initial : Formula) (s : State) : Type 0 where
+  pub begins : s.left ≡ begin p (length (all_spots p))
+  pub meets : holds initial s.store ≡ true
+
+-- a state of some run
+pub data Reached (p : Processes) (initial : Formula) : State → Type 0 where
+  first : {s : State} → IsFirst p initial s → Reached p initial s
+  next : {s t : State} (name : TransName) → Reached p initial s → Leads p s name t → Reached p initial t
+
+-- the locations where control is
+abbrev pub control : Processes → State → List ℕ
+control p s = fronts s.left p p
+
+-- what is seen of a state
+abbrev pub image : Processes → State → Situation
+image p s = situation s.store (λ l. is_listed l (control p s))
+
+-- whether some step has the name; idling is always a step
+abbrev pub is_enabled : Processes → State → TransName → Bool
+is_enabled p s Idle = true
+is_enabled p s (Step o part) = list_any (λ a. same_name a.name (Step o part)) (steps_of s.left p s.store)
+
+abbrev pub enabled_names : Processes → State → List Bool
+enabled_names p s = map (λ n. is_enabled p s n.0) (all_names p)
+
+abbrev pub seen : Processes → State → Moment Situation
+seen p s = record { state = image p s; enabled = enabled_names p s }
+
+-- the place of a name in the list of all names
+abbrev pub place_in : List (TransName × Fairness) → TransName → ℕ
+place_in [] name = 0
+place_in (n ∷ ns) name = if same_name name n.0 then 0 else suc (place_in ns name)
+
+abbrev pub place_of : Processes → TransName → ℕ
+place_of p name = place_in (all_names p) name
+
+-- what is seen of a run
+abbrev pub observed : Processes → State → List (TransName × State) → Observation Situation
+observed p s later = record {
+  fairness = map (λ n. n.1) (all_names p);
+  first = seen p s;
+  later = map (λ step. (place_of p step.0, seen p step.1)) later;
+}
+
+-- the observation is that of a run of the program
+pub record IsRunOf (p : Processes) (initial : Formula) (o : Observation Situation) : Type 0 where
+  pub state : State
+  pub later : List (TransName × State)
+  pub first : IsFirst p initial state
+  pub follow : Follows p state later
+  pub seen_is : o ≡ observed p state later

@@ -1,0 +1,48 @@
+//! The laws of programs' steps and runs, each the contract of a function that does nothing.
+ghost use Rattle.std.specs.Prelude.{◌↔◌, ℕ, List};
+ghost use Rattle.st_form.specs.Formula.{Formula};
+ghost use Rattle.st_form.specs.Plain.{plain};
+ghost use Rattle.st_form.specs.declared.conditions.TransName.{TransName};
+ghost use Rattle.st_program.specs.Member.{Member};
+ghost use Rattle.st_program.specs.Plain.{plain_children};
+ghost use Rattle.st_program.specs.Programs.{WellFormed};
+ghost use Rattle.st_program.specs.Residuals.{Rests};
+ghost use Rattle.st_program.specs.Tree.{Processes};
+ghost use Rattle.spl_semantics.specs.Cases.{Steps};
+ghost use Rattle.spl_semantics.specs.Facts.{MeetsControl, GoesOn};
+ghost use Rattle.spl_semantics.specs.Moving.{ControlMoves};
+ghost use Rattle.spl_semantics.specs.Runs.{State, IsFirst, Reached, Follows};
+ghost use Rattle.spl_semantics.specs.Steps.{Act, steps_of};
+ghost use Rattle.spl_semantics.specs.Stores.{Store};
+
+use st_program::Program;
+
+/// The list of steps and the relation by cases say the same, of whatever is left to run and in every store.
+pub fn steps_by_cases()
+    ensures { (p : Processes) → WellFormed p → (rs : Rests) (store : Store) (a : Act Rests) →
+        Member a (steps_of rs p store) ↔ Steps p rs store a.name a.mode a.left a.store }
+{}
+
+/// In every state of every run of a well-formed program its steps are the moves of its statements along the text.
+pub fn steps_are_moves()
+    ensures { (p : Processes) (initial : Formula) → WellFormed p → ControlMoves p initial }
+{}
+
+/// Every state of every run of the program meets the control facts: each active component is at exactly one of its
+/// alternatives, and control is at the locations among these.
+pub fn runs_meet_control(program: &Program)
+    ensures { (s : State) → Reached (plain_children program.now.processes) (plain program.now.initial) s →
+        MeetsControl (plain_children program.now.processes) s }
+{
+    let _ = &program.processes;
+}
+
+/// Every run of the program has an extension whose last part is as many consecutive rounds as are wanted.
+pub fn rounds_exist(program: &Program)
+    ensures { (s : State) (later : List (TransName × State)) (n : ℕ) →
+        IsFirst (plain_children program.now.processes) (plain program.now.initial) s →
+        Follows (plain_children program.now.processes) s later →
+        GoesOn (plain_children program.now.processes) s later n }
+{
+    let _ = &program.processes;
+}

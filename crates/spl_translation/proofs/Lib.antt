@@ -1,0 +1,5 @@
+pub mod Values
+pub mod Paths
+pub mod Pairs
+pub mod Corresponding
+pub mod Observed

@@ -1,0 +1,4 @@
+//! Programs as fair transition systems.
+#![tactic(auto)]
+
+pub mod laws;

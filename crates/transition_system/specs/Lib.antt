@@ -1,0 +1,4 @@
+pub mod Systems
+pub mod Meaning
+pub mod Bounds
+pub mod Plain

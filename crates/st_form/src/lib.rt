@@ -17,3 +17,6 @@ pub use formulas::{Form, copy_all};
 pub use replacement::Change;
 pub use simplification::simple_conjuncts;
 pub use st_linear::{Lin, LinFault, Line};
+
+#[cfg(test)]
+mod tests;

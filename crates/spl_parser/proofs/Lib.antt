@@ -11,3 +11,4 @@ pub mod ListLaw
 pub mod StatementLaw
 pub mod BodyLaw
 pub mod WholeLaw
+pub mod Completing

@@ -31,7 +31,7 @@ pub skip_starts : start (sign_of skip_mark.token) ≡ Some starts.Skip
 unfolding number
 skip_starts = ap start skip_mark.sign
 
-skip_calm : calm (sign_of skip_mark.token) ≡ true
+pub skip_calm : calm (sign_of skip_mark.token) ≡ true
 unfolding number calm
 skip_calm = witness_in marks.Skip skip_mark calm refl
 

@@ -6,6 +6,7 @@ use Rattle.st_tokens.specs.declared.limit.LimitKind.TheVariants as limits
 use Rattle.st_tokens.specs.Stream.{Stream, behind}
 use Rattle.st_reading.specs.declared.mark.Mark.{Mark}
 use Rattle.st_reading.specs.declared.mark.Mark.TheVariants as marks
+use Rattle.st_reading.specs.declared.sign.Sign.{Sign}
 use Rattle.st_reading.specs.Sign.{is}
 use Rattle.st_reading.specs.Faults.{Passed, passed}
 use Rattle.st_reading.specs.Reading.{other, Read, Label, ahead, place_of, name_of, is_name, refusal, expected, named, gives, then_reads, Turn, leaves, goes, on_operator, chain, size}
@@ -19,16 +20,16 @@ use Rattle.spl_parser.specs.ProgramTree.{Statement, stated, Action, skip, critic
 use Rattle.spl_parser.specs.Reading.{Reader, only, listing}
 
 -- whether a statement goes on so
-abbrev pub goes_on : Begun → Stream → Bool
-goes_on (fresh inner) s = begins inner (start (ahead s))
-goes_on (after_name l) s = is (ahead s) marks.Becomes
-goes_on (after_label l) s = begins false (start (ahead s))
+abbrev pub goes_on : Begun → Sign → Bool
+goes_on (fresh inner) g = begins inner (start g)
+goes_on (after_name l) g = is g marks.Becomes
+goes_on (after_label l) g = begins false (start g)
 
--- the place of a statement's first token
-abbrev pub front_place : Begun → Stream → ℕ
-front_place (fresh inner) s = place_of s
-front_place (after_name l) s = l.place
-front_place (after_label l) s = l.place
+-- the place of a statement's first token, where the next token stands at `place`
+abbrev pub front_place : Begun → ℕ → ℕ
+front_place (fresh inner) place = place
+front_place (after_name l) place = l.place
+front_place (after_label l) place = l.place
 
 -- a value, and how many there are then of what is counted
 abbrev pub Counted : Type 0 → Type 0
@@ -181,11 +182,11 @@ module _ (value : Reader Expr) where
 
   -- A limit is passed only where a statement goes on; then it is named at the statement's front.
   abbrev pub limited : LimitKind → Begun → Reader (Counted Statement)
-  limited kind b s = Err (other (passed kind (front_place b s)))
+  limited kind b s = Err (other (passed kind (front_place b (place_of s))))
 
   -- `may n` says whether one more statement may begin when n have.
   abbrev pub admitted : (ℕ → Bool) → Lower → Lower
-  admitted may r b n s = cond (goes_on b s) (cond (may n) (r b n s) (limited limits.Statements b s)) (Err (refusal s))
+  admitted may r b n s = cond (goes_on b (ahead s)) (cond (may n) (r b n s) (limited limits.Statements b s)) (Err (refusal s))
 
   -- A statement where that many more may stand round it.
   unfoldable pub inside : (ℕ → Bool) → ℕ → Lower

@@ -55,10 +55,10 @@ pub fn inside<'a>(
     ensures reads { Reads see (λ x. (statement_view x, count.new)) result (stream tokens.new) (lower_of usual room (begun_view begun.entry) count.old (stream tokens.old)) }
     ensures shrinks { size (stream tokens.new) ≤ size (stream tokens.old) }
 {
-    if !goes_on(begun, tokens) {
+    if !goes_on(begun, ahead(tokens)) {
         return Err(refusal(tokens));
     }
-    let place = front_place(begun, tokens);
+    let place = front_place(begun, place_of(tokens));
     if *count >= STATEMENTS {
         return Err(ParseFault::Limit(LimitKind::Statements, place));
     }

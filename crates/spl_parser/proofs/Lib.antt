@@ -12,3 +12,4 @@ pub mod StatementLaw
 pub mod BodyLaw
 pub mod WholeLaw
 pub mod Completing
+pub mod InsideLaw

@@ -9,7 +9,7 @@ use Rattle.st_reading.specs.declared.sign.Sign.TheVariants as signs
 use Rattle.st_reading.specs.Mark.{number}
 use Rattle.st_reading.specs.Sign.{sign_of, is}
 use Rattle.st_reading.specs.Faults.{Passed, passed}
-use Rattle.st_reading.specs.Reading.{Stop, other, Read, Label, label_of, name_of, ahead, place_of, size, is_name, gives, then_reads, on_operator, refusal, syntax}
+use Rattle.st_reading.specs.Reading.{Stop, other, Read, Label, label_of, name_of, ahead, place_of, size, is_name, gives, then_reads, on_operator, refusal, syntax, Counted}
 use Rattle.st_reading.specs.Steady.{head, Viable, SteadyAt, Within, Wide, wider, anything}
 use Rattle.st_reading.proofs.Streams.{ahead_same}
 use Rattle.st_reading.proofs.Steadiness.{at_stuck, at_over}
@@ -24,7 +24,7 @@ use Rattle.spl_parser.specs.ProgramTree.{Statement, stated, Action, skip, assign
 use Rattle.spl_parser.specs.Begun.{Begun, fresh, after_name, after_label}
 use Rattle.spl_parser.specs.Calm.{calm}
 use Rattle.spl_parser.specs.Reading.{Reader}
-use Rattle.spl_parser.specs.Statements.{Counted, Lower, goes_on, front_place, right_side_of, action_of, standing, bare_of, named_of, assigned_of, statement_of, limited, admitted, inside}
+use Rattle.spl_parser.specs.Statements.{Lower, goes_on, front_place, right_side_of, action_of, standing, bare_of, named_of, assigned_of, statement_of, limited, admitted, inside}
 use Rattle.spl_parser.proofs.Witnesses.{witness_is, witness_in, becomes_mark, colon_mark, skip_mark}
 use Rattle.spl_parser.proofs.ListLaw.{any_of, same}
 use Rattle.spl_parser.proofs.BodyLaw.{colon_calm, quiet}

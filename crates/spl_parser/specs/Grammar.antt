@@ -4,8 +4,9 @@ use Rattle.st_tokens.specs.Stream.{Lexeme}
 use Rattle.st_reading.specs.declared.mark.Mark.{Mark}
 use Rattle.st_reading.specs.declared.mark.Mark.TheVariants as marks
 use Rattle.st_reading.specs.declared.sign.Sign.{Sign}
-use Rattle.st_reading.specs.Sign.{sign_of, is}
-use Rattle.st_reading.specs.Reading.{Label, label_of, is_name}
+use Rattle.st_reading.specs.Sign.{sign_of}
+use Rattle.st_reading.specs.Reading.{Label, label_of}
+use Rattle.st_reading.specs.Spelling.{Is, IsName, OneName, Row, Row2}
 use Rattle.spl_parser.specs.declared.raw.Operator.{Operator}
 use Rattle.spl_parser.specs.declared.raw.Operator.TheVariants as operators
 use Rattle.spl_parser.specs.declared.sign.Front.{Front}
@@ -16,30 +17,6 @@ use Rattle.spl_parser.specs.Signs.{front, product_sign, sum_sign, comparison_sig
 use Rattle.spl_parser.specs.ExpressionTree.{Expr, Exprs, Kind, node, numeral, truth, name, at, negation, negative, all, any, pair, exprs, kind_of, start_of}
 use Rattle.spl_parser.specs.ProgramTree.{Statement, stated, Action, skip, critical, noncritical, assign, assign_all, await, request, release, conditional, while_do, forever, block, select, cooperate, group, Branch, no_branch, branch, Statements, statements, Body, body, Bodies, bodies, Declaration, Process, Program}
 use Rattle.spl_parser.specs.Reading.{Level, formula, negated, signed, joined}
-
--- the token is that mark; it is a name
-abbrev pub Is : Mark → Lexeme → Type 0
-Is mark t = is (sign_of t) mark ≡ true
-
-abbrev pub IsName : Lexeme → Type 0
-IsName t = is_name (sign_of t) ≡ true
-
--- { mark item }
-pub data Items {A : Type 0} (mark : Mark) (item : List Lexeme → A → Type 0) : List Lexeme → List A → Type 0 where
-  no_items : Items mark item [] []
-  item_more : (t : Lexeme) (a b : List Lexeme) (y : A) (ys : List A) → Is mark t → item a y → Items mark item b ys → Items mark item (t ∷ a ++ b) (y ∷ ys)
-
--- item { mark item }
-pub data Row {A : Type 0} (mark : Mark) (item : List Lexeme → A → Type 0) : List Lexeme → List A → Type 0 where
-  row : (a b : List Lexeme) (x : A) (xs : List A) → item a x → Items mark item b xs → Row mark item (a ++ b) (x ∷ xs)
-
--- item mark item { mark item }
-pub data Row2 {A : Type 0} (mark : Mark) (item : List Lexeme → A → Type 0) : List Lexeme → List A → Type 0 where
-  row2 : (a b : List Lexeme) (x y : A) (xs : List A) → item a x → Items mark item b (y ∷ xs) → Row2 mark item (a ++ b) (x ∷ y ∷ xs)
-
--- name
-pub data OneName : List Lexeme → Label → Type 0 where
-  one_name : (t : Lexeme) → IsName t → OneName (t ∷ []) (label_of t)
 
 -- EXPRESSIONS. `down` is what stands one level down; `at` stands where `places` are asked for.
 module _ (places : Bool) (down : Level → List Lexeme → Expr → Type 0) where

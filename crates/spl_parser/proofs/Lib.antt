@@ -7,6 +7,7 @@ pub mod CountedLoops
 pub mod Quiet
 pub mod ExpressionLaw
 pub mod Witnesses
+pub mod ExpressionSoundness
 pub mod ListLaw
 pub mod StatementLaw
 pub mod BodyLaw

@@ -64,6 +64,9 @@ counted_on xs x = goes (xs.0 ++ x.0 ∷ [], x.1)
 abbrev pub listed_on : {A : Type 0} → List A → A → Turn (List A) (List A)
 listed_on xs x = goes (xs ++ x ∷ [])
 
+abbrev grown : {A B : Type 0} → List A → A → Turn B (List A)
+grown xs x = goes (xs ++ x ∷ [])
+
 -- what was read before, and the items behind it
 pub record Extends {A : Type 0} (L : List Lexeme → List A → Type 0) (xs : List A) (ts : List Lexeme) (zs : List A) : Type 0 where
   pub more_items : List A
@@ -141,3 +144,52 @@ module _ {X A : Type 0} (mark : Mark) (r : Stream → Read X A) (L : List Lexeme
   unfolding chain
   listing_sound zero xs s zs rest h = list_ended xs s zs rest h
   listing_sound (suc k) xs s zs rest h = list_operator k (λ xs s zs rest h. listing_sound k xs s zs rest h) xs s zs rest (only mark (ahead s)) refl h
+
+-- A list whose reader puts it together at its end is the list, put together.
+module _ {X A B : Type 0} (mark : Mark) (r : Stream → Read X A) (g : List A → B) where
+  on_read : (k : ℕ) (again : (xs : List A) (s : Stream) → chain (only mark) (listing r) (λ zs. gives (g zs)) k xs s ≡ then_reads (chain (only mark) (listing r) gives k xs) (λ zs. gives (g zs)) s) (xs : List A) (q : Read X A)
+      → ((q >>= λ x. gives {X = X} (grown xs x.0) x.1) >>= λ y. turned (λ w n. chain (only mark) (listing r) (λ zs. gives (g zs)) k w n) y.0 y.1) ≡ (((q >>= λ x. gives {X = X} (listed_on xs x.0) x.1) >>= λ y. turned (λ w n. chain (only mark) (listing r) gives k w n) y.0 y.1) >>= λ z. gives {X = X} (g z.0) z.1)
+  on_read k again xs (Ok x) = again (xs ++ x.0 ∷ []) x.1
+  on_read k again xs (Err f) = refl
+
+  on_mark : (k : ℕ) (again : (xs : List A) (s : Stream) → chain (only mark) (listing r) (λ zs. gives (g zs)) k xs s ≡ then_reads (chain (only mark) (listing r) gives k xs) (λ zs. gives (g zs)) s) (xs : List A) (s : Stream) (p : Option (Unit {0}))
+      → on_operator p (gives {X = X} (g xs) s) (λ o. listing r o (place_of s) xs (behind s) >>= λ y. turned (λ w n. chain (only mark) (listing r) (λ zs. gives (g zs)) k w n) y.0 y.1)
+      ≡ (on_operator p (gives {X = X} xs s) (λ o. listing r o (place_of s) xs (behind s) >>= λ y. turned (λ w n. chain (only mark) (listing r) gives k w n) y.0 y.1) >>= λ z. gives {X = X} (g z.0) z.1)
+  on_mark k again xs s None = refl
+  on_mark k again xs s (Some o) = on_read k again xs (r (behind s))
+
+  pub listing_mapped : (k : ℕ) (xs : List A) (s : Stream) → chain (only mark) (listing r) (λ zs. gives (g zs)) k xs s ≡ then_reads (chain (only mark) (listing r) gives k xs) (λ zs. gives (g zs)) s
+  unfolding chain
+  listing_mapped zero xs s = refl
+  listing_mapped (suc k) xs s = on_mark k (λ xs s. listing_mapped k xs s) xs s (only mark (ahead s))
+
+-- what was read before, and at least one item behind it
+pub record Continues {A : Type 0} (L : List Lexeme → List A → Type 0) (xs : List A) (ts : List Lexeme) (zs : List A) : Type 0 where
+  pub first : A
+  pub others : List A
+  pub joined : zs ≡ xs ++ first ∷ others
+  pub spells : L ts (first ∷ others)
+
+module _ {X A : Type 0} (mark : Mark) (r : Stream → Read X A) (L : List Lexeme → A → Type 0) (sound : Sound r L) where
+  continued : (k : ℕ) (xs : List A) (t : Lexeme) → Is mark t → (s : Stream) (x : A) (m : Stream) (zs : List A) (rest : Stream) → Cut L s x m → Cut (Extends (Items mark L) (xs ++ x ∷ [])) m zs rest → Cut (Continues (Items mark L) xs) (more t s) zs rest
+  continued k xs t e s x m zs rest c d = record {
+    text = t ∷ c.text ++ d.text;
+    is = ap (more t) (c.is ∙ ap (λ n. c.text ++> n) d.is ∙ sym (append_stream c.text d.text rest));
+    spells = record { first = x; others = d.spells.more_items; joined = d.spells.joined ∙ append_assoc xs (x ∷ []) d.spells.more_items; spells = item_more t c.text d.text x d.spells.more_items e c.spells d.spells.spells };
+  }
+
+  -- where the mark stands ahead, an item is read behind it
+  pub listing_continues : (k : ℕ) (xs : List A) (t : Lexeme) (s : Stream) (zs : List A) (rest : Stream) → Is mark t → chain (only mark) (listing r) gives (suc k) xs (more t s) ≡ Ok (zs, rest) → Cut (Continues (Items mark L) xs) (more t s) zs rest
+  unfolding chain
+  listing_continues k xs t s zs rest e h =
+      let p = split r (λ x m. chain (only mark) (listing r) gives k (xs ++ x ∷ []) m) s zs rest (at_read (r s) (on_mark (is (sign_of t) mark) e h)) in
+      continued k xs t e s p.value p.middle zs rest (sound s p.value p.middle p.first) (listing_sound mark r L sound k (xs ++ p.value ∷ []) p.middle zs rest p.second)
+    where
+      at_read : (q : Read X A) → ((q >>= λ x. gives {X = X} (listed_on xs x.0) x.1) >>= λ y. turned (λ w n. chain (only mark) (listing r) gives k w n) y.0 y.1) ≡ Ok (zs, rest) → (q >>= λ x. chain (only mark) (listing r) gives k (xs ++ x.0 ∷ []) x.1) ≡ Ok (zs, rest)
+      at_read (Ok x) h = h
+      at_read (Err f) h = cc
+
+      on_mark : (b : Bool) → b ≡ true → on_operator (cond b (Some tt) None) (gives {X = X} xs (more t s)) (λ o. listing r o t.start xs s >>= λ y. turned (λ w n. chain (only mark) (listing r) gives k w n) y.0 y.1) ≡ Ok (zs, rest)
+          → ((r s >>= λ x. gives {X = X} (listed_on xs x.0) x.1) >>= λ y. turned (λ w n. chain (only mark) (listing r) gives k w n) y.0 y.1) ≡ Ok (zs, rest)
+      on_mark true e h = h
+      on_mark false e h = cc

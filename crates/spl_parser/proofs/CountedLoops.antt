@@ -7,43 +7,15 @@ use Rattle.st_reading.specs.declared.sign.Sign.{Sign}
 use Rattle.st_reading.specs.declared.sign.Sign.TheVariants as signs
 use Rattle.st_reading.specs.Sign.{is}
 use Rattle.st_reading.specs.Faults.{Passed}
-use Rattle.st_reading.specs.Reading.{Stop, Read, Label, ahead, place_of, size, gives, leaves, goes, expected, IsStop}
+use Rattle.st_reading.specs.Reading.{Stop, Read, Label, ahead, place_of, size, gives, leaves, goes, expected, IsStop, only, Counted, counting}
 use Rattle.st_reading.proofs.Chains.{Running, running_next, running_leaves, running_ends, running_fails}
+use Rattle.st_reading.proofs.Loops.{stop_as, only_some, only_none, mapped, map_fails}
 use Rattle.spl_parser.specs.ExpressionTree.{Expr}
 use Rattle.spl_parser.specs.ProgramTree.{Statement, Process, Body, body, statements}
 use Rattle.spl_parser.specs.Item.{Item, last, item}
-use Rattle.spl_parser.specs.Reading.{Reader, only}
-use Rattle.spl_parser.specs.Statements.{Counted, Lower, counting, item_of, turned_by, continuing, closed_body}
+use Rattle.spl_parser.specs.Reading.{Reader}
+use Rattle.spl_parser.specs.Statements.{Lower, item_of, turned_by, continuing, closed_body}
 use Rattle.spl_parser.specs.Programs.{Summed, process_of, further_process, usual}
-use Rattle.spl_parser.proofs.Levels.{stop_as}
-use Rattle.spl_parser.proofs.Loops.{only_some, only_none, mapped, map_fails}
-
-module _ {O A B : Type 0} (op : Sign → Option O) (r : O → ℕ → Reader (Counted A)) (finish : Counted (List A) → Reader B) (none : None ≡ op signs.Nothing) (xs : List A) (n : ℕ) (s start : Stream) (whole : Read Passed B) where
-  pub counting_next : (o : O) (x : A) (m : ℕ) (next after : Stream) (ys : List A) → Running op (counting r) finish (xs, n) s start whole → Some o ≡ op (ahead s) → next ≡ behind s → r o n next ≡ Ok ((x, m), after) → size after ≤ size next → ys ≡ xs ++ x ∷ []
-      → Running op (counting r) finish (ys, m) after start whole
-  counting_next o x m next after ys g h is_next e le made =
-      running_next op (counting r) finish none (xs, n) s start whole g o (ys, m) next after h is_next
-      (mapped (λ (y : Counted A). goes (xs ++ y.0 ∷ [], y.1)) (r o n) next after (x, m) e ∙ ap (λ z. Ok (goes (z, m), after)) (sym made)) le
-
-  pub counting_ends : Running op (counting r) finish (xs, n) s start whole → None ≡ op (ahead s) → whole ≡ finish (xs, n) s
-  counting_ends g h = running_ends op (counting r) finish none (xs, n) s start whole g h
-
-  pub counting_fails : (o : O) (e : Option (Stop Passed)) (next : Stream) → Running op (counting r) finish (xs, n) s start whole → Some o ≡ op (ahead s) → next ≡ behind s → IsStop e (r o n next) → IsStop e whole
-  counting_fails o e next g h is_next fails =
-      running_fails op (counting r) finish none (xs, n) s start whole g o e next h is_next (map_fails (λ (y : Counted A). goes (xs ++ y.0 ∷ [], y.1)) (r o n) next e fails)
-
--- behind a mark
-module _ {A B : Type 0} (mark : Mark) (r : ℕ → Reader (Counted A)) (finish : Counted (List A) → Reader B) (xs : List A) (n : ℕ) (s start : Stream) (whole : Read Passed B) where
-  pub linked_next : (x : A) (m : ℕ) (next after : Stream) (ys : List A) → Running (only mark) (counting (λ o. r)) finish (xs, n) s start whole → true ≡ is (ahead s) mark → next ≡ behind s → r n next ≡ Ok ((x, m), after) → size after ≤ size next → ys ≡ xs ++ x ∷ []
-      → Running (only mark) (counting (λ o. r)) finish (ys, m) after start whole
-  linked_next x m next after ys g h is_next e le made =
-      counting_next (only mark) (λ o. r) finish refl xs n s start whole tt x m next after ys g (only_some (ahead s) mark h) is_next e le made
-
-  pub linked_ends : Running (only mark) (counting (λ o. r)) finish (xs, n) s start whole → false ≡ is (ahead s) mark → whole ≡ finish (xs, n) s
-  linked_ends g h = counting_ends (only mark) (λ o. r) finish refl xs n s start whole g (only_none (ahead s) mark h)
-
-  pub linked_fails : (e : Option (Stop Passed)) (next : Stream) → Running (only mark) (counting (λ o. r)) finish (xs, n) s start whole → true ≡ is (ahead s) mark → next ≡ behind s → IsStop e (r n next) → IsStop e whole
-  linked_fails e next g h is_next fails = counting_fails (only mark) (λ o. r) finish refl xs n s start whole tt e next g (only_some (ahead s) mark h) is_next fails
 
 -- the items of a body
 module _ (value : Reader Expr) (lower : Lower) (xs : List Statement) (n : ℕ) (s start : Stream) (whole : Read Passed (Counted Body)) where

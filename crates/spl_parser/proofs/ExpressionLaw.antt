@@ -8,7 +8,7 @@ use Rattle.st_reading.specs.declared.sign.Sign.{Sign}
 use Rattle.st_reading.specs.declared.sign.Sign.TheVariants as signs
 use Rattle.st_reading.specs.Sign.{sign_of, is}
 use Rattle.st_reading.specs.Faults.{Passed, passed}
-use Rattle.st_reading.specs.Reading.{Stop, other, Read, ◌>>=◌, Label, ahead, place_of, name_of, label_of, refusal, expected, named, gives, then_reads, Turn, leaves, goes, turned, on_operator, chain, size, is_name}
+use Rattle.st_reading.specs.Reading.{Stop, other, Read, ◌>>=◌, Label, ahead, place_of, name_of, label_of, refusal, expected, named, gives, then_reads, Turn, leaves, goes, turned, on_operator, chain, size, is_name, only, listing}
 use Rattle.st_reading.specs.Steady.{head, Follows, Viable, SteadyAt, both, stops, Short, Within, Parts, calmer, Wide, wider, anything}
 use Rattle.st_reading.proofs.Streams.{follow_test}
 use Rattle.st_reading.proofs.Steadiness.{at_choice, at_shift, at_stuck, at_one, at_gives, bind_ok}
@@ -25,7 +25,7 @@ use Rattle.spl_parser.specs.declared.sign.Front.TheVariants as fronts
 use Rattle.spl_parser.specs.Signs.{front, product_sign, sum_sign, comparison_sign}
 use Rattle.spl_parser.specs.ExpressionTree.{Expr, Exprs, Kind, node, numeral, truth, name, at, negation as negation_kind, negative, all, any, pair, exprs, kind_of, start_of}
 use Rattle.spl_parser.specs.Calm.{calm}
-use Rattle.spl_parser.specs.Reading.{Reader, Level, formula, negated, signed, Down, only, joined, closing, seen, atom_at, atom_of, unary_at, unary_of, grouping, grouped, product_of, sum_of, compared, comparison_of, negation_at, negation_of, listing, chained, conjunction_of, disjunction_of, implied, expression_of, level_of, below}
+use Rattle.spl_parser.specs.Reading.{Reader, Level, formula, negated, signed, Down, joined, closing, seen, atom_at, atom_of, unary_at, unary_of, grouping, grouped, product_of, sum_of, compared, comparison_of, negation_at, negation_of, chained, conjunction_of, disjunction_of, implied, expression_of, level_of, below}
 use Rattle.spl_parser.proofs.Quiet.{quiet, product_calm, sum_calm, comparison_calm, only_calm, zero_token, name_token, close_token, close_is, close_calm, name_calm, zero_calm}
 
 same_calm : Within calm calm

@@ -5,16 +5,12 @@ use Rattle.st_reading.specs.declared.mark.Mark.TheVariants as marks
 use Rattle.st_reading.specs.Sign.{is}
 use Rattle.st_reading.specs.Faults.{Passed}
 use Rattle.st_reading.specs.Reading.{Stop, Read, ◌>>=◌, ahead, place_of, expected, IsStop}
+use Rattle.st_reading.proofs.Loops.{stop_as}
 use Rattle.spl_parser.specs.declared.raw.Operator.TheVariants as operators
 use Rattle.spl_parser.specs.declared.sign.Front.TheVariants as fronts
 use Rattle.spl_parser.specs.Signs.{front}
 use Rattle.spl_parser.specs.ExpressionTree.{Expr, node, negation, negative, kind_of}
 use Rattle.spl_parser.specs.Reading.{Level, formula, negated, signed, below, level_of, joined, atom_of, unary_of, negation_of, disjunction_of, expression_of}
-
--- A fault is carried from one reading to another.
-pub stop_as : {X A B : Type 0} (e : Option (Stop X)) (r : Result A (Stop X)) (w : Result B (Stop X)) → ((f : Stop X) → r ≡ Err f → w ≡ Err f) → IsStop e r → IsStop e w
-stop_as None r w go h = tt
-stop_as (Some f) r w go h = go f h
 
 pub below_is : (places : Bool) (room : ℕ) (level : Level) (place : ℕ) (s : Stream) → 0 < room → below places room level place s ≡ level_of places (below places (room - 1)) level s
 unfolding below

@@ -7,7 +7,10 @@ pub mod CountedLoops
 pub mod Quiet
 pub mod ExpressionLaw
 pub mod Witnesses
+pub mod ExpressionSoundness
 pub mod ListLaw
 pub mod StatementLaw
 pub mod BodyLaw
 pub mod WholeLaw
+pub mod Completing
+pub mod InsideLaw

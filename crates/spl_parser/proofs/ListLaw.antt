@@ -8,14 +8,14 @@ use Rattle.st_reading.specs.declared.sign.Sign.TheVariants as signs
 use Rattle.st_reading.specs.Mark.{number}
 use Rattle.st_reading.specs.Sign.{is}
 use Rattle.st_reading.specs.Faults.{Passed}
-use Rattle.st_reading.specs.Reading.{Label, Turn, leaves, goes, expected, named, gives, then_reads, chain, size, syntax}
+use Rattle.st_reading.specs.Reading.{Label, Turn, leaves, goes, expected, named, gives, then_reads, chain, size, syntax, only, listing, further}
 use Rattle.st_reading.specs.Steady.{Within, Parts, calmer, takes, Wide, wider, moves, anything}
 use Rattle.st_reading.proofs.Lawful.{Lawful, lawful_bind, lawful_gives, lawful_map, lawful_named, lawful_chain, lawful_weak}
 use Rattle.spl_parser.specs.ExpressionTree.{Expr}
 use Rattle.spl_parser.specs.ProgramTree.{Action, assign_all}
 use Rattle.spl_parser.specs.Calm.{calm, calm_but}
-use Rattle.spl_parser.specs.Reading.{Reader, only, listing}
-use Rattle.spl_parser.specs.Statements.{further, listed_of, right_side_of, all_assigned_of}
+use Rattle.spl_parser.specs.Reading.{Reader}
+use Rattle.spl_parser.specs.Statements.{listed_of, right_side_of, all_assigned_of}
 use Rattle.spl_parser.proofs.Quiet.{but_calm, but_none, name_token}
 use Rattle.spl_parser.proofs.Witnesses.{lawful_mark, becomes_mark, comma_mark, close_mark, open_mark}
 

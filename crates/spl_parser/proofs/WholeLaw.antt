@@ -8,7 +8,7 @@ use Rattle.st_reading.specs.declared.sign.Sign.TheVariants as signs
 use Rattle.st_reading.specs.Mark.{number}
 use Rattle.st_reading.specs.Sign.{sign_of, is}
 use Rattle.st_reading.specs.Faults.{Passed}
-use Rattle.st_reading.specs.Reading.{Label, label_of, Turn, expected, named, is_name, gives, then_reads, on_operator, syntax}
+use Rattle.st_reading.specs.Reading.{Label, label_of, Turn, expected, named, is_name, gives, then_reads, on_operator, syntax, Counted}
 use Rattle.st_reading.specs.Steady.{Viable, Within, Parts, calmer, takes, Wide, wider, moves, anything}
 use Rattle.st_reading.proofs.Lawful.{Lawful, branching, lawful_bind, lawful_gives, lawful_map, lawful_weak}
 use Rattle.st_reading.proofs.Branches.{lawful_calmer, completes_gives, completes_map, lawful_fork, fork_completes, lawful_pick, pick_completes, picking}
@@ -20,7 +20,7 @@ use Rattle.spl_parser.specs.ProgramTree.{Statement, stated, statements, Action, 
 use Rattle.spl_parser.specs.Begun.{Begun, fresh, after_name, after_label}
 use Rattle.spl_parser.specs.Calm.{calm, calm_but, calm_but2}
 use Rattle.spl_parser.specs.Reading.{Reader}
-use Rattle.spl_parser.specs.Statements.{Counted, Lower, counted, right_side_of, all_assigned_of, assigned_of, sequence_of, selection_of, children_of, conditional_of, doing, enclosed, action_of, standing, bare_of, named_of, statement_of}
+use Rattle.spl_parser.specs.Statements.{Lower, counted, right_side_of, all_assigned_of, assigned_of, sequence_of, selection_of, children_of, conditional_of, doing, enclosed, action_of, standing, bare_of, named_of, statement_of}
 use Rattle.spl_parser.proofs.Quiet.{but_calm, name_token}
 use Rattle.spl_parser.proofs.Witnesses.{Witness, witness_is, witness_in, lawful_mark, close_block_mark, close_group_mark, open_block_mark, colon_mark, do_mark, forever_mark, coend_mark, skip_mark}
 use Rattle.spl_parser.proofs.ListLaw.{any_of, same, lawful_name, lawful_right_side, lawful_all_assigned}
@@ -31,7 +31,7 @@ pub skip_starts : start (sign_of skip_mark.token) ≡ Some starts.Skip
 unfolding number
 skip_starts = ap start skip_mark.sign
 
-skip_calm : calm (sign_of skip_mark.token) ≡ true
+pub skip_calm : calm (sign_of skip_mark.token) ≡ true
 unfolding number calm
 skip_calm = witness_in marks.Skip skip_mark calm refl
 

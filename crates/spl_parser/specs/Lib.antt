@@ -8,3 +8,4 @@ pub mod Begun
 pub mod Statements
 pub mod Programs
 pub mod Parsing
+pub mod Grammar

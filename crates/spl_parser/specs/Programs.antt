@@ -5,12 +5,12 @@ use Rattle.st_tokens.specs.Stream.{Stream, ends, breaks, more, behind, text_stre
 use Rattle.st_reading.specs.declared.mark.Mark.TheVariants as marks
 use Rattle.st_reading.specs.Sign.{is}
 use Rattle.st_reading.specs.Faults.{Passed, passed}
-use Rattle.st_reading.specs.Reading.{other, Read, Label, ahead, place_of, name_of, is_name, refusal, expected, gives, then_reads, Turn, leaves, goes, on_operator, chain, size}
+use Rattle.st_reading.specs.Reading.{other, Read, Label, ahead, place_of, name_of, is_name, refusal, expected, gives, then_reads, Turn, leaves, goes, on_operator, chain, size, only, Counted, counting, linked}
 use Rattle.spl_parser.specs.Signs.{mode, kind}
 use Rattle.spl_parser.specs.ExpressionTree.{Expr}
 use Rattle.spl_parser.specs.ProgramTree.{Body, Declaration, Process, Program}
-use Rattle.spl_parser.specs.Reading.{Reader, only, expression_of, below}
-use Rattle.spl_parser.specs.Statements.{Counted, Lower, counting, linked, body_of, inside}
+use Rattle.spl_parser.specs.Reading.{Reader, expression_of, below}
+use Rattle.spl_parser.specs.Statements.{Lower, body_of, inside}
 
 -- how much a program may have: whether one more may begin when there are n
 pub record Limits : Type 0 where

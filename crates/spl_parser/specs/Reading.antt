@@ -7,7 +7,7 @@ use Rattle.st_reading.specs.declared.mark.Mark.TheVariants as marks
 use Rattle.st_reading.specs.declared.sign.Sign.{Sign}
 use Rattle.st_reading.specs.Sign.{is}
 use Rattle.st_reading.specs.Faults.{Passed, passed}
-use Rattle.st_reading.specs.Reading.{Stop, other, Read, ◌>>=◌, Label, ahead, place_of, name_of, refusal, expected, named, gives, then_reads, Turn, leaves, goes, on_operator, chain, size}
+use Rattle.st_reading.specs.Reading.{Stop, other, Read, ◌>>=◌, Label, ahead, place_of, name_of, refusal, expected, named, gives, then_reads, Turn, leaves, goes, on_operator, chain, size, only, listing}
 use Rattle.spl_parser.specs.declared.raw.Operator.{Operator}
 use Rattle.spl_parser.specs.declared.raw.Operator.TheVariants as operators
 use Rattle.spl_parser.specs.declared.sign.Front.{Front}
@@ -27,10 +27,6 @@ pub data Level : Type 0 where
 -- A reader of what is one level down, given the place of the token that opens the level.
 abbrev pub Down : Type 0
 Down = Level → ℕ → Reader Expr
-
--- the mark, or nothing
-abbrev pub only : Mark → Sign → Option (Unit {0})
-only mark g = cond (is g mark) (Some tt) None
 
 abbrev pub joined : Operator → ℕ → Expr → Expr → Expr
 joined o place left right = node (start_of left) (pair o place left right)
@@ -87,10 +83,6 @@ negation_at places down s _ = comparison_of places down s
 
 unfoldable pub negation_of : Bool → Down → Reader Expr
 negation_of places down s = negation_at places down s (front places (ahead s))
-
--- a further item of a list
-abbrev pub listing : {A B : Type 0} → Reader A → Unit {0} → ℕ → List A → Reader (Turn B (List A))
-listing item o place xs = then_reads item (λ x. gives (goes (xs ++ x ∷ [])))
 
 -- Behind the first item: the chain, where its mark comes; else the item stands for itself.
 abbrev pub chained : (Exprs → Kind) → Mark → Reader Expr → Expr → Reader Expr

@@ -6,9 +6,10 @@ use Rattle.st_tokens.specs.declared.limit.LimitKind.TheVariants as limits
 use Rattle.st_tokens.specs.Stream.{Stream, behind}
 use Rattle.st_reading.specs.declared.mark.Mark.{Mark}
 use Rattle.st_reading.specs.declared.mark.Mark.TheVariants as marks
+use Rattle.st_reading.specs.declared.sign.Sign.{Sign}
 use Rattle.st_reading.specs.Sign.{is}
 use Rattle.st_reading.specs.Faults.{Passed, passed}
-use Rattle.st_reading.specs.Reading.{other, Read, Label, ahead, place_of, name_of, is_name, refusal, expected, named, gives, then_reads, Turn, leaves, goes, on_operator, chain, size}
+use Rattle.st_reading.specs.Reading.{other, Read, Label, ahead, place_of, name_of, is_name, refusal, expected, named, gives, then_reads, Turn, leaves, goes, on_operator, chain, size, only, listing, Counted, further, linked}
 use Rattle.spl_parser.specs.declared.sign.Start.{Start}
 use Rattle.spl_parser.specs.declared.sign.Start.TheVariants as starts
 use Rattle.spl_parser.specs.Signs.{start, begins}
@@ -16,23 +17,19 @@ use Rattle.spl_parser.specs.Item.{Item, last, item}
 use Rattle.spl_parser.specs.Begun.{Begun, fresh, after_name, after_label}
 use Rattle.spl_parser.specs.ExpressionTree.{Expr}
 use Rattle.spl_parser.specs.ProgramTree.{Statement, stated, Action, skip, critical, noncritical, assign, assign_all, await, request, release, conditional, while_do, forever, block, select, cooperate, group, Branch, no_branch, branch, statements, Body, body, bodies}
-use Rattle.spl_parser.specs.Reading.{Reader, only, listing}
+use Rattle.spl_parser.specs.Reading.{Reader}
 
 -- whether a statement goes on so
-abbrev pub goes_on : Begun → Stream → Bool
-goes_on (fresh inner) s = begins inner (start (ahead s))
-goes_on (after_name l) s = is (ahead s) marks.Becomes
-goes_on (after_label l) s = begins false (start (ahead s))
+abbrev pub goes_on : Begun → Sign → Bool
+goes_on (fresh inner) g = begins inner (start g)
+goes_on (after_name l) g = is g marks.Becomes
+goes_on (after_label l) g = begins false (start g)
 
--- the place of a statement's first token
-abbrev pub front_place : Begun → Stream → ℕ
-front_place (fresh inner) s = place_of s
-front_place (after_name l) s = l.place
-front_place (after_label l) s = l.place
-
--- a value, and how many there are then of what is counted
-abbrev pub Counted : Type 0 → Type 0
-Counted A = A × ℕ
+-- the place of a statement's first token, where the next token stands at `place`
+abbrev pub front_place : Begun → ℕ → ℕ
+front_place (fresh inner) place = place
+front_place (after_name l) place = l.place
+front_place (after_label l) place = l.place
 
 -- A reader of statements that stand inside another.
 abbrev pub Lower : Type 0
@@ -41,18 +38,6 @@ Lower = Begun → ℕ → Reader (Counted Statement)
 -- what was read, and the count as it was
 abbrev pub counted : {A : Type 0} → ℕ → Reader A → Reader (Counted A)
 counted n r = then_reads r (λ x. gives (x, n))
-
--- further items behind a mark
-abbrev pub further : {A : Type 0} → Mark → Reader A → List A → Reader (List A)
-further mark r xs s = chain (only mark) (listing r) gives (size s) xs s
-
--- a further item of a list, counted
-abbrev pub counting : {O A B : Type 0} → (O → ℕ → Reader (Counted A)) → O → ℕ → Counted (List A) → Reader (Turn B (Counted (List A)))
-counting r o place xs = then_reads (r o xs.1) (λ x. gives (goes (xs.0 ++ x.0 ∷ [], x.1)))
-
--- further items behind a mark, counted
-abbrev pub linked : {A : Type 0} → Mark → (ℕ → Reader (Counted A)) → Counted (List A) → Reader (Counted (List A))
-linked mark r xs s = chain (only mark) (counting (λ o. r)) gives (size s) xs s
 
 -- item "," item { "," item } ")"
 unfoldable pub listed_of : {A : Type 0} → Reader A → Reader (List A)
@@ -181,11 +166,11 @@ module _ (value : Reader Expr) where
 
   -- A limit is passed only where a statement goes on; then it is named at the statement's front.
   abbrev pub limited : LimitKind → Begun → Reader (Counted Statement)
-  limited kind b s = Err (other (passed kind (front_place b s)))
+  limited kind b s = Err (other (passed kind (front_place b (place_of s))))
 
   -- `may n` says whether one more statement may begin when n have.
   abbrev pub admitted : (ℕ → Bool) → Lower → Lower
-  admitted may r b n s = cond (goes_on b s) (cond (may n) (r b n s) (limited limits.Statements b s)) (Err (refusal s))
+  admitted may r b n s = cond (goes_on b (ahead s)) (cond (may n) (r b n s) (limited limits.Statements b s)) (Err (refusal s))
 
   -- A statement where that many more may stand round it.
   unfoldable pub inside : (ℕ → Bool) → ℕ → Lower

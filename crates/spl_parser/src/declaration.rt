@@ -3,10 +3,9 @@
 ghost use Rattle.std.specs.Prelude.{◌≡◌, ◌≤◌, map};
 ghost use Rattle.st_tokens.specs.Stream.{stream};
 ghost use Rattle.st_reading.specs.declared.mark.Mark.TheVariants as marks;
-ghost use Rattle.st_reading.specs.Reading.{Reads, size};
+ghost use Rattle.st_reading.specs.Reading.{Reads, size, linked};
 ghost use Rattle.st_reading.specs.Faults.{see, name_view};
 ghost use Rattle.spl_parser.specs.ProgramTree.{declaration_view, declaration_views, initial_view};
-ghost use Rattle.spl_parser.specs.Statements.{linked};
 ghost use Rattle.spl_parser.specs.Programs.{variable_of, names_of, type_of, initial_of, declaration_of, declarations_of, usual};
 
 use crate::limits::VARIABLES;

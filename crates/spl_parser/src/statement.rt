@@ -4,12 +4,12 @@
 ghost use Rattle.std.specs.Prelude.{◌≡◌, ℕ, ◌≤◌};
 ghost use Rattle.st_tokens.specs.Stream.{stream};
 ghost use Rattle.st_reading.specs.declared.mark.Mark.TheVariants as marks;
-ghost use Rattle.st_reading.specs.Reading.{Reads, size};
+ghost use Rattle.st_reading.specs.Reading.{Reads, size, linked};
 ghost use Rattle.st_reading.specs.Faults.{see, name_view};
 ghost use Rattle.spl_parser.specs.Begun.{begun_view, fresh};
 ghost use Rattle.spl_parser.specs.Item.{item_view};
 ghost use Rattle.spl_parser.specs.ProgramTree.{statement_view, statement_views, action_view, label_view, body_view, body_views, option_branch};
-ghost use Rattle.spl_parser.specs.Statements.{linked, sequence_of, selection_of, item_of, rest_of_body, body_of, child_of, children_of, branch_of, conditional_of, action_of, bare_of, named_of, assigned_of, statement_of};
+ghost use Rattle.spl_parser.specs.Statements.{sequence_of, selection_of, item_of, rest_of_body, body_of, child_of, children_of, branch_of, conditional_of, action_of, bare_of, named_of, assigned_of, statement_of};
 ghost use Rattle.spl_parser.specs.Programs.{value_of, lower_of, usual};
 
 use crate::begun::{Begun, front_place, goes_on};
@@ -55,10 +55,10 @@ pub fn inside<'a>(
     ensures reads { Reads see (λ x. (statement_view x, count.new)) result (stream tokens.new) (lower_of usual room (begun_view begun.entry) count.old (stream tokens.old)) }
     ensures shrinks { size (stream tokens.new) ≤ size (stream tokens.old) }
 {
-    if !goes_on(begun, tokens) {
+    if !goes_on(begun, ahead(tokens)) {
         return Err(refusal(tokens));
     }
-    let place = front_place(begun, tokens);
+    let place = front_place(begun, place_of(tokens));
     if *count >= STATEMENTS {
         return Err(ParseFault::Limit(LimitKind::Statements, place));
     }

@@ -102,6 +102,30 @@ size (ends place) = 0
 size (breaks f) = 0
 size (more t s) = suc (size s)
 
+-- the mark, or nothing
+abbrev pub only : Mark → Sign → Option (Unit {0})
+only mark g = cond (is g mark) (Some tt) None
+
+-- a further item of a list
+abbrev pub listing : {X A B : Type 0} → (Stream → Read X A) → Unit {0} → ℕ → List A → Stream → Read X (Turn B (List A))
+listing r o place xs = then_reads r (λ x. gives (goes (xs ++ x ∷ [])))
+
+-- further items behind a mark
+abbrev pub further : {X A : Type 0} → Mark → (Stream → Read X A) → List A → Stream → Read X (List A)
+further mark r xs s = chain (only mark) (listing r) gives (size s) xs s
+
+-- a value, and how many there are then of what is counted
+abbrev pub Counted : Type 0 → Type 0
+Counted A = A × ℕ
+
+-- a further item of a list, counted
+abbrev pub counting : {X O A B : Type 0} → (O → ℕ → Stream → Read X (Counted A)) → O → ℕ → Counted (List A) → Stream → Read X (Turn B (Counted (List A)))
+counting r o place xs = then_reads (r o xs.1) (λ x. gives (goes (xs.0 ++ x.0 ∷ [], x.1)))
+
+-- further items behind a mark, counted
+abbrev pub linked : {X A : Type 0} → Mark → (ℕ → Stream → Read X (Counted A)) → Counted (List A) → Stream → Read X (Counted (List A))
+linked mark r xs s = chain (only mark) (counting (λ o. r)) gives (size s) xs s
+
 -- Want of memory, which `see` doesn't see, is free; any other fault is that of the reading.
 abbrev pub IsStop : {X Y : Type 0} → Option (Stop X) → Result Y (Stop X) → Type 0
 IsStop None read = Unit {0}

@@ -2,8 +2,9 @@
 use Rattle.std.specs.Prelude.{◌≡◌, ℕ, Bool, true, List, [], ◌∷◌, ◌++◌, Option, Some, Ok}
 use Rattle.st_tokens.specs.Stream.{◌++>◌, Lexeme, Stream}
 use Rattle.st_reading.specs.declared.sign.Sign.{Sign}
-use Rattle.st_reading.specs.Sign.{sign_of}
-use Rattle.st_reading.specs.Reading.{Read, Turn, leaves, goes}
+use Rattle.st_reading.specs.declared.mark.Mark.{Mark}
+use Rattle.st_reading.specs.Sign.{sign_of, is}
+use Rattle.st_reading.specs.Reading.{Read, Turn, leaves, goes, Label, label_of, is_name}
 
 -- x was read from s, and rest is left
 pub record Cut {A : Type 0} (L : List Lexeme → A → Type 0) (s : Stream) (x : A) (rest : Stream) : Type 0 where
@@ -24,3 +25,27 @@ pub data Links {O B S : Type 0} (op : Sign → Option O) (link : O → ℕ → S
 -- one text behind another
 pub data Both {A B : Type 0} (L : List Lexeme → A → Type 0) (M : A → List Lexeme → B → Type 0) : List Lexeme → B → Type 0 where
   behind_it : (a b : List Lexeme) (x : A) (y : B) → L a x → M x b y → Both L M (a ++ b) y
+
+-- the token is that mark; it is a name
+abbrev pub Is : Mark → Lexeme → Type 0
+Is mark t = is (sign_of t) mark ≡ true
+
+abbrev pub IsName : Lexeme → Type 0
+IsName t = is_name (sign_of t) ≡ true
+
+-- name
+pub data OneName : List Lexeme → Label → Type 0 where
+  one_name : (t : Lexeme) → IsName t → OneName (t ∷ []) (label_of t)
+
+-- { mark item }
+pub data Items {A : Type 0} (mark : Mark) (item : List Lexeme → A → Type 0) : List Lexeme → List A → Type 0 where
+  no_items : Items mark item [] []
+  item_more : (t : Lexeme) (a b : List Lexeme) (y : A) (ys : List A) → Is mark t → item a y → Items mark item b ys → Items mark item (t ∷ a ++ b) (y ∷ ys)
+
+-- item { mark item }
+pub data Row {A : Type 0} (mark : Mark) (item : List Lexeme → A → Type 0) : List Lexeme → List A → Type 0 where
+  row : (a b : List Lexeme) (x : A) (xs : List A) → item a x → Items mark item b xs → Row mark item (a ++ b) (x ∷ xs)
+
+-- item mark item { mark item }
+pub data Row2 {A : Type 0} (mark : Mark) (item : List Lexeme → A → Type 0) : List Lexeme → List A → Type 0 where
+  row2 : (a b : List Lexeme) (x y : A) (xs : List A) → item a x → Items mark item b (y ∷ xs) → Row2 mark item (a ++ b) (x ∷ y ∷ xs)

@@ -1,10 +1,10 @@
 use Rattle.std.proofs.Common.{◌∙◌, ap, refl}
 use Rattle.std.proofs.lemmas.Result.{err_from_is_err_and}
 use Rattle.std.proofs.lemmas.List.{map_push}
+use Rattle.st_reading.proofs.Loops.{counting_next, counting_ends, counting_fails}
 use Rattle.spl_parser.specs.Signs.{mode}
 use Rattle.spl_parser.specs.ProgramTree.{declaration_view, declaration_views}
 use Rattle.spl_parser.specs.Programs.{declaration_of, usual}
-use Rattle.spl_parser.proofs.CountedLoops.{counting_next, counting_ends, counting_fails}
 use Rattle.spl_parser.proofs.declaration.declarations.Goals as goal
 
 pub returns-in_err-next-clause-reads : goal.returns-in_err-next-clause-reads

@@ -1,9 +1,8 @@
 use Rattle.st_tokens.specs.Stream.{stream}
-use Rattle.st_reading.specs.Reading.{size, gives}
+use Rattle.st_reading.specs.Reading.{size, gives, counting}
 use Rattle.st_reading.proofs.Chains.{Running}
 use Rattle.spl_parser.specs.Signs.{mode}
 use Rattle.spl_parser.specs.ProgramTree.{declaration_views}
-use Rattle.spl_parser.specs.Statements.{counting}
 use Rattle.spl_parser.specs.Programs.{declaration_of, declarations_of, usual}
 use Rattle.spl_parser.proofs.declaration.declarations.Given as goal
 

@@ -4,7 +4,7 @@ use Rattle.std.proofs.lemmas.List.{map_push}
 use Rattle.st_reading.specs.declared.mark.Mark.TheVariants as marks
 use Rattle.st_reading.specs.Sign.{is}
 use Rattle.st_reading.specs.Faults.{name_view}
-use Rattle.spl_parser.proofs.CountedLoops.{linked_next, linked_ends, linked_fails}
+use Rattle.st_reading.proofs.Loops.{linked_next, linked_ends, linked_fails}
 use Rattle.spl_parser.proofs.declaration.further_variables.Goals as goal
 
 pub returns-in_err-next-clause-reads : goal.returns-in_err-next-clause-reads

@@ -1,11 +1,9 @@
 use Rattle.std.proofs.Common.{map}
 use Rattle.st_tokens.specs.Stream.{stream}
 use Rattle.st_reading.specs.declared.mark.Mark.TheVariants as marks
-use Rattle.st_reading.specs.Reading.{size, gives}
+use Rattle.st_reading.specs.Reading.{size, gives, only, counting, linked}
 use Rattle.st_reading.specs.Faults.{name_view}
 use Rattle.st_reading.proofs.Chains.{Running}
-use Rattle.spl_parser.specs.Reading.{only}
-use Rattle.spl_parser.specs.Statements.{counting, linked}
 use Rattle.spl_parser.specs.Programs.{variable_of, usual}
 use Rattle.spl_parser.proofs.declaration.further_variables.Given as goal
 

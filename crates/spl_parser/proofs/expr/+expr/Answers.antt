@@ -6,12 +6,13 @@ use Rattle.st_reading.specs.declared.mark.Mark.TheVariants as marks
 use Rattle.st_reading.specs.Sign.{is}
 use Rattle.st_reading.specs.Reading.{size}
 use Rattle.st_reading.proofs.Streams.{behind_size}
+use Rattle.st_reading.proofs.Loops.{listing_next, listing_ends, listing_fails}
 use Rattle.spl_parser.specs.declared.raw.Operator.TheVariants as operators
 use Rattle.spl_parser.specs.Signs.{front, product_sign, sum_sign}
 use Rattle.spl_parser.specs.ExpressionTree.{expr_view, kind_view, views, node, negation, negative}
 use Rattle.spl_parser.specs.Reading.{joined}
 use Rattle.spl_parser.proofs.Views.{view_all, view_any, view_not, view_negate, reads_made}
-use Rattle.spl_parser.proofs.Loops.{grouping_next, grouping_ends, grouping_fails, listing_next, listing_ends, listing_fails}
+use Rattle.spl_parser.proofs.Loops.{grouping_next, grouping_ends, grouping_fails}
 use Rattle.spl_parser.proofs.Levels.{atom_open, atom_fails, atom_unclosed, implication, implication_fails, negation_is, negation_fails, negative_is, negative_fails}
 use Rattle.spl_parser.proofs.expr.+expr.Goals as goal
 

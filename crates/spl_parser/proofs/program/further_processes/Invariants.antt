@@ -1,9 +1,8 @@
 use Rattle.st_tokens.specs.Stream.{stream}
 use Rattle.st_reading.specs.declared.mark.Mark.TheVariants as marks
-use Rattle.st_reading.specs.Reading.{size, gives}
+use Rattle.st_reading.specs.Reading.{size, gives, only}
 use Rattle.st_reading.proofs.Chains.{Running}
 use Rattle.spl_parser.specs.ProgramTree.{process_views}
-use Rattle.spl_parser.specs.Reading.{only}
 use Rattle.spl_parser.specs.Programs.{further_process, further_processes, usual}
 use Rattle.spl_parser.proofs.program.further_processes.Given as goal
 

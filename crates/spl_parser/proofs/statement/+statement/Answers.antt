@@ -4,10 +4,11 @@ use Rattle.std.proofs.lemmas.List.{map_push}
 use Rattle.st_tokens.specs.Stream.{stream}
 use Rattle.st_reading.specs.declared.mark.Mark.TheVariants as marks
 use Rattle.st_reading.specs.Sign.{is}
+use Rattle.st_reading.proofs.Loops.{linked_next, linked_ends, linked_fails}
 use Rattle.spl_parser.specs.ProgramTree.{statement_view, statement_views, body_view, body_views}
 use Rattle.spl_parser.specs.Item.{item_view}
 use Rattle.spl_parser.proofs.StatementRows.{view_made_body}
-use Rattle.spl_parser.proofs.CountedLoops.{linked_next, linked_ends, linked_fails, body_next, body_leaves, body_fails, body_closes, body_stays_open}
+use Rattle.spl_parser.proofs.CountedLoops.{body_next, body_leaves, body_fails, body_closes, body_stays_open}
 use Rattle.spl_parser.proofs.statement.+statement.Goals as goal
 
 pub further-returns-in_err-next-clause-reads : goal.further-returns-in_err-next-clause-reads

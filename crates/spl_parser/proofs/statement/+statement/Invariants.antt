@@ -1,12 +1,11 @@
 use Rattle.std.proofs.Common.{◌+◌, ◌*◌}
 use Rattle.st_tokens.specs.Stream.{stream}
 use Rattle.st_reading.specs.declared.mark.Mark.TheVariants as marks
-use Rattle.st_reading.specs.Reading.{size, gives}
+use Rattle.st_reading.specs.Reading.{size, gives, only, counting, linked}
 use Rattle.st_reading.proofs.Chains.{Running}
 use Rattle.spl_parser.specs.Begun.{fresh}
 use Rattle.spl_parser.specs.ProgramTree.{statement_views, body_views}
-use Rattle.spl_parser.specs.Reading.{only}
-use Rattle.spl_parser.specs.Statements.{counting, linked, continuing, closed_body, rest_of_body, child_of}
+use Rattle.spl_parser.specs.Statements.{continuing, closed_body, rest_of_body, child_of}
 use Rattle.spl_parser.specs.Programs.{value_of, lower_of, usual}
 use Rattle.spl_parser.proofs.statement.+statement.Given as goal
 

@@ -1,0 +1,178 @@
+-- The grammar: which token lists stand for which trees, production by production.
+use Rattle.std.specs.Prelude.{◌≡◌, ℕ, zero, suc, Bool, true, false, List, [], ◌∷◌, ◌++◌, Option, Some, None}
+use Rattle.st_tokens.specs.Stream.{Lexeme}
+use Rattle.st_reading.specs.declared.mark.Mark.{Mark}
+use Rattle.st_reading.specs.declared.mark.Mark.TheVariants as marks
+use Rattle.st_reading.specs.declared.sign.Sign.{Sign}
+use Rattle.st_reading.specs.Sign.{sign_of}
+use Rattle.st_reading.specs.Reading.{Label, label_of}
+use Rattle.st_reading.specs.Spelling.{Is, IsName, OneName, Row, Row2}
+use Rattle.spl_parser.specs.declared.raw.Operator.{Operator}
+use Rattle.spl_parser.specs.declared.raw.Operator.TheVariants as operators
+use Rattle.spl_parser.specs.declared.sign.Front.{Front}
+use Rattle.spl_parser.specs.declared.sign.Front.TheVariants as fronts
+use Rattle.spl_parser.specs.declared.sign.Start.{Start}
+use Rattle.spl_parser.specs.declared.sign.Start.TheVariants as starts
+use Rattle.spl_parser.specs.Signs.{front, product_sign, sum_sign, comparison_sign, start, mode, kind}
+use Rattle.spl_parser.specs.ExpressionTree.{Expr, Exprs, Kind, node, numeral, truth, name, at, negation, negative, all, any, pair, exprs, kind_of, start_of}
+use Rattle.spl_parser.specs.ProgramTree.{Statement, stated, Action, skip, critical, noncritical, assign, assign_all, await, request, release, conditional, while_do, forever, block, select, cooperate, group, Branch, no_branch, branch, Statements, statements, Body, body, Bodies, bodies, Declaration, Process, Program}
+use Rattle.spl_parser.specs.Reading.{Level, formula, negated, signed, joined}
+
+-- EXPRESSIONS. `down` is what stands one level down; `at` stands where `places` are asked for.
+module _ (places : Bool) (down : Level → List Lexeme → Expr → Type 0) where
+  -- atom = numeral | "true" | "false" | name | "at" name | "(" expr ")"
+  pub data IsAtom : List Lexeme → Expr → Type 0 where
+    a_numeral : (t : Lexeme) (n : ℕ) → front places (sign_of t) ≡ fronts.Numeral n → IsAtom (t ∷ []) (node t.start (numeral n))
+    a_truth : (t : Lexeme) (b : Bool) → front places (sign_of t) ≡ fronts.Truth b → IsAtom (t ∷ []) (node t.start (truth b))
+    a_name : (t : Lexeme) → front places (sign_of t) ≡ fronts.Name → IsAtom (t ∷ []) (node t.start (name (label_of t)))
+    a_place : (t u : Lexeme) → front places (sign_of t) ≡ fronts.At → IsName u → IsAtom (t ∷ u ∷ []) (node t.start (at (label_of u)))
+    a_group : (t u : Lexeme) (ts : List Lexeme) (x : Expr) → front places (sign_of t) ≡ fronts.Open → down formula ts x → Is marks.Close u → IsAtom (t ∷ ts ++ u ∷ []) (node t.start (kind_of x))
+
+  -- unary = "-" unary | atom
+  pub data IsUnary : List Lexeme → Expr → Type 0 where
+    minus : (t : Lexeme) (ts : List Lexeme) (x : Expr) → front places (sign_of t) ≡ fronts.Minus → down signed ts x → IsUnary (t ∷ ts) (node t.start (negative t.start x))
+    plain : (ts : List Lexeme) (x : Expr) → IsAtom ts x → IsUnary ts x
+
+-- { op item }, grouped from the left behind an expression
+pub data Behind (op : Sign → Option Operator) (item : List Lexeme → Expr → Type 0) : Expr → List Lexeme → Expr → Type 0 where
+  stop : (x : Expr) → Behind op item x [] x
+  go : (x : Expr) (t : Lexeme) (o : Operator) (a b : List Lexeme) (y z : Expr) → op (sign_of t) ≡ Some o → item a y → Behind op item (joined o t.start x y) b z → Behind op item x (t ∷ a ++ b) z
+
+-- item { op item }
+pub data IsGrouped (op : Sign → Option Operator) (item : List Lexeme → Expr → Type 0) : List Lexeme → Expr → Type 0 where
+  grouping : (a b : List Lexeme) (x z : Expr) → item a x → Behind op item x b z → IsGrouped op item (a ++ b) z
+
+-- item { mark item }; one item stands for itself
+pub data IsChained (wrap : Exprs → Kind) (mark : Mark) (item : List Lexeme → Expr → Type 0) : List Lexeme → Expr → Type 0 where
+  alone : (a : List Lexeme) (x : Expr) → item a x → IsChained wrap mark item a x
+  chained : (a : List Lexeme) (x y : Expr) (ys : List Expr) → Row2 mark item a (x ∷ y ∷ ys) → IsChained wrap mark item a (node (start_of x) (wrap (exprs (x ∷ y ∷ ys))))
+
+module _ (places : Bool) (down : Level → List Lexeme → Expr → Type 0) where
+  -- prod = unary { "*" unary } ; sum = prod { ( "+" | "-" ) prod }
+  abbrev pub IsProduct : List Lexeme → Expr → Type 0
+  IsProduct = IsGrouped product_sign (IsUnary places down)
+
+  abbrev pub IsSum : List Lexeme → Expr → Type 0
+  IsSum = IsGrouped sum_sign IsProduct
+
+  -- cmp = sum [ ( "=" | "!=" | "<" | "<=" | ">" | ">=" ) sum ]
+  pub data IsComparison : List Lexeme → Expr → Type 0 where
+    sum : (ts : List Lexeme) (x : Expr) → IsSum ts x → IsComparison ts x
+    compare : (a b : List Lexeme) (t : Lexeme) (o : Operator) (x y : Expr) → IsSum a x → comparison_sign (sign_of t) ≡ Some o → IsSum b y → IsComparison (a ++ t ∷ b) (joined o t.start x y)
+
+  -- neg = "~" neg | cmp
+  pub data IsNegation : List Lexeme → Expr → Type 0 where
+    tilde : (t : Lexeme) (ts : List Lexeme) (x : Expr) → front places (sign_of t) ≡ fronts.Not → down negated ts x → IsNegation (t ∷ ts) (node t.start (negation x))
+    straight : (ts : List Lexeme) (x : Expr) → IsComparison ts x → IsNegation ts x
+
+  -- con = neg { "/\" neg } ; dis = con { "\/" con }
+  abbrev pub IsConjunction : List Lexeme → Expr → Type 0
+  IsConjunction = IsChained all marks.And IsNegation
+
+  abbrev pub IsDisjunction : List Lexeme → Expr → Type 0
+  IsDisjunction = IsChained any marks.Or IsConjunction
+
+  -- expr = dis [ "->" expr ]
+  pub data IsExpression : List Lexeme → Expr → Type 0 where
+    disjunction : (ts : List Lexeme) (x : Expr) → IsDisjunction ts x → IsExpression ts x
+    implication : (a b : List Lexeme) (t : Lexeme) (x y : Expr) → IsDisjunction a x → Is marks.Implies t → down formula b y → IsExpression (a ++ t ∷ b) (joined operators.Implies t.start x y)
+
+-- What stands one level down, with that many levels at most.
+abbrev pub Inside : Bool → ℕ → Level → List Lexeme → Expr → Type 0
+Inside places zero level ts x = ⊥
+Inside places (suc n) formula ts x = IsExpression places (Inside places n) ts x
+Inside places (suc n) negated ts x = IsNegation places (Inside places n) ts x
+Inside places (suc n) signed ts x = IsUnary places (Inside places n) ts x
+
+-- the tokens spell the formula, with some number of levels
+abbrev pub SpellsWithin : Bool → ℕ → List Lexeme → Expr → Type 0
+SpellsWithin places n ts x = IsExpression places (Inside places n) ts x
+
+abbrev pub Formula : Bool → List Lexeme → Expr → Type 0
+Formula places ts x = (n : ℕ) × SpellsWithin places n ts x
+
+-- STATEMENTS. `low` is what may stand inside a statement: at `true`, what may stand inside a group.
+module _ (value : List Lexeme → Expr → Type 0) where
+  -- ":=" expr
+  pub data IsRightSide : List Lexeme → Expr → Type 0 where
+    right_side : (t : Lexeme) (ts : List Lexeme) (e : Expr) → Is marks.Becomes t → value ts e → IsRightSide (t ∷ ts) e
+
+  module _ (low : Bool → List Lexeme → Statement → Type 0) where
+    -- [ "else" statement ]
+    pub data IsBranch (inner : Bool) : List Lexeme → Branch → Type 0 where
+      without : IsBranch inner [] no_branch
+      with_else : (t : Lexeme) (ts : List Lexeme) (x : Statement) → Is marks.Else t → low inner ts x → IsBranch inner (t ∷ ts) (branch x)
+
+    -- sequence [ ";" name ":" ] "]"
+    pub data IsBody : List Lexeme → Body → Type 0 where
+      unnamed : (a : List Lexeme) (u : Lexeme) (xs : List Statement) → Row marks.Semicolon (low false) a xs → Is marks.CloseBlock u → IsBody (a ++ u ∷ []) (body (statements xs) None)
+      ended : (a : List Lexeme) (s l c u : Lexeme) (xs : List Statement) → Row marks.Semicolon (low false) a xs → Is marks.Semicolon s → IsName l → Is marks.Colon c → Is marks.CloseBlock u
+          → IsBody (a ++ s ∷ l ∷ c ∷ u ∷ []) (body (statements xs) (Some (label_of l)))
+
+    -- child = "[" sequence [ ";" name ":" ] "]"
+    pub data IsChild : List Lexeme → Body → Type 0 where
+      child : (t : Lexeme) (ts : List Lexeme) (b : Body) → Is marks.OpenBlock t → IsBody ts b → IsChild (t ∷ ts) b
+
+    -- A statement behind its label, and the place of its first token. What stands inside a group has `true`; it is one of
+    -- fewer kinds, and so is what stands inside it.
+    pub data IsBare : Bool → ℕ → List Lexeme → Action → Type 0 where
+      s_assign : (inner : Bool) (t : Lexeme) (ts : List Lexeme) (e : Expr) → start (sign_of t) ≡ Some starts.Named → IsRightSide ts e → IsBare inner t.start (t ∷ ts) (assign (label_of t) e)
+      s_assign_all : (inner : Bool) (t u v w z : Lexeme) (a b : List Lexeme) (targets : List Label) (values : List Expr)
+          → start (sign_of t) ≡ Some starts.Listed → Row2 marks.Comma OneName a targets → Is marks.Close u → Is marks.Becomes v → Is marks.Open w → Row2 marks.Comma value b values → Is marks.Close z
+          → IsBare inner t.start (t ∷ a ++ u ∷ v ∷ w ∷ b ++ z ∷ []) (assign_all targets w.start values)
+      s_skip : (inner : Bool) (t : Lexeme) → start (sign_of t) ≡ Some starts.Skip → IsBare inner t.start (t ∷ []) skip
+      s_critical : (t : Lexeme) → start (sign_of t) ≡ Some starts.Critical → IsBare false t.start (t ∷ []) critical
+      s_noncritical : (t : Lexeme) → start (sign_of t) ≡ Some starts.Noncritical → IsBare false t.start (t ∷ []) noncritical
+      s_await : (inner : Bool) (t : Lexeme) (ts : List Lexeme) (e : Expr) → start (sign_of t) ≡ Some starts.Await → value ts e → IsBare inner t.start (t ∷ ts) (await e)
+      s_request : (t u : Lexeme) → start (sign_of t) ≡ Some starts.Request → IsName u → IsBare false t.start (t ∷ u ∷ []) (request (label_of u))
+      s_release : (t u : Lexeme) → start (sign_of t) ≡ Some starts.Release → IsName u → IsBare false t.start (t ∷ u ∷ []) (release (label_of u))
+      s_if : (inner : Bool) (t u v : Lexeme) (a b c : List Lexeme) (e : Expr) (x : Statement) (y : Branch) → start (sign_of t) ≡ Some starts.If → value a e → Is marks.Then u → low inner b x → IsBranch inner c y → Is marks.Fi v
+          → IsBare inner t.start (t ∷ a ++ u ∷ b ++ c ++ v ∷ []) (conditional e x y)
+      s_while : (t u : Lexeme) (a b : List Lexeme) (e : Expr) (x : Statement) → start (sign_of t) ≡ Some starts.While → value a e → Is marks.Do u → low false b x → IsBare false t.start (t ∷ a ++ u ∷ b) (while_do e x)
+      s_loop : (t u v : Lexeme) (b : List Lexeme) (x : Statement) → start (sign_of t) ≡ Some starts.Loop → Is marks.Forever u → Is marks.Do v → low false b x → IsBare false t.start (t ∷ u ∷ v ∷ b) (forever x)
+      s_block : (inner : Bool) (t u : Lexeme) (a : List Lexeme) (xs : List Statement) → start (sign_of t) ≡ Some starts.Block → Row marks.Semicolon (low inner) a xs → Is marks.CloseBlock u → IsBare inner t.start (t ∷ a ++ u ∷ []) (block (statements xs))
+      s_select : (t u v : Lexeme) (a : List Lexeme) (xs : List Statement) → start (sign_of t) ≡ Some starts.Select → Is marks.OpenBlock u → Row2 marks.Either (low false) a xs → Is marks.CloseBlock v
+          → IsBare false t.start (t ∷ u ∷ a ++ v ∷ []) (select (statements xs))
+      s_cooperate : (t u : Lexeme) (a : List Lexeme) (xs : List Body) → start (sign_of t) ≡ Some starts.Cooperate → Row2 marks.Bars IsChild a xs → Is marks.Coend u → IsBare false t.start (t ∷ a ++ u ∷ []) (cooperate (bodies xs))
+      s_group : (t u : Lexeme) (a : List Lexeme) (xs : List Statement) → start (sign_of t) ≡ Some starts.Group → Row marks.Semicolon (low true) a xs → Is marks.CloseGroup u → IsBare false t.start (t ∷ a ++ u ∷ []) (group (statements xs))
+
+    -- statement = [ name ":" ] bare; inside a group there is no label
+    pub data IsStatement : Bool → List Lexeme → Statement → Type 0 where
+      unlabelled : (inner : Bool) (place : ℕ) (ts : List Lexeme) (a : Action) → IsBare inner place ts a → IsStatement inner ts (stated None place a)
+      labelled : (t u : Lexeme) (place : ℕ) (ts : List Lexeme) (a : Action) → IsName t → Is marks.Colon u → IsBare false place ts a → IsStatement false (t ∷ u ∷ ts) (stated (Some (label_of t)) place a)
+
+  -- What may stand inside a statement, with that many levels at most.
+  abbrev pub Low : ℕ → Bool → List Lexeme → Statement → Type 0
+  Low zero inner ts x = ⊥
+  Low (suc n) inner ts x = IsStatement (Low n) inner ts x
+
+-- PROGRAMS
+module _ (value : List Lexeme → Expr → Type 0) (low : Bool → List Lexeme → Statement → Type 0) where
+  -- [ "where" expr ]
+  pub data IsInitial : List Lexeme → Option Expr → Type 0 where
+    free : IsInitial [] None
+    given : (t : Lexeme) (ts : List Lexeme) (e : Expr) → Is marks.Where t → value ts e → IsInitial (t ∷ ts) (Some e)
+
+  -- ( "in" | "local" | "out" ) name { "," name } ":" ( "integer" | "boolean" ) [ "where" expr ] ";"
+  pub data IsDeclaration : List Lexeme → Declaration → Type 0 where
+    declaration : (t u v w : Lexeme) (a b : List Lexeme) (input truth : Bool) (names : List Label) (initial : Option Expr)
+        → mode (sign_of t) ≡ Some input → Row marks.Comma OneName a names → Is marks.Colon u → kind (sign_of v) ≡ Some truth → IsInitial b initial → Is marks.Semicolon w
+        → IsDeclaration (t ∷ a ++ u ∷ v ∷ b ++ w ∷ []) (record { input = input; names = names; truth = truth; initial = initial })
+
+  -- { decl }
+  pub data Declarations : List Lexeme → List Declaration → Type 0 where
+    no_declarations : Declarations [] []
+    declaration_more : (a b : List Lexeme) (d : Declaration) (ds : List Declaration) → IsDeclaration a d → Declarations b ds → Declarations (a ++ b) (d ∷ ds)
+
+  -- name "::" "[" { decl } sequence [ ";" name ":" ] "]"
+  pub data IsProcess : List Lexeme → Process → Type 0 where
+    process : (t u v : Lexeme) (a b : List Lexeme) (ds : List Declaration) (x : Body) → IsName t → Is marks.Colons u → Is marks.OpenBlock v → Declarations a ds → IsBody value low b x
+        → IsProcess (t ∷ u ∷ v ∷ a ++ b) (record { name = label_of t; declarations = ds; body = x })
+
+  -- { decl } process { "||" process }
+  pub data IsProgram : List Lexeme → Program → Type 0 where
+    program : (a b : List Lexeme) (ds : List Declaration) (ps : List Process) → Declarations a ds → Row marks.Bars IsProcess b ps → IsProgram (a ++ b) (record { declarations = ds; processes = ps })
+
+-- The tokens spell the program, with any numbers of levels: its limits are no matter of the grammar.
+abbrev pub SpellsProgram : List Lexeme → Program → Type 0
+SpellsProgram ts x = (opened : ℕ) × (round : ℕ) × IsProgram (SpellsWithin false opened) (Low (SpellsWithin false opened) round) ts x

@@ -1,0 +1,110 @@
+-- Lists that are spelled are read, item by item.
+use Rattle.std.proofs.Common.{◌≡◌, ℕ, zero, suc, Bool, true, false, cond, List, [], ◌∷◌, ◌++◌, Option, Some, None, Result, Ok, Err, refl, sym, ap, subst, ◌∙◌, append-nil, append_assoc}
+use Rattle.st_tokens.specs.Stream.{◌++>◌, Lexeme, Stream, ends, breaks, more, behind}
+use Rattle.st_reading.specs.declared.mark.Mark.{Mark}
+use Rattle.st_reading.specs.declared.sign.Sign.{Sign}
+use Rattle.st_reading.specs.declared.sign.Sign.TheVariants as signs
+use Rattle.st_reading.specs.Sign.{sign_of, is}
+use Rattle.st_reading.specs.Reading.{Read, ◌>>=◌, ahead, size, then_reads, expected, gives, Turn, leaves, goes, turned, chain, only, listing, further, Counted, counting, linked}
+use Rattle.st_reading.specs.Spelling.{Is, Items, no_items, item_more, Row, row, Row2, row2}
+use Rattle.st_reading.specs.Steady.{Within}
+use Rattle.st_reading.proofs.Streams.{append_stream}
+use Rattle.st_reading.proofs.Steadiness.{bind_ok}
+use Rattle.st_reading.proofs.Soundness.{Shrinks}
+use Rattle.st_reading.proofs.Shrinking.{shrinks_map}
+use Rattle.st_reading.proofs.Chains.{chain_none, chain_of, chain_step}
+use Rattle.st_reading.proofs.Loops.{only_some}
+use Rattle.st_reading.proofs.ListSoundness.{Steps, no_steps, a_step, counted_on, listed_on}
+
+-- what is spelled is read, before a token of the set
+abbrev pub Complete : {X A : Type 0} → (Sign → Bool) → (Stream → Read X A) → (List Lexeme → A → Type 0) → Type 0
+Complete set r L = (ts : List Lexeme) (x : _) → L ts x → (after : Stream) → set (ahead after) ≡ true → r (ts ++> after) ≡ Ok (x, after)
+
+-- the value and some count
+pub record Read_as {X A : Type 0} (o : Read X (Counted A)) (x : A) (after : Stream) : Type 0 where
+  pub count : ℕ
+  pub reads : o ≡ Ok ((x, count), after)
+
+abbrev pub Counts : {X A : Type 0} → (Sign → Bool) → (ℕ → Stream → Read X (Counted A)) → (List Lexeme → A → Type 0) → Type 0
+Counts set r L = (n : ℕ) (ts : List Lexeme) (x : _) → L ts x → (after : Stream) → set (ahead after) ≡ true → Read_as (r n (ts ++> after)) x after
+
+-- the token that is wanted
+pub expected_is : {X : Type 0} (m : Mark) (t : Lexeme) (s : Stream) → Is m t → expected {X = X} m (more t s) ≡ Ok (t.start, s)
+expected_is m t s h = rw h refl
+
+module _ {X A : Type 0} (mark : Mark) (r : Stream → Read X A) (shrinks : Shrinks r) (L : List Lexeme → A → Type 0) (inner outer : Sign → Bool)
+    (marked : (g : Sign) → is g mark ≡ true → inner g ≡ true) (within : Within outer inner) (stops : (g : Sign) → outer g ≡ true → only mark g ≡ None) (complete : Complete inner r L) where
+  pub list_between : (b : List Lexeme) (ys : List A) → Items mark L b ys → (after : Stream) → outer (ahead after) ≡ true → inner (ahead (b ++> after)) ≡ true
+  list_between b ys no_items after h = within (ahead after) h
+  list_between b ys (item_more t a c y zs e l rest) after h = marked (sign_of t) e
+
+  grows : (o : Unit {0}) (place : ℕ) (xs : List A) → Shrinks {A = Turn (List A) (List A)} (listing r o place xs)
+  grows o place xs = shrinks_map (listed_on xs) r shrinks
+
+  pub items_complete : (b : List Lexeme) (ys : List A) → Items mark L b ys → (xs : List A) (after : Stream) → outer (ahead after) ≡ true → further mark r xs (b ++> after) ≡ Ok (xs ++ ys, after)
+  items_complete b ys no_items xs after h = chain_none (only mark) (listing r) gives (size after) xs after (sym (stops (ahead after) h)) ∙ ap (λ zs. Ok (zs, after)) (sym (append-nil xs))
+  items_complete b ys (item_more t a c y zs e l rest) xs after h =
+      let item : r (a ++> (c ++> after)) ≡ Ok (y, c ++> after) = complete a y l (c ++> after) (list_between c zs rest after h) in
+      let turn : listing r tt t.start xs (a ++> (c ++> after)) ≡ Ok (listed_on xs y, c ++> after) = rw item refl in
+      chain_step (only mark) refl (listing r) gives grows t tt xs ((a ++ c) ++> after) (sym (only_some (sign_of t) mark (sym e)))
+      ∙ ap (then_reads (listing r tt t.start xs) (turned (chain_of (only mark) refl (listing r) gives grows))) (append_stream a c after)
+      ∙ bind_ok (listing r tt t.start xs) (turned (chain_of (only mark) refl (listing r) gives grows)) (a ++> (c ++> after)) (listed_on xs y) (c ++> after) turn
+      ∙ items_complete c zs rest (xs ++ y ∷ []) after h
+      ∙ ap (λ z. Ok (z, after)) (append_assoc xs (y ∷ []) zs)
+
+  -- the first item, and those behind it
+  pub row_complete : (ts : List Lexeme) (xs : List A) → Row mark L ts xs → (after : Stream) → outer (ahead after) ≡ true → then_reads r (λ x. further mark r (x ∷ [])) (ts ++> after) ≡ Ok (xs, after)
+  row_complete ts zs (row a b x xs l items) after h =
+      ap (then_reads r (λ x. further mark r (x ∷ []))) (append_stream a b after)
+      ∙ bind_ok r (λ x. further mark r (x ∷ [])) (a ++> (b ++> after)) x (b ++> after) (complete a x l (b ++> after) (list_between b xs items after h))
+      ∙ items_complete b xs items (x ∷ []) after h
+
+  -- at least two items
+  two : (x : A) (b : List Lexeme) (zs : List A) → Items mark L b zs → (y : A) (ys : List A) → zs ≡ y ∷ ys → (after : Stream) → outer (ahead after) ≡ true
+      → then_reads (expected mark) (λ m. then_reads r (λ y. further mark r (x ∷ y ∷ []))) (b ++> after) ≡ Ok (x ∷ y ∷ ys, after)
+  two x b zs no_items y ys is after h = cc
+  two x b zs (item_more t a c u us e l rest) y ys is after h =
+      let item : r (a ++> (c ++> after)) ≡ Ok (u, c ++> after) = complete a u l (c ++> after) (list_between c us rest after h) in
+      let same : u ∷ us ≡ y ∷ ys = is in
+      bind_ok (expected mark) (λ m. then_reads r (λ y. further mark r (x ∷ y ∷ []))) (more t ((a ++ c) ++> after)) t.start ((a ++ c) ++> after) (expected_is mark t ((a ++ c) ++> after) e)
+      ∙ ap (then_reads r (λ y. further mark r (x ∷ y ∷ []))) (append_stream a c after)
+      ∙ bind_ok r (λ y. further mark r (x ∷ y ∷ [])) (a ++> (c ++> after)) u (c ++> after) item
+      ∙ items_complete c us rest (x ∷ u ∷ []) after h
+      ∙ ap (λ z. Ok (x ∷ z, after)) same
+
+  pub row2_complete : (ts : List Lexeme) (xs : List A) → Row2 mark L ts xs → (after : Stream) → outer (ahead after) ≡ true
+      → then_reads r (λ x. then_reads (expected mark) (λ m. then_reads r (λ y. further mark r (x ∷ y ∷ [])))) (ts ++> after) ≡ Ok (xs, after)
+  row2_complete ts zs (row2 a b x y xs l items) after h =
+      ap (then_reads r (λ x. then_reads (expected mark) (λ m. then_reads r (λ y. further mark r (x ∷ y ∷ []))))) (append_stream a b after)
+      ∙ bind_ok r (λ x. then_reads (expected mark) (λ m. then_reads r (λ y. further mark r (x ∷ y ∷ [])))) (a ++> (b ++> after)) x (b ++> after) (complete a x l (b ++> after) (list_between b (y ∷ xs) items after h))
+      ∙ two x b (y ∷ xs) items y xs refl after h
+
+-- COUNTED LISTS
+module _ {X O A : Type 0} (op : Sign → Option O) (nothing : None ≡ op signs.Nothing) (r : O → ℕ → Stream → Read X (Counted A)) (shrinks : (o : O) (n : ℕ) → Shrinks (r o n)) (L : O → Lexeme → List Lexeme → A → Type 0) (inner outer : Sign → Bool)
+    (marked : (g : Sign) (o : O) → op g ≡ Some o → inner g ≡ true) (within : Within outer inner) (stops : (g : Sign) → outer g ≡ true → op g ≡ None) (complete : (o : O) (t : Lexeme) → Counts inner (r o) (L o t)) where
+  pub steps_between : (b : List Lexeme) (ys : List A) → Steps op L b ys → (after : Stream) → outer (ahead after) ≡ true → inner (ahead (b ++> after)) ≡ true
+  steps_between b ys no_steps after h = within (ahead after) h
+  steps_between b ys (a_step t o a c y zs e l rest) after h = marked (sign_of t) o e
+
+  counts : (o : O) (place : ℕ) (xs : Counted (List A)) → Shrinks {A = Turn (Counted (List A)) (Counted (List A))} (counting r o place xs)
+  counts o place xs = shrinks_map (counted_on xs) (r o xs.1) (shrinks o xs.1)
+
+  pub steps_complete : (b : List Lexeme) (ys : List A) → Steps op L b ys → (xs : List A) (n : ℕ) (after : Stream) → outer (ahead after) ≡ true → Read_as (chain op (counting r) gives (size (b ++> after)) (xs, n) (b ++> after)) (xs ++ ys) after
+  steps_complete b ys no_steps xs n after h = record { count = n; reads = chain_none op (counting r) gives (size after) (xs, n) after (sym (stops (ahead after) h)) ∙ ap (λ zs. Ok ((zs, n), after)) (sym (append-nil xs)) }
+  steps_complete b ys (a_step t o a c y zs e l rest) xs n after h =
+      let item = complete o t n a y l (c ++> after) (steps_between c zs rest after h) in
+      let turn : counting r o t.start (xs, n) (a ++> (c ++> after)) ≡ Ok (counted_on (xs, n) (y, item.count), c ++> after) = rw item.reads refl in
+      let others = steps_complete c zs rest (xs ++ y ∷ []) item.count after h in
+      record {
+        count = others.count;
+        reads =
+          chain_step op nothing (counting r) gives counts t o (xs, n) ((a ++ c) ++> after) e
+          ∙ ap (then_reads (counting r o t.start (xs, n)) (turned (chain_of op nothing (counting r) gives counts))) (append_stream a c after)
+          ∙ bind_ok (counting r o t.start (xs, n)) (turned (chain_of op nothing (counting r) gives counts)) (a ++> (c ++> after)) (counted_on (xs, n) (y, item.count)) (c ++> after) turn
+          ∙ others.reads
+          ∙ ap (λ z. Ok ((z, others.count), after)) (append_assoc xs (y ∷ []) zs);
+      }
+
+pub items_steps : {A : Type 0} (m : Mark) (L : List Lexeme → A → Type 0) (ts : List Lexeme) (ys : List A) → Items m L ts ys → Steps (only m) (λ o t. L) ts ys
+items_steps m L ts ys no_items = no_steps
+items_steps m L ts ys (item_more t a b y zs e l rest) = a_step t tt a b y zs (sym (only_some (sign_of t) m (sym e))) l (items_steps m L b zs rest)

@@ -10,6 +10,7 @@ mod literals;
 mod parts;
 mod replacement;
 mod simplification;
+mod variables;
 
 pub use conditions::{CondName, Condition, Part, Premise, TransName};
 pub use conjuncts::{in_place, joined_conjuncts, opened};
@@ -17,6 +18,7 @@ pub use formulas::{Form, copy_all};
 pub use replacement::Change;
 pub use simplification::simple_conjuncts;
 pub use st_linear::{Lin, LinFault, Line};
+pub use variables::Variable;
 
 #[cfg(test)]
 mod tests;

@@ -8,6 +8,7 @@ pub mod Quiet
 pub mod ExpressionLaw
 pub mod Witnesses
 pub mod ExpressionSoundness
+pub mod StatementSoundness
 pub mod ListLaw
 pub mod StatementLaw
 pub mod BodyLaw

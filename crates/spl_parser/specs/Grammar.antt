@@ -119,7 +119,7 @@ module _ (value : List Lexeme → Expr → Type 0) where
       s_assign : (inner : Bool) (t : Lexeme) (ts : List Lexeme) (e : Expr) → start (sign_of t) ≡ Some starts.Named → IsRightSide ts e → IsBare inner t.start (t ∷ ts) (assign (label_of t) e)
       s_assign_all : (inner : Bool) (t u v w z : Lexeme) (a b : List Lexeme) (targets : List Label) (values : List Expr)
           → start (sign_of t) ≡ Some starts.Listed → Row2 marks.Comma OneName a targets → Is marks.Close u → Is marks.Becomes v → Is marks.Open w → Row2 marks.Comma value b values → Is marks.Close z
-          → IsBare inner t.start (t ∷ a ++ u ∷ v ∷ w ∷ b ++ z ∷ []) (assign_all targets w.start values)
+          → IsBare inner t.start (t ∷ a ++ (u ∷ v ∷ w ∷ b ++ z ∷ [])) (assign_all targets w.start values)
       s_skip : (inner : Bool) (t : Lexeme) → start (sign_of t) ≡ Some starts.Skip → IsBare inner t.start (t ∷ []) skip
       s_critical : (t : Lexeme) → start (sign_of t) ≡ Some starts.Critical → IsBare false t.start (t ∷ []) critical
       s_noncritical : (t : Lexeme) → start (sign_of t) ≡ Some starts.Noncritical → IsBare false t.start (t ∷ []) noncritical
@@ -127,7 +127,7 @@ module _ (value : List Lexeme → Expr → Type 0) where
       s_request : (t u : Lexeme) → start (sign_of t) ≡ Some starts.Request → IsName u → IsBare false t.start (t ∷ u ∷ []) (request (label_of u))
       s_release : (t u : Lexeme) → start (sign_of t) ≡ Some starts.Release → IsName u → IsBare false t.start (t ∷ u ∷ []) (release (label_of u))
       s_if : (inner : Bool) (t u v : Lexeme) (a b c : List Lexeme) (e : Expr) (x : Statement) (y : Branch) → start (sign_of t) ≡ Some starts.If → value a e → Is marks.Then u → low inner b x → IsBranch inner c y → Is marks.Fi v
-          → IsBare inner t.start (t ∷ a ++ u ∷ b ++ c ++ v ∷ []) (conditional e x y)
+          → IsBare inner t.start (t ∷ a ++ (u ∷ b ++ (c ++ v ∷ []))) (conditional e x y)
       s_while : (t u : Lexeme) (a b : List Lexeme) (e : Expr) (x : Statement) → start (sign_of t) ≡ Some starts.While → value a e → Is marks.Do u → low false b x → IsBare false t.start (t ∷ a ++ u ∷ b) (while_do e x)
       s_loop : (t u v : Lexeme) (b : List Lexeme) (x : Statement) → start (sign_of t) ≡ Some starts.Loop → Is marks.Forever u → Is marks.Do v → low false b x → IsBare false t.start (t ∷ u ∷ v ∷ b) (forever x)
       s_block : (inner : Bool) (t u : Lexeme) (a : List Lexeme) (xs : List Statement) → start (sign_of t) ≡ Some starts.Block → Row marks.Semicolon (low inner) a xs → Is marks.CloseBlock u → IsBare inner t.start (t ∷ a ++ u ∷ []) (block (statements xs))
@@ -157,7 +157,7 @@ module _ (value : List Lexeme → Expr → Type 0) (low : Bool → List Lexeme �
   pub data IsDeclaration : List Lexeme → Declaration → Type 0 where
     declaration : (t u v w : Lexeme) (a b : List Lexeme) (input truth : Bool) (names : List Label) (initial : Option Expr)
         → mode (sign_of t) ≡ Some input → Row marks.Comma OneName a names → Is marks.Colon u → kind (sign_of v) ≡ Some truth → IsInitial b initial → Is marks.Semicolon w
-        → IsDeclaration (t ∷ a ++ u ∷ v ∷ b ++ w ∷ []) (record { input = input; names = names; truth = truth; initial = initial })
+        → IsDeclaration (t ∷ a ++ (u ∷ v ∷ b ++ w ∷ [])) (record { input = input; names = names; truth = truth; initial = initial })
 
   -- { decl }
   pub data Declarations : List Lexeme → List Declaration → Type 0 where

@@ -5,8 +5,8 @@ use Rattle.st_reading.specs.declared.mark.Mark.{Mark}
 use Rattle.st_reading.specs.declared.sign.Sign.{Sign}
 use Rattle.st_reading.specs.declared.sign.Sign.TheVariants as signs
 use Rattle.st_reading.specs.Sign.{sign_of, is}
-use Rattle.st_reading.specs.Reading.{Stop, Read, ◌>>=◌, Label, ahead, place_of, name_of, label_of, is_name, refusal, then_reads, expected, named, gives, Turn, leaves, goes, turned, on_operator, chain, only, listing, Counted, counting}
-use Rattle.st_reading.specs.Spelling.{Cut, Sound, Both, behind_it, Is, IsName, OneName, one_name, Items, no_items, item_more}
+use Rattle.st_reading.specs.Reading.{Stop, Read, ◌>>=◌, Label, ahead, place_of, name_of, label_of, is_name, refusal, then_reads, expected, named, gives, Turn, leaves, goes, turned, on_operator, chain, only, listing, Counted, counting, linked, size, further}
+use Rattle.st_reading.specs.Spelling.{Cut, Sound, Both, behind_it, Is, IsName, OneName, one_name, Items, no_items, item_more, Row, row, Row2, row2}
 use Rattle.st_reading.proofs.Streams.{append_stream}
 use Rattle.st_reading.proofs.Soundness.{split, values, taken}
 
@@ -193,3 +193,75 @@ module _ {X A : Type 0} (mark : Mark) (r : Stream → Read X A) (L : List Lexeme
           → ((r s >>= λ x. gives {X = X} (listed_on xs x.0) x.1) >>= λ y. turned (λ w n. chain (only mark) (listing r) gives k w n) y.0 y.1) ≡ Ok (zs, rest)
       on_mark true e h = h
       on_mark false e h = cc
+
+-- COUNTED ROWS
+module _ {X A : Type 0} (mark : Mark) (r : ℕ → Stream → Read X (Counted A)) (L : List Lexeme → A → Type 0) (sound : (n : ℕ) → Sound (r n) (λ ts x. L ts x.0)) where
+  -- further items, behind those that were read before
+  further_sound : (xs : Counted (List A)) → Sound (linked mark r xs) (λ ts zs. Extends (Items mark L) xs.0 ts zs.0)
+  further_sound xs s zs rest h =
+      let c = counting_sound (only mark) refl (λ o. r) (λ o t. L) (λ o n t. sound n) (size s) xs s zs rest h in
+      record { text = c.text; is = c.is; spells = record { more_items = c.spells.more_items; joined = c.spells.joined; spells = steps_items mark L c.text c.spells.more_items c.spells.spells } }
+
+  -- an item, and further ones behind the mark
+  pub row_sound : (n : ℕ) → Sound (then_reads (r n) (λ x. linked mark r (x.0 ∷ [], x.1))) (λ ts zs. Row mark L ts zs.0)
+  row_sound n s zs rest h =
+      let p = split (r n) (λ x. linked mark r (x.0 ∷ [], x.1)) s zs rest h in
+      let c = sound n s p.value p.middle p.first in
+      let d = further_sound (p.value.0 ∷ [], p.value.1) p.middle zs rest p.second in
+      record {
+        text = c.text ++ d.text;
+        is = c.is ∙ ap (λ m. c.text ++> m) d.is ∙ sym (append_stream c.text d.text rest);
+        spells = subst (Row mark L (c.text ++ d.text)) (sym d.spells.joined) (row c.text d.text p.value.0 d.spells.more_items c.spells d.spells.spells);
+      }
+
+  abbrev behind_first : Counted A → Stream → Read X (Counted (List A))
+  behind_first x = then_reads (expected mark) (λ m. then_reads (r x.1) (λ y. linked mark r (x.0 ∷ y.0 ∷ [], y.1)))
+
+  -- an item, another one, and further ones
+  pub row2_sound : (n : ℕ) → Sound (then_reads (r n) behind_first) (λ ts zs. Row2 mark L ts zs.0)
+  row2_sound n s zs rest h =
+      let p = split (r n) behind_first s zs rest h in
+      let q = split (expected mark) (λ m. then_reads (r p.value.1) (λ y. linked mark r (p.value.0 ∷ y.0 ∷ [], y.1))) p.middle zs rest p.second in
+      let w = split (r p.value.1) (λ y. linked mark r (p.value.0 ∷ y.0 ∷ [], y.1)) q.middle zs rest q.second in
+      let a = sound n s p.value p.middle p.first in
+      let b = sound_expected mark p.middle q.value q.middle q.first in
+      let c = sound p.value.1 q.middle w.value w.middle w.first in
+      let d = further_sound (p.value.0 ∷ w.value.0 ∷ [], w.value.1) w.middle zs rest w.second in
+      record {
+        text = a.text ++ (b.text ++ (c.text ++ d.text));
+        is = a.is ∙ ap (λ m. a.text ++> m) (b.is ∙ ap (λ m. b.text ++> m) (c.is ∙ ap (λ m. c.text ++> m) d.is ∙ sym (append_stream c.text d.text rest)) ∙ sym (append_stream b.text (c.text ++ d.text) rest)) ∙ sym (append_stream a.text (b.text ++ (c.text ++ d.text)) rest);
+        spells = subst (Row2 mark L (a.text ++ (b.text ++ (c.text ++ d.text)))) (sym d.spells.joined) (two a.text b.text q.value c.text d.text p.value.0 w.value.0 d.spells.more_items a.spells b.spells c.spells d.spells.spells);
+      }
+    where
+      two : (a b : List Lexeme) (place : ℕ) (c d : List Lexeme) (x y : A) (ys : List A) → L a x → OneMark mark b place → L c y → Items mark L d ys → Row2 mark L (a ++ (b ++ (c ++ d))) (x ∷ y ∷ ys)
+      two a b place c d x y ys la (one_mark t e) lc items = row2 a (t ∷ c ++ d) x y ys la (item_more t c d y ys e lc items)
+
+-- A ROW THAT ISN'T COUNTED, AND WHAT IS READ BEHIND IT
+module _ {X A B : Type 0} (mark : Mark) (r : Stream → Read X A) (L : List Lexeme → A → Type 0) (sound : Sound r L) (k : List A → Stream → Read X B) (M : List A → List Lexeme → B → Type 0) (sound2 : (xs : List A) → Sound (k xs) (M xs)) where
+  abbrev listed_behind : A → Stream → Read X B
+  listed_behind x = then_reads (expected mark) (λ m. then_reads r (λ y. then_reads (further mark r (x ∷ y ∷ [])) k))
+
+  pub row2_then_sound : Sound (then_reads r listed_behind) (Both (Row2 mark L) M)
+  row2_then_sound s z rest h =
+      let p = split r listed_behind s z rest h in
+      let q = split (expected mark) (λ m. then_reads r (λ y. then_reads (further mark r (p.value ∷ y ∷ [])) k)) p.middle z rest p.second in
+      let w = split r (λ y. then_reads (further mark r (p.value ∷ y ∷ [])) k) q.middle z rest q.second in
+      let v = split (further mark r (p.value ∷ w.value ∷ [])) k w.middle z rest w.second in
+      let a = sound s p.value p.middle p.first in
+      let b = sound_expected mark p.middle q.value q.middle q.first in
+      let c = sound q.middle w.value w.middle w.first in
+      let d = listing_sound mark r L sound (size w.middle) (p.value ∷ w.value ∷ []) w.middle v.value v.middle v.first in
+      let e = sound2 v.value v.middle z rest v.second in
+      record {
+        text = (a.text ++ (b.text ++ (c.text ++ d.text))) ++ e.text;
+        is = whole s p.middle q.middle w.middle v.middle rest a.text b.text c.text d.text e.text a.is b.is c.is d.is e.is;
+        spells = behind_it (a.text ++ (b.text ++ (c.text ++ d.text))) e.text v.value z (subst (Row2 mark L (a.text ++ (b.text ++ (c.text ++ d.text)))) (sym d.spells.joined) (two a.text b.text q.value c.text d.text p.value w.value d.spells.more_items a.spells b.spells c.spells d.spells.spells)) e.spells;
+      }
+    where
+      two : (a b : List Lexeme) (place : ℕ) (c d : List Lexeme) (x y : A) (ys : List A) → L a x → OneMark mark b place → L c y → Items mark L d ys → Row2 mark L (a ++ (b ++ (c ++ d))) (x ∷ y ∷ ys)
+      two a b place c d x y ys la (one_mark t e) lc items = row2 a (t ∷ c ++ d) x y ys la (item_more t c d y ys e lc items)
+
+      whole : (s m1 m2 m3 m4 rest : Stream) (a b c d e : List Lexeme) → s ≡ a ++> m1 → m1 ≡ b ++> m2 → m2 ≡ c ++> m3 → m3 ≡ d ++> m4 → m4 ≡ e ++> rest → s ≡ ((a ++ (b ++ (c ++ d))) ++ e) ++> rest
+      whole s m1 m2 m3 m4 rest a b c d e h1 h2 h3 h4 h5 =
+          h1 ∙ ap (λ m. a ++> m) (h2 ∙ ap (λ m. b ++> m) (h3 ∙ ap (λ m. c ++> m) h4 ∙ sym (append_stream c d m4)) ∙ sym (append_stream b (c ++ d) m4)) ∙ sym (append_stream a (b ++ (c ++ d)) m4)
+          ∙ ap (λ m. (a ++ (b ++ (c ++ d))) ++> m) h5 ∙ sym (append_stream (a ++ (b ++ (c ++ d))) e rest)

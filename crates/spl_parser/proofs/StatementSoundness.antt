@@ -1,0 +1,205 @@
+-- What the readers of statements read is in the grammar.
+use Rattle.std.proofs.Common.{◌≡◌, ℕ, zero, suc, ◌+◌, Bool, true, false, cond, List, [], ◌∷◌, ◌++◌, Option, Some, None, Result, Ok, Err, refl, sym, ap, subst, ◌∙◌, append-nil, append_assoc}
+use Rattle.st_tokens.specs.Stream.{◌++>◌, Lexeme, Stream, ends, breaks, more, behind}
+use Rattle.st_reading.specs.declared.mark.Mark.{Mark}
+use Rattle.st_reading.specs.declared.mark.Mark.TheVariants as marks
+use Rattle.st_reading.specs.declared.sign.Sign.{Sign}
+use Rattle.st_reading.specs.declared.sign.Sign.TheVariants as signs
+use Rattle.st_reading.specs.Sign.{sign_of, is}
+use Rattle.st_reading.specs.Faults.{Passed}
+use Rattle.st_reading.specs.Reading.{Stop, Read, ◌>>=◌, Label, ahead, place_of, name_of, label_of, is_name, refusal, named, expected, gives, then_reads, Turn, leaves, goes, turned, on_operator, chain, size, only, listing, Counted, counting, linked, further}
+use Rattle.st_reading.specs.Spelling.{Cut, Sound, Both, behind_it, Is, IsName, OneName, one_name, Items, no_items, item_more, Row, row, Row2, row2}
+use Rattle.st_reading.proofs.Streams.{append_stream}
+use Rattle.st_reading.proofs.Soundness.{split, values, taken, sound_bind}
+use Rattle.st_reading.proofs.ListSoundness.{OneMark, one_mark, Given, given, sound_as, sound_gives, sound_expected, sound_named, Extends, only_is, row_sound, row2_sound, row2_then_sound}
+use Rattle.spl_parser.specs.declared.sign.Start.{Start}
+use Rattle.spl_parser.specs.declared.sign.Start.TheVariants as starts
+use Rattle.spl_parser.specs.Signs.{start, begins, is_inner}
+use Rattle.spl_parser.specs.ExpressionTree.{Expr}
+use Rattle.spl_parser.specs.ProgramTree.{Statement, stated, statements, Branch, no_branch, branch, conditional, Action, skip, critical, noncritical, assign, assign_all, await, request, release, while_do, forever, block, select, cooperate, group, Body, body, bodies}
+use Rattle.spl_parser.specs.Item.{Item, last, item}
+use Rattle.spl_parser.specs.Begun.{Begun, fresh, after_name, after_label}
+use Rattle.spl_parser.specs.Reading.{Reader}
+use Rattle.spl_parser.specs.Statements.{Lower, goes_on, counted, listed_of, right_side_of, all_assigned_of, assigned_of, sequence_of, selection_of, an_item, labelled_item, named_item, item_of, turned_by, continuing, closed_body, rest_of_body, body_of, child_of, children_of, branch_of, conditional_of, doing, enclosed, action_of, standing, bare_of, named_of, statement_of}
+use Rattle.spl_parser.specs.Grammar.{IsRightSide, right_side, IsBranch, without, with_else, IsBody, unnamed, ended, IsChild, child, IsBare, s_assign, s_assign_all, s_skip, s_critical, s_noncritical, s_await, s_request, s_release, s_if, s_while, s_loop, s_block, s_select, s_cooperate, s_group, IsStatement, unlabelled, labelled}
+
+-- behind a token
+pub behind_token : {A : Type 0} (t : Lexeme) (s : Stream) (K M : List Lexeme → A → Type 0) (x : A) (rest : Stream) → ((ts : List Lexeme) (y : A) → K ts y → M (t ∷ ts) y) → Cut K s x rest → Cut M (more t s) x rest
+behind_token t s K M x rest turn c = record { text = t ∷ c.text; is = ap (more t) c.is; spells = turn c.text x c.spells }
+
+-- item "," item { "," item } ")"
+Listed : {A : Type 0} → (List Lexeme → A → Type 0) → List Lexeme → List A → Type 0
+Listed L = Both (Row2 marks.Comma L) (λ xs. Both (OneMark marks.Close) (λ m. Given xs))
+
+listed_sound : {A : Type 0} (r : Reader A) (L : List Lexeme → A → Type 0) → Sound r L → Sound (listed_of r) (Listed L)
+unfolding listed_of Listed
+listed_sound r L sound s xs rest h =
+    row2_then_sound marks.Comma r L sound (λ xs. then_reads (expected marks.Close) (λ m. gives xs)) (λ xs. Both (OneMark marks.Close) (λ m. Given xs))
+    (λ xs. sound_bind (expected marks.Close) (λ m. gives xs) (OneMark marks.Close) (λ m. Given xs) (sound_expected marks.Close) (λ m. sound_gives xs)) s xs rest h
+
+module _ (value : Reader Expr) (V : List Lexeme → Expr → Type 0) (sv : Sound value V) where
+  from_right_side : (ts : List Lexeme) (e : Expr) → Both (OneMark marks.Becomes) (λ m. V) ts e → IsRightSide V ts e
+  from_right_side ts e (behind_it a b m x (one_mark t h) v) = right_side t b x h v
+
+  pub right_side_sound : Sound (right_side_of value) (IsRightSide V)
+  unfolding right_side_of
+  right_side_sound = sound_as (then_reads (expected marks.Becomes) (λ m. value)) (Both (OneMark marks.Becomes) (λ m. V)) (IsRightSide V) from_right_side (sound_bind (expected marks.Becomes) (λ m. value) (OneMark marks.Becomes) (λ m. V) (sound_expected marks.Becomes) (λ m. sv))
+
+  AllAssigned : List Lexeme → Action → Type 0
+  AllAssigned = Both (Listed OneName) (λ targets. Both (OneMark marks.Becomes) (λ m. Both (OneMark marks.Open) (λ list. Both (Listed V) (λ vs. Given (assign_all targets list vs)))))
+
+  all_assigned_sound : Sound (all_assigned_of value) AllAssigned
+  unfolding all_assigned_of AllAssigned
+  all_assigned_sound =
+      sound_bind (listed_of named) (λ targets. then_reads (expected marks.Becomes) (λ m. then_reads (expected marks.Open) (λ list. then_reads (listed_of value) (λ vs. gives (assign_all targets list vs)))))
+      (Listed OneName) (λ targets. Both (OneMark marks.Becomes) (λ m. Both (OneMark marks.Open) (λ list. Both (Listed V) (λ vs. Given (assign_all targets list vs))))) (listed_sound named OneName sound_named)
+      (λ targets. sound_bind (expected marks.Becomes) (λ m. then_reads (expected marks.Open) (λ list. then_reads (listed_of value) (λ vs. gives (assign_all targets list vs)))) (OneMark marks.Becomes) (λ m. Both (OneMark marks.Open) (λ list. Both (Listed V) (λ vs. Given (assign_all targets list vs)))) (sound_expected marks.Becomes)
+      (λ m. sound_bind (expected marks.Open) (λ list. then_reads (listed_of value) (λ vs. gives (assign_all targets list vs))) (OneMark marks.Open) (λ list. Both (Listed V) (λ vs. Given (assign_all targets list vs))) (sound_expected marks.Open)
+      (λ list. sound_bind (listed_of value) (λ vs. gives (assign_all targets list vs)) (Listed V) (λ vs. Given (assign_all targets list vs)) (listed_sound value V sv) (λ vs. sound_gives (assign_all targets list vs)))))
+
+  from_all_assigned : {low : Bool → List Lexeme → Statement → Type 0} (inner : Bool) (t : Lexeme) → start (sign_of t) ≡ Some starts.Listed → (ts : List Lexeme) (a : Action) → AllAssigned ts a → IsBare V low inner t.start (t ∷ ts) a
+  unfolding AllAssigned Listed
+  from_all_assigned {low} inner t h ts a (behind_it a1 b1 targets a2 (behind_it a3 b3 xs x3 rows1 (behind_it a4 b4 m4 x4 (one_mark u h4) given)) (behind_it a5 b5 m5 x5 (one_mark v h5) (behind_it a6 b6 list x6 (one_mark w h6) (behind_it a7 b7 vs x7 (behind_it a8 b8 ys x8 rows2 (behind_it a9 b9 m9 x9 (one_mark z h9) given)) given)))) =
+      simp (append_assoc, append-nil) (s_assign_all inner t u v w z a3 a8 targets vs h rows1 h4 h5 h6 rows2 h9)
+
+-- A statement of which something was read before, where `low` is what may stand inside it.
+abbrev pub Rest : (List Lexeme → Expr → Type 0) → (Bool → List Lexeme → Statement → Type 0) → Begun → List Lexeme → Statement → Type 0
+Rest V low (fresh inner) ts x = IsStatement V low inner ts x
+Rest V low (after_name l) ts x = (e : Expr) × IsRightSide V ts e × (x ≡ stated None l.place (assign l e))
+Rest V low (after_label l) ts x = (place : ℕ) × (a : Action) × IsBare V low false place ts a × (x ≡ stated (Some l) place a)
+
+-- What is said of the readers of inner statements: LL is what each reads, and a name or a label may stand before it.
+pub record Inner (V : List Lexeme → Expr → Type 0) (lower : Lower) (LL : Begun → List Lexeme → Statement → Type 0) : Type 0 where
+  pub sound : (b : Begun) (n : ℕ) → Sound (lower b n) (λ ts x. LL b ts x.0)
+  pub named : (t : Lexeme) (ts : List Lexeme) (x : Statement) → IsName t → LL (after_name (label_of t)) ts x → LL (fresh false) (t ∷ ts) x
+  pub labels : (t u : Lexeme) (ts : List Lexeme) (x : Statement) → IsName t → Is marks.Colon u → LL (after_label (label_of t)) ts x → LL (fresh false) (t ∷ u ∷ ts) x
+
+-- one item more at the end
+item_behind : {A : Type 0} {mark : Mark} {L : List Lexeme → A → Type 0} (b : List Lexeme) (ys : List A) → Items mark L b ys → (t : Lexeme) (p : List Lexeme) (y : A) → Is mark t → L p y → Items mark L (b ++ t ∷ p) (ys ++ y ∷ [])
+item_behind {A} {mark} {L} b ys no_items t p y f g = subst (λ (v : List Lexeme). Items mark L v (y ∷ [])) (append-nil (t ∷ p)) (item_more t p [] y [] f g no_items)
+item_behind {A} {mark} {L} b ys (item_more u a c x zs e l rest) t p y f g =
+    subst (λ (v : List Lexeme). Items mark L v (x ∷ zs ++ y ∷ [])) (ap (λ v. u ∷ v) (sym (append_assoc a c (t ∷ p)))) (item_more u a (c ++ t ∷ p) x (zs ++ y ∷ []) e l (item_behind c zs rest t p y f g))
+
+module _ (value : Reader Expr) (V : List Lexeme → Expr → Type 0) (sv : Sound value V) (lower : Lower) (LL : Begun → List Lexeme → Statement → Type 0) (sl : Inner V lower LL) where
+  abbrev low : Bool → List Lexeme → Statement → Type 0
+  low inner = LL (fresh inner)
+
+  pub sequence_sound : (inner : Bool) (n : ℕ) → Sound (sequence_of value lower inner n) (λ ts xs. Row marks.Semicolon (low inner) ts xs.0)
+  unfolding sequence_of
+  sequence_sound inner n s xs rest h = row_sound marks.Semicolon (lower (fresh inner)) (low inner) (sl.sound (fresh inner)) n s xs rest h
+
+  pub selection_sound : (n : ℕ) → Sound (selection_of value lower n) (λ ts xs. Row2 marks.Either (low false) ts xs.0)
+  unfolding selection_of
+  selection_sound n s xs rest h = row2_sound marks.Either (lower (fresh false)) (low false) (sl.sound (fresh false)) n s xs rest h
+
+  -- ITEMS OF A BODY
+  -- the label of its end, with the "]", or a statement
+  pub data IsItem : List Lexeme → Item → Type 0 where
+    the_end : (l c u : Lexeme) → IsName l → Is marks.Colon c → Is marks.CloseBlock u → IsItem (l ∷ c ∷ u ∷ []) (last (label_of l))
+    the_statement : (ts : List Lexeme) (x : Statement) → low false ts x → IsItem ts (item x)
+
+  abbrev Plain : Begun → List Lexeme → Counted Item → Type 0
+  Plain b = Both (λ ts (x : Counted Statement). LL b ts x.0) (λ x. Given (an_item x))
+
+  plain_item : (b : Begun) (n : ℕ) → Sound (then_reads (lower b n) (λ x. gives (an_item x))) (Plain b)
+  plain_item b n = sound_bind (lower b n) (λ x. gives (an_item x)) (λ ts x. LL b ts x.0) (λ x. Given (an_item x)) (sl.sound b n) (λ x. sound_gives (an_item x))
+
+  from_plain : (ts : List Lexeme) (y : Counted Item) → Plain (fresh false) ts y → IsItem ts y.0
+  from_plain ts y (behind_it a b x z l given) = rw append-nil (the_statement a x.0 l)
+
+  from_name : (t : Lexeme) → IsName t → (ts : List Lexeme) (y : Counted Item) → Plain (after_name (label_of t)) ts y → IsItem (t ∷ ts) y.0
+  from_name t e ts y (behind_it a b x z l given) = rw append-nil (the_statement (t ∷ a) x.0 (sl.named t a x.0 e l))
+
+  from_label : (t u : Lexeme) → IsName t → Is marks.Colon u → (ts : List Lexeme) (y : Counted Item) → Plain (after_label (label_of t)) ts y → IsItem (t ∷ u ∷ ts) y.0
+  from_label t u e f ts y (behind_it a b x z l given) = rw append-nil (the_statement (t ∷ u ∷ a) x.0 (sl.labels t u a x.0 e f l))
+
+  labelled_at : (t u : Lexeme) → IsName t → Is marks.Colon u → (n : ℕ) (s : Stream) (y : Counted Item) (rest : Stream) (b : Bool) → b ≡ is (ahead s) marks.CloseBlock
+      → cond b (gives {X = Passed} (last (label_of t), n) (behind s)) (then_reads (lower (after_label (label_of t)) n) (λ x. gives (an_item x)) s) ≡ Ok (y, rest) → Cut (λ ts z. IsItem ts z.0) (more t (more u s)) y rest
+  labelled_at t u e f n s y rest false g h =
+      let c = plain_item (after_label (label_of t)) n s y rest h in
+      record { text = t ∷ u ∷ c.text; is = ap (λ m. more t (more u m)) c.is; spells = from_label t u e f c.text y c.spells }
+  labelled_at t u e f n (ends p) y rest true g h = cc
+  labelled_at t u e f n (breaks p) y rest true g h = cc
+  labelled_at t u e f n (more w s) y rest true g h =
+      taken {X = Passed} (λ ts (z : Counted Item). IsItem ts z.0) (t ∷ u ∷ w ∷ []) (gives (last (label_of t), n) s) (last (label_of t), n) y s rest refl h (the_end t u w e f (sym g))
+
+  named_at : (t : Lexeme) → IsName t → (n : ℕ) (s : Stream) (y : Counted Item) (rest : Stream) (b : Bool) → b ≡ is (ahead s) marks.Colon
+      → cond b (labelled_item value lower n (label_of t) (behind s)) (then_reads (lower (after_name (label_of t)) n) (λ x. gives (an_item x)) s) ≡ Ok (y, rest) → Cut (λ ts z. IsItem ts z.0) (more t s) y rest
+  named_at t e n s y rest false g h =
+      let c = plain_item (after_name (label_of t)) n s y rest h in
+      record { text = t ∷ c.text; is = ap (more t) c.is; spells = from_name t e c.text y c.spells }
+  named_at t e n (ends p) y rest true g h = cc
+  named_at t e n (breaks p) y rest true g h = cc
+  named_at t e n (more u s) y rest true g h = labelled_at t u e (sym g) n s y rest (is (ahead s) marks.CloseBlock) refl h
+
+  item_at : (n : ℕ) (s : Stream) (y : Counted Item) (rest : Stream) (b : Bool) → b ≡ is_name (ahead s)
+      → cond b (named_item value lower n (name_of s) (behind s)) (then_reads (lower (fresh false) n) (λ x. gives (an_item x)) s) ≡ Ok (y, rest) → Cut (λ ts z. IsItem ts z.0) s y rest
+  item_at n s y rest false g h =
+      let c = plain_item (fresh false) n s y rest h in
+      record { text = c.text; is = c.is; spells = from_plain c.text y c.spells }
+  item_at n (ends p) y rest true g h = cc
+  item_at n (breaks p) y rest true g h = cc
+  item_at n (more t s) y rest true g h = named_at t (sym g) n s y rest (is (ahead s) marks.Colon) refl h
+
+  pub item_sound : (n : ℕ) → Sound (item_of value lower n) (λ ts y. IsItem ts y.0)
+  unfolding item_of
+  item_sound n s y rest h = item_at n s y rest (is_name (ahead s)) refl h
+
+  -- BODIES
+  -- the items behind those that were read, up to the "]"
+  pub data IsRest : List Statement → List Lexeme → Body → Type 0 where
+    closes : (xs : List Statement) (u : Lexeme) → Is marks.CloseBlock u → IsRest xs (u ∷ []) (body (statements xs) None)
+    is_ended : (xs : List Statement) (s l c u : Lexeme) → Is marks.Semicolon s → IsName l → Is marks.Colon c → Is marks.CloseBlock u → IsRest xs (s ∷ l ∷ c ∷ u ∷ []) (body (statements xs) (Some (label_of l)))
+    goes_on_with : (xs : List Statement) (t : Lexeme) (a b : List Lexeme) (x : Statement) (z : Body) → Is marks.Semicolon t → low false a x → IsRest (xs ++ x ∷ []) b z → IsRest xs (t ∷ a ++ b) z
+
+  from_closed : (xs : List Statement) (n : ℕ) (ts : List Lexeme) (y : Counted Body) → Both (OneMark marks.CloseBlock) (λ m. Given (body (statements xs) None, n)) ts y → IsRest xs ts y.0
+  from_closed xs n ts y (behind_it a b m z (one_mark u h) given) = closes xs u h
+
+  closed_sound : (xs : Counted (List Statement)) → Sound (closed_body xs) (λ ts y. IsRest xs.0 ts y.0)
+  closed_sound xs =
+      sound_as (closed_body xs) (Both (OneMark marks.CloseBlock) (λ m. Given (body (statements xs.0) None, xs.1))) (λ ts y. IsRest xs.0 ts y.0) (from_closed xs.0 xs.1)
+      (sound_bind (expected marks.CloseBlock) (λ m. gives (body (statements xs.0) None, xs.1)) (OneMark marks.CloseBlock) (λ m. Given (body (statements xs.0) None, xs.1)) (sound_expected marks.CloseBlock) (λ m. sound_gives (body (statements xs.0) None, xs.1)))
+
+  module _ (k : ℕ) (again : (xs : Counted (List Statement)) (s : Stream) (y : Counted Body) (rest : Stream) → chain (only marks.Semicolon) (continuing value lower) closed_body k xs s ≡ Ok (y, rest) → Cut (λ ts z. IsRest xs.0 ts z.0) s y rest) where
+    -- behind the items that an item turns into
+    turned_item : (xs : List Statement) (t : Lexeme) → Is marks.Semicolon t → (a : List Lexeme) (i : Item) → IsItem a i → (n : ℕ) (m : Stream) (y : Counted Body) (rest : Stream) → turned (λ w r. chain (only marks.Semicolon) (continuing value lower) closed_body k w r) (turned_by xs (i, n)) m ≡ Ok (y, rest)
+        → Cut (λ ts z. IsRest xs ts z.0) (more t (a ++> m)) y rest
+    turned_item xs t e a i (the_end l c u f g h) n m y rest is =
+        taken {X = Passed} (λ ts (z : Counted Body). IsRest xs ts z.0) (t ∷ l ∷ c ∷ u ∷ []) (gives (body (statements xs) (Some (label_of l)), n) m) (body (statements xs) (Some (label_of l)), n) y m rest refl is (is_ended xs t l c u e f g h)
+    turned_item xs t e a i (the_statement ts x l) n m y rest is =
+        let d = again (xs ++ x ∷ [], n) m y rest is in
+        record { text = t ∷ ts ++ d.text; is = ap (more t) (ap (λ z. ts ++> z) d.is ∙ sym (append_stream ts d.text rest)); spells = goes_on_with xs t ts d.text x y.0 e l d.spells }
+
+    continued : (xs : Counted (List Statement)) (t : Lexeme) → Is marks.Semicolon t → (s : Stream) (y : Counted Body) (rest : Stream) → then_reads (item_of value lower xs.1) (λ i. turned (λ w r. chain (only marks.Semicolon) (continuing value lower) closed_body k w r) (turned_by xs.0 i)) s ≡ Ok (y, rest) → Cut (λ ts z. IsRest xs.0 ts z.0) (more t s) y rest
+    continued xs t e s y rest h =
+        let p = split (item_of value lower xs.1) (λ i. turned (λ w r. chain (only marks.Semicolon) (continuing value lower) closed_body k w r) (turned_by xs.0 i)) s y rest h in
+        let c = item_sound xs.1 s p.value p.middle p.first in
+        let d = turned_item xs.0 t e c.text p.value.0 c.spells p.value.1 p.middle y rest p.second in
+        record { text = d.text; is = ap (more t) c.is ∙ d.is; spells = d.spells }
+
+    at_semicolon : (xs : Counted (List Statement)) (s : Stream) (y : Counted Body) (rest : Stream) (p : Option (Unit {0})) → p ≡ only marks.Semicolon (ahead s)
+        → on_operator p (closed_body xs s) (λ o. continuing value lower o (place_of s) xs (behind s) >>= λ y. turned (λ w r. chain (only marks.Semicolon) (continuing value lower) closed_body k w r) y.0 y.1) ≡ Ok (y, rest) → Cut (λ ts z. IsRest xs.0 ts z.0) s y rest
+    at_semicolon xs s y rest None e h = closed_sound xs s y rest h
+    at_semicolon xs (ends p) y rest (Some o) e h = cc
+    at_semicolon xs (breaks f) y rest (Some o) e h = cc
+    at_semicolon xs (more t s) y rest (Some o) e h = continued xs t (only_is marks.Semicolon (sign_of t) o (sym e)) s y rest (through (item_of value lower xs.1 s) h)
+      where
+        through : (q : Read Passed (Counted Item)) → ((q >>= λ i. gives {X = Passed} (turned_by xs.0 i.0) i.1) >>= λ y. turned (λ w r. chain (only marks.Semicolon) (continuing value lower) closed_body k w r) y.0 y.1) ≡ Ok (y, rest)
+            → (q >>= λ i. turned (λ w r. chain (only marks.Semicolon) (continuing value lower) closed_body k w r) (turned_by xs.0 i.0) i.1) ≡ Ok (y, rest)
+        through (Ok i) h = h
+        through (Err f) h = cc
+
+  rest_sound : (k : ℕ) (xs : Counted (List Statement)) → Sound (chain (only marks.Semicolon) (continuing value lower) closed_body k xs) (λ ts y. IsRest xs.0 ts y.0)
+  unfolding chain
+  rest_sound zero xs s y rest h = closed_sound xs s y rest h
+  rest_sound (suc k) xs s y rest h = at_semicolon k (λ xs s y rest h. rest_sound k xs s y rest h) xs s y rest (only marks.Semicolon (ahead s)) refl h
+
+  -- the rest of a body, seen from its front: `a` is the text so far, of the first item and further ones
+  from_rest : (a : List Lexeme) (x : Statement) → low false a x → (b : List Lexeme) (ys : List Statement) → Items marks.Semicolon (low false) b ys → (xs : List Statement) → xs ≡ x ∷ ys → (c : List Lexeme) (z : Body) → IsRest xs c z → IsBody V low ((a ++ b) ++ c) z
+  from_rest a x l b ys items xs e c z (closes ws u h) = subst (λ (v : List Statement). IsBody V low ((a ++ b) ++ u ∷ []) (body (statements v) None)) (sym e) (unnamed (a ++ b) u (x ∷ ys) (row a b x ys l items) h)
+  from_rest a x l b ys items xs e c z (is_ended ws s k d u f g h i) =
+      subst (λ (v : List Statement). IsBody V low ((a ++ b) ++ s ∷ k ∷ d ∷ u ∷ []) (body (statements v) (Some (label_of k)))) (sym e) (ended (a ++ b) s k d u (x ∷ ys) (row a b x ys l items) f g h i)
+  from_rest a x l b ys items xs e c z (goes_on_with ws t p q y w f g rest) =
+      let more_of : IsBody V low ((a ++ (b ++ t ∷ p)) ++ q) w = from_rest a x l (b ++ t ∷ p) (ys ++ y ∷ []) (item_behind b ys items t p y f g) (ws ++ y ∷ []) (ap (λ v. v ++ y ∷ []) e) q w rest in
+      let same : (a ++ (b ++ t ∷ p)) ++ q ≡ (a ++ b) ++ (t ∷ p ++ q) = simp append_assoc in
+      subst (λ (v : List Lexeme). IsBody V low v w) same more_of

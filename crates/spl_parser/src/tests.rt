@@ -33,7 +33,10 @@ const REFUSED: [(&[u8], ParseFault); 26] = [
     (b"P :: [ cobegin [ skip ] coend ]", ParseFault::Syntax(24)),
     (b"P :: [ loop do skip ]", ParseFault::Syntax(12)),
     (b"local x integer; P :: [ skip ]", ParseFault::Syntax(8)),
-    (b"local x: integer where; P :: [ skip ]", ParseFault::Syntax(22)),
+    (
+        b"local x: integer where; P :: [ skip ]",
+        ParseFault::Syntax(22),
+    ),
     (b"local x: integer;", ParseFault::Syntax(17)),
     (b"P :: [ skip ] skip", ParseFault::Syntax(14)),
 ];
@@ -57,7 +60,11 @@ const READ: [&[u8]; 12] = [
 #[test]
 fn programs_are_refused_at_their_first_fault(rt: HostRuntime) {
     for (text, fault) in REFUSED {
-        assert_eq!(rt; parse_program(rt.alloc(), text).err(), Some(fault), "{text:?}");
+        assert_eq!(rt;
+            parse_program(rt.alloc(), text).err(),
+            Some(fault),
+            "{text:?}"
+        );
     }
 }
 

@@ -98,11 +98,11 @@ module _ {X O A : Type 0} (op : Sign → Option O) (nothing : None ≡ op signs.
       record {
         count = others.count;
         reads =
-          chain_step op nothing (counting r) gives counts t o (xs, n) ((a ++ c) ++> after) e
-          ∙ ap (then_reads (counting r o t.start (xs, n)) (turned (chain_of op nothing (counting r) gives counts))) (append_stream a c after)
-          ∙ bind_ok (counting r o t.start (xs, n)) (turned (chain_of op nothing (counting r) gives counts)) (a ++> (c ++> after)) (counted_on (xs, n) (y, item.count)) (c ++> after) turn
-          ∙ others.reads
-          ∙ ap (λ z. Ok ((z, others.count), after)) (append_assoc xs (y ∷ []) zs);
+            chain_step op nothing (counting r) gives counts t o (xs, n) ((a ++ c) ++> after) e
+            ∙ ap (then_reads (counting r o t.start (xs, n)) (turned (chain_of op nothing (counting r) gives counts))) (append_stream a c after)
+            ∙ bind_ok (counting r o t.start (xs, n)) (turned (chain_of op nothing (counting r) gives counts)) (a ++> (c ++> after)) (counted_on (xs, n) (y, item.count)) (c ++> after) turn
+            ∙ others.reads
+            ∙ ap (λ z. Ok ((z, others.count), after)) (append_assoc xs (y ∷ []) zs);
       }
 
 pub items_steps : {A : Type 0} (m : Mark) (L : List Lexeme → A → Type 0) (ts : List Lexeme) (ys : List A) → Items m L ts ys → Steps (only m) (λ o t. L) ts ys

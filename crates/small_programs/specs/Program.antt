@@ -1,0 +1,33 @@
+-- Small programs as plain data: one process of actions and of loops without end over one action.
+use Rattle.std.specs.Prelude.{ℕ, ◌+◌, List, [], ◌∷◌, ◌++◌, Option, length, map}
+use Rattle.std.specs.Option.{option_map}
+use Rattle.st_linear.specs.Linear.{Linear}
+use Rattle.st_form.specs.Formula.{Formula}
+
+-- what one step does: nothing, or a variable gets a form's value
+pub data Action : Type 0 where
+  skips : Action
+  assigns : ℕ → Linear → Action
+
+-- a statement with its label, a loop with its body's label, too
+pub data Statement : Type 0 where
+  acts : Option (List ℕ) → Action → Statement
+  repeats : Option (List ℕ) → Option (List ℕ) → Action → Statement
+
+-- the names of the variables by number, the `where` comparisons in text order, and the process
+pub record Program : Type 0 where
+  pub variables : List (List ℕ)
+  pub initial : List Formula
+  pub body : List Statement
+
+-- how many statements there are, a loop's body counted too
+abbrev pub statements : List Statement → ℕ
+statements [] = 0
+statements (acts l a ∷ rest) = 1 + statements rest
+statements (repeats l m a ∷ rest) = 2 + statements rest
+
+-- the labels by occurrence
+abbrev pub labels : List Statement → List (Option (List ℕ))
+labels [] = []
+labels (acts l a ∷ rest) = l ∷ labels rest
+labels (repeats l m a ∷ rest) = l ∷ m ∷ labels rest

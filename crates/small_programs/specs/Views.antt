@@ -1,0 +1,25 @@
+-- The program's own types as plain data.
+use Rattle.std.specs.Prelude.{ℕ, List, map, Option}
+use Rattle.std.specs.Option.{option_copied}
+use Rattle.st_form.specs.Plain.{plain}
+use Rattle.small_programs.specs.declared.program.Action.{Action}
+use Rattle.small_programs.specs.declared.program.Action.TheVariants as action
+use Rattle.small_programs.specs.declared.program.Statement.{Statement}
+use Rattle.small_programs.specs.declared.program.Statement.TheVariants as statement
+use Rattle.small_programs.specs.declared.program.Program.{Program}
+use Rattle.small_programs.specs.Program as as_data
+
+abbrev pub action_of : Action → as_data.Action
+action_of action.Skip = as_data.skips
+action_of (action.Assign v f) = as_data.assigns v f
+
+abbrev pub statement_of : Statement → as_data.Statement
+statement_of (statement.Act l a) = as_data.acts (option_copied l) (action_of a)
+statement_of (statement.Loop l m a) = as_data.repeats (option_copied l) (option_copied m) (action_of a)
+
+abbrev pub program_of : Program → as_data.Program
+program_of p = record {
+  variables = map (λ n. n.now) p.variables.items;
+  initial = map plain p.initial.items;
+  body = map statement_of p.body.items;
+}

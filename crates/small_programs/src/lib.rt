@@ -1,0 +1,13 @@
+//! Small programs, from their text to their conditions: one process of assignments, `skip` and `loop forever` over one
+//! action, and one invariance of a comparison. Each part has one plain definition, and a law above it.
+#![tactic(auto)]
+
+mod comparisons;
+mod fault;
+mod program;
+mod program_text;
+mod sums;
+mod words;
+
+pub use fault::SmallFault;
+pub use program::{Action, Label, Program, Statement};

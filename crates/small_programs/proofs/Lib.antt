@@ -2,3 +2,4 @@ pub mod Refusing
 pub mod Writing
 pub mod Summing
 pub mod Sizes
+pub mod Repeating

@@ -53,13 +53,19 @@ declaration_from variables s =
     read_then (marked marks.Colon r) (λ _ r'.
     read_then (marked marks.Integer r') (λ _ rest. declared_from variables name rest)))
 
+abbrev pub made_head : List (List ℕ) → List Formula → Head
+made_head variables initial = record { variables = variables; initial = initial }
+
+abbrev pub head_goes_on : (List (List ℕ) → List Formula → Stream → Read Head) → List (List ℕ) → List Formula → Declaration → Stream → Read Head
+head_goes_on more variables initial d s = more (variables ++ d.name ∷ []) (with_form initial d.initial) s
+
 -- declarations, of which `room` more may come
-abbrev pub head_from : ℕ → List (List ℕ) → List Formula → Stream → Read Head
-head_from zero variables initial s = if is (ahead s) marks.Local then None else Some (record { variables = variables; initial = initial }, s)
+unfoldable pub head_from : ℕ → List (List ℕ) → List Formula → Stream → Read Head
+head_from zero variables initial s = if is (ahead s) marks.Local then None else Some (made_head variables initial, s)
 head_from (suc room) variables initial s =
     if is (ahead s) marks.Local
-    then read_then (declaration_from variables (behind s)) (λ d rest. head_from room (variables ++ d.name ∷ []) (with_form initial d.initial) rest)
-    else Some (record { variables = variables; initial = initial }, s)
+    then read_then (declaration_from variables (behind s)) (λ d rest. head_goes_on (λ v f r. head_from room v f r) variables initial d rest)
+    else Some (made_head variables initial, s)
 
 -- a new name and a colon, or nothing
 abbrev pub label_from : List (List ℕ) → Stream → Read (Option (List ℕ))
@@ -99,28 +105,39 @@ abbrev pub size_of : Statement → ℕ
 size_of (acts l a) = 1
 size_of (repeats l m a) = 2
 
--- what stands behind a statement
-abbrev pub body_goes_on : (ℕ → List (List ℕ) → List Statement → Stream → Read (List Statement)) → ℕ → List (List ℕ) → List Statement → Statement → Stream → Read (List Statement)
-body_goes_on more count names done statement s =
+-- a statement behind others that count so many, and whether a semicolon stands behind it
+abbrev pub limited : ℕ → Statement → Stream → Read (Statement × Bool)
+limited count statement s =
     if nat_lt 400 (count + size_of statement) then None
-    else (if is (ahead s) marks.Semicolon
-    then more (count + size_of statement) (with_labels names statement) (done ++ statement ∷ []) (behind s)
-    else Some (done ++ statement ∷ [], s))
+    else (if is (ahead s) marks.Semicolon then Some ((statement, true), behind s) else Some ((statement, false), s))
+
+abbrev pub next_from : List (List ℕ) → ℕ → List (List ℕ) → Stream → Read (Statement × Bool)
+next_from variables count names s = read_then (statement_from variables names s) (λ statement rest. limited count statement rest)
+
+abbrev pub body_goes_on : (ℕ → List (List ℕ) → List Statement → Stream → Read (List Statement)) → ℕ → List (List ℕ) → List Statement → Statement → Bool → Stream → Read (List Statement)
+body_goes_on more count names done statement true s = more (count + size_of statement) (with_labels names statement) (done ++ statement ∷ []) s
+body_goes_on more count names done statement false s = Some (done ++ statement ∷ [], s)
 
 -- statements, of which `room` more may come; `count` stand before them
-abbrev pub body_from : ℕ → List (List ℕ) → ℕ → List (List ℕ) → List Statement → Stream → Read (List Statement)
+unfoldable pub body_from : ℕ → List (List ℕ) → ℕ → List (List ℕ) → List Statement → Stream → Read (List Statement)
 body_from zero variables count names done s = None
 body_from (suc room) variables count names done s =
-    read_then (statement_from variables names s) (λ statement rest. body_goes_on (λ c n d r. body_from room variables c n d r) count names done statement rest)
+    read_then (next_from variables count names s) (λ x rest. body_goes_on (λ c n d r. body_from room variables c n d r) count names done x.0 x.1 rest)
+
+abbrev pub made_program : Head → List Statement → Program
+made_program head body = record { variables = head.variables; initial = head.initial; body = body }
+
+-- what stands behind the process's name
+unfoldable pub process_behind : Head → List ℕ → Stream → Read Program
+process_behind head name s =
+    read_then (body_from 400 head.variables 0 (head.variables ++ name ∷ []) [] s) (λ body rest. read_as (λ _. made_program head body) (marked marks.CloseBlock rest))
 
 -- what stands behind the declarations
-abbrev pub process_from : Head → Stream → Read Program
+unfoldable pub process_from : Head → Stream → Read Program
 process_from head s =
     read_then (new_name head.variables s) (λ name r.
     read_then (marked marks.Colons r) (λ _ r1.
-    read_then (marked marks.OpenBlock r1) (λ _ r2.
-    read_then (body_from 400 head.variables 0 (head.variables ++ name ∷ []) [] r2) (λ body r3.
-    read_as (λ _. record { variables = head.variables; initial = head.initial; body = body }) (marked marks.CloseBlock r3)))))
+    read_then (marked marks.OpenBlock r1) (λ _ rest. process_behind head name rest)))
 
 abbrev pub whole : {A : Type 0} → Read A → Option A
 whole None = None

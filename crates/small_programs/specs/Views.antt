@@ -1,12 +1,15 @@
 -- The program's own types as plain data.
 use Rattle.std.specs.Prelude.{ℕ, List, map, Option}
-use Rattle.std.specs.Option.{option_copied}
+use Rattle.std.specs.Option.{option_copied, option_map}
 use Rattle.st_form.specs.Plain.{plain}
 use Rattle.small_programs.specs.declared.program.Action.{Action}
 use Rattle.small_programs.specs.declared.program.Action.TheVariants as action
 use Rattle.small_programs.specs.declared.program.Statement.{Statement}
 use Rattle.small_programs.specs.declared.program.Statement.TheVariants as statement
 use Rattle.small_programs.specs.declared.program.Program.{Program}
+use Rattle.small_programs.specs.declared.program_text.Declaration.{Declaration}
+use Rattle.small_programs.specs.declared.program_text.Head.{Head}
+use Rattle.small_programs.specs.ProgramText as read
 use Rattle.small_programs.specs.Program as as_data
 
 abbrev pub action_of : Action → as_data.Action
@@ -23,3 +26,9 @@ program_of p = record {
   initial = map plain p.initial.items;
   body = map statement_of p.body.items;
 }
+
+abbrev pub declaration_of : Declaration → read.Declaration
+declaration_of d = record { name = d.name.now; initial = option_map plain d.initial }
+
+abbrev pub head_of : Head → read.Head
+head_of h = record { variables = map (λ n. n.now) h.variables.items; initial = map plain h.initial.items }

@@ -1,0 +1,38 @@
+use Rattle.std.proofs.Common.{◌≡◌, ◌∙◌, sym, ap, refl, subst, arith, map, ◌++◌, ◌∷◌, []}
+use Rattle.std.specs.Prelude.{Some}
+use Rattle.std.proofs.lemmas.Result.{err_from_is_err_and}
+use Rattle.small_programs.specs.Views.{statement_of}
+use Rattle.small_programs.proofs.Refusing.{Refuses-whole}
+use Rattle.small_programs.proofs.Repeating.{map-more, body-starts, body-further, body-ends, body-stops, body-none}
+use Rattle.small_programs.proofs.program_text.body.Goals as goal
+
+pub loop-room-init : goal.loop-room-init
+loop-room-init c = record {
+  count = omega arith;
+  shrinks = omega arith;
+  turns = rw c.new-statements.ensures.items (body-starts _ _ _);
+}
+
+pub returns-in_err-statement-clause-reads : goal.returns-in_err-statement-clause-reads
+returns-in_err-statement-clause-reads c =
+    let p = err_from_is_err_and c.from_residual.result c.from_residual.ensures.1 in
+    rw (p.1, p.2) (Refuses-whole c.in_err-statement.field-0.0 _ _ (body-stops _ _ _ _ _ _ _ c.loop-room.invariant.turns c.loop-room-test.true) c.in_err-statement.ensures.reads)
+
+pub returns-then-not-further-clause-reads : goal.returns-then-not-further-clause-reads
+returns-then-not-further-clause-reads c =
+    let reads = rw c.if-not-further.true at c.in_ok-statement.ensures.reads in
+    let pushed = map-more statement_of _ _ c.in_ok-statement.statement c.in_ok-push.ensures.items in
+    rw pushed (body-ends _ _ _ _ _ _ _ c.loop-room.invariant.turns c.loop-room-test.true _ _ reads)
+
+pub loop-room-preserved : goal.loop-room-preserved
+loop-room-preserved c =
+    let reads = rw c.if-not-further.false at c.in_ok-statement.ensures.reads in
+    let pushed = map-more statement_of _ _ c.in_ok-statement.statement c.in_ok-push.ensures.items in
+    record {
+      count = rw c.size_of-count.ensures.exact (c.in_ok-statement.ensures.limited);
+      shrinks = omega (arith, c.in_ok-statement.ensures.shrinks);
+      turns = rw (pushed, c.size_of-count.ensures.exact, c.in_ok-statement.ensures.names) (body-further _ _ _ _ _ _ _ c.loop-room.invariant.turns c.loop-room-test.true _ _ reads);
+    }
+
+pub returns-clause-reads : goal.returns-clause-reads
+returns-clause-reads c = body-none _ _ _ _ _ _ _ c.loop-room.invariant.turns c.loop-room-test.false

@@ -1,5 +1,5 @@
 -- How the reading of declarations and of statements goes on.
-use Rattle.std.proofs.Common.{◌≡◌, ℕ, zero, suc, ◌+◌, ◌<◌, ◌≤◌, List, [], ◌∷◌, ◌++◌, refl, sym, ◌∙◌, ap, arith, map}
+use Rattle.std.proofs.Common.{◌≡◌, ℕ, zero, suc, ◌+◌, ◌<◌, ◌≤◌, List, [], ◌∷◌, ◌++◌, refl, sym, ◌∙◌, ap, subst, arith, map}
 use Rattle.std.proofs.lemmas.List.{map-append}
 use Rattle.std.specs.Prelude.{Bool, true, false, Option, Some, None, if◌then◌else◌}
 use Rattle.st_form.specs.Formula.{Formula}
@@ -7,7 +7,8 @@ use Rattle.st_tokens.specs.Stream.{Stream, ends, breaks, more, behind}
 use Rattle.st_reading.specs.declared.mark.Mark.TheVariants as marks
 use Rattle.st_reading.specs.Sign.{is}
 use Rattle.st_reading.specs.Reading.{ahead, size}
-use Rattle.small_programs.specs.Program.{Statement}
+use Rattle.small_programs.specs.Program.{Statement, acts, repeats, statements}
+use Rattle.small_programs.specs.Fit.{IsFit, AreFit, IsComparison, AreComparisons}
 use Rattle.small_programs.specs.Reads.{Read, read_then}
 use Rattle.small_programs.specs.ProgramText.{Declaration, Head, made_head, declaration_from, head_goes_on, head_from, with_form, next_from, body_goes_on, body_from, with_labels, size_of}
 
@@ -97,3 +98,24 @@ body-starts variables names s = record { left = 400; rest = refl; completes = re
 
 pub head-starts : (s : Stream) → Turns 64 0 (λ k. head_from k [] [] s) (head_from 64 [] [] s)
 head-starts s = record { left = 64; rest = refl; completes = refl }
+
+pub AreFit-more : (xs ys : List Statement) (x : Statement) → ys ≡ xs ++ x ∷ [] → AreFit xs → IsFit x → AreFit ys
+AreFit-more xs ys x is h k = subst AreFit (sym is) (more_fit xs h) where
+  more_fit : (xs : List Statement) → AreFit xs → AreFit (xs ++ x ∷ [])
+  more_fit [] h = (k, tt)
+  more_fit (y ∷ xs) h = (h.0, more_fit xs h.1)
+
+pub AreComparisons-more : (xs ys : List Formula) (x : Formula) → ys ≡ xs ++ x ∷ [] → AreComparisons xs → IsComparison x → AreComparisons ys
+AreComparisons-more xs ys x is h k = subst AreComparisons (sym is) (more_fit xs h) where
+  more_fit : (xs : List Formula) → AreComparisons xs → AreComparisons (xs ++ x ∷ [])
+  more_fit [] h = (k, tt)
+  more_fit (y ∷ xs) h = (h.0, more_fit xs h.1)
+
+statements-append : (xs : List Statement) (x : Statement) → statements (xs ++ x ∷ []) ≡ statements xs + size_of x
+statements-append [] (acts l a) = refl
+statements-append [] (repeats l m a) = refl
+statements-append (acts l a ∷ xs) x = omega (arith, statements-append xs x)
+statements-append (repeats l m a ∷ xs) x = omega (arith, statements-append xs x)
+
+pub statements-more : (xs ys : List Statement) (x : Statement) → ys ≡ xs ++ x ∷ [] → statements ys ≡ statements xs + size_of x
+statements-more xs ys x is = ap statements is ∙ statements-append xs x

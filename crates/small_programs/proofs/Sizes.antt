@@ -3,10 +3,11 @@ use Rattle.std.proofs.Common.{◌≡◌, ℕ, zero, suc, ◌+◌, ◌*◌, ◌^�
 use Rattle.std.specs.Prelude.{Bool, true, false, ◌&&◌, ◌==◌, IsTrue, nat_le, nat_lt, if◌then◌else◌, ℤ, pos, negsuc, ◌+ℤ◌, ◌*ℤ◌, neg_ℤ, unsigned_abs, Option, Some, None}
 use Rattle.std.proofs.lemmas.Bool.Decides.{nat_tests}
 use Rattle.std.proofs.lemmas.Int.{ints, unsigned_abs-mul}
-use Rattle.st_linear.specs.Linear.{Linear, is_small, are_small, fits, fitting, with_entry, joined, sum_of, scaled_entries, scaled}
+use Rattle.st_linear.specs.Linear.{Linear, is_small, are_small, fits, fitting, with_entry, joined, sum_of, scaled_entries, scaled, AreEntries}
 use Rattle.st_linear.specs.Simple.{negated, lowered}
 use Rattle.st_linear.proofs.Joined.{joined-ind}
 use Rattle.small_programs.specs.Sums.{is_written_number, are_written, is_written}
+use Rattle.small_programs.specs.Fit.{IsModest}
 use Rattle.small_programs.specs.Sizes.{AreWithin, IsWithin}
 use Rattle.small_programs.proofs.Writing.{both, and_true}
 
@@ -107,3 +108,11 @@ IsWithin-difference f g v w = IsWithin-sum_of (2 ^ 30) (2 ^ 30) f (negated g) (I
 
 pub difference-fits : (f g : Linear) → IsTrue (is_written f) → IsTrue (is_written g) → fitting (sum_of f (negated g)) ≡ None → ⊥
 difference-fits f g v w n = let s = fitting_within (2 ^ 31) (sum_of f (negated g)) (omega arith) (IsWithin-difference f g v w) in cc
+
+-- a difference, and the difference less 1
+pub modest_difference : (f g : Linear) → f ≡ g → IsWithin (2 ^ 31) g → AreEntries f.entries → IsModest f × IsModest (lowered f)
+modest_difference f g same w rising =
+    let v : IsWithin (2 ^ 31) f = rw same w in (
+      record { size = IsWithin-weaker (2 ^ 31) (2 ^ 32) f (omega arith) v; entries = rising },
+      record { size = IsWithin-weaker (2 ^ 31 + 1) (2 ^ 32) (lowered f) (omega arith) (IsWithin-lowered (2 ^ 31) f v); entries = rising },
+    )

@@ -6,3 +6,9 @@ pub mod Sizes
 pub mod Program
 pub mod Views
 pub mod ProgramText
+pub mod Fit
+pub mod ProofText
+pub mod GoalView
+pub mod Steps
+pub mod Runs
+pub mod Conditions

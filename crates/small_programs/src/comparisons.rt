@@ -6,6 +6,9 @@ ghost use Rattle.st_reading.specs.Reading.{ahead, size};
 ghost use Rattle.st_form.specs.Plain.{plain};
 ghost use Rattle.small_programs.specs.Reads.{Makes, Takes};
 ghost use Rattle.small_programs.specs.Sums.{is_written};
+ghost use Rattle.st_form.specs.Formula.{row, equal};
+ghost use Rattle.st_linear.specs.Simple.{lowered};
+ghost use Rattle.small_programs.specs.Fit.{IsModest, IsComparison};
 ghost use Rattle.small_programs.specs.Comparisons.{operator_of, difference, compared, compared_from, comparison_from};
 
 use crate::SmallFault;
@@ -52,30 +55,62 @@ fn difference(alloc: Global, left: &Lin, right: &Lin) -> Result<Lin, SmallFault>
     requires right { IsTrue (is_written right.now) }
     ensures value { Makes (λ f. f) result (Some (difference left.now right.now)) }
     ensures small { IfOk result (λ f. unsigned_abs f.constant < 2 ^ 99) }
+    ensures modest { IfOk result (λ f. IsModest f × IsModest (lowered f)) }
 {
     match left.add(alloc, &right.negated(alloc)?) {
-        Ok(form) => Ok(form),
+        Ok(form) => {
+            let _rising = form.entries();
+            Ok(form)
+        }
         Err(LinFault::TooLarge) => unreachable!(),
         Err(LinFault::Memory) => Err(SmallFault::Memory),
     }
+}
+
+fn equation(alloc: Global, left: &Lin, right: &Lin) -> Result<Form, SmallFault>
+    requires left { IsTrue (is_written left.now) }
+    requires right { IsTrue (is_written right.now) }
+    ensures exact { Makes plain result (Some (equal (difference left.now right.now))) }
+    ensures fit { IfOk result (λ f. IsComparison (plain f)) }
+{
+    let form = difference(alloc, left, right)?;
+    Ok(Form::Equal(form))
+}
+
+fn at_least(alloc: Global, left: &Lin, right: &Lin) -> Result<Form, SmallFault>
+    requires left { IsTrue (is_written left.now) }
+    requires right { IsTrue (is_written right.now) }
+    ensures exact { Makes plain result (Some (row (difference left.now right.now))) }
+    ensures fit { IfOk result (λ f. IsComparison (plain f)) }
+{
+    let form = difference(alloc, left, right)?;
+    Ok(Form::Row(form))
+}
+
+fn above(alloc: Global, left: &Lin, right: &Lin) -> Result<Form, SmallFault>
+    requires left { IsTrue (is_written left.now) }
+    requires right { IsTrue (is_written right.now) }
+    ensures exact { Makes plain result (Some (row (lowered (difference left.now right.now)))) }
+    ensures fit { IfOk result (λ f. IsComparison (plain f)) }
+{
+    let form = difference(alloc, left, right)?;
+    Ok(Form::Row(form.lowered(alloc)?))
 }
 
 /// The comparison as a formula.
 fn compared(alloc: Global, left: &Lin, operator: Operator, right: &Lin) -> Result<Form, SmallFault>
     requires left { IsTrue (is_written left.now) }
     requires right { IsTrue (is_written right.now) }
-    ensures { Makes plain result (Some (compared left.now operator right.now)) }
+    ensures exact { Makes plain result (Some (compared left.now operator right.now)) }
+    ensures fit { IfOk result (λ f. IsComparison (plain f)) }
 {
     match operator {
-        Operator::Equal => Ok(Form::Equal(difference(alloc, left, right)?)),
-        Operator::Unequal => {
-            let equal = Form::Equal(difference(alloc, left, right)?);
-            Ok(Form::Not(Box::new(alloc, equal)?))
-        }
-        Operator::Less => Ok(Form::Row(difference(alloc, right, left)?.lowered(alloc)?)),
-        Operator::AtMost => Ok(Form::Row(difference(alloc, right, left)?)),
-        Operator::Greater => Ok(Form::Row(difference(alloc, left, right)?.lowered(alloc)?)),
-        Operator::AtLeast => Ok(Form::Row(difference(alloc, left, right)?)),
+        Operator::Equal => equation(alloc, left, right),
+        Operator::Unequal => Ok(Form::Not(Box::new(alloc, equation(alloc, left, right)?)?)),
+        Operator::Less => above(alloc, right, left),
+        Operator::AtMost => at_least(alloc, right, left),
+        Operator::Greater => above(alloc, left, right),
+        Operator::AtLeast => at_least(alloc, left, right),
     }
 }
 
@@ -87,6 +122,7 @@ pub fn comparison(
 ) -> Result<Form, SmallFault>
     requires { length variables.now ≤ 64 }
     ensures reads { Takes plain result (stream tokens.new) (comparison_from (map (λ n. n.now) variables.now) (stream tokens.old)) }
+    ensures fit { IfOk result (λ f. IsComparison (plain f)) }
     ensures shrinks { size (stream tokens.new) ≤ size (stream tokens.old) }
 {
     let left = sum(alloc, variables, tokens)?;

@@ -6,8 +6,11 @@ mod comparisons;
 mod fault;
 mod program;
 mod program_text;
+mod proof_text;
 mod sums;
 mod words;
 
 pub use fault::SmallFault;
 pub use program::{Action, Label, Program, Statement};
+pub use program_text::read_program;
+pub use proof_text::{Goal, read_proof};

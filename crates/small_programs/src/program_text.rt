@@ -1,6 +1,6 @@
 //! The text of a small program.
 
-ghost use Rattle.std.specs.Prelude.{◌≡◌, ℕ, List, ◌≤◌, ◌<◌, ◌+◌, ◌++◌, ◌∷◌, [], map, Some, length, IfOk, OnOk, vec_len, IsTrue, ◌&&◌};
+ghost use Rattle.std.specs.Prelude.{◌≡◌, ℕ, List, ◌≤◌, ◌<◌, ◌+◌, ◌++◌, ◌∷◌, [], map, Some, length, IfOk, IfSome, OnOk, vec_len, IsTrue, ◌&&◌};
 ghost use Rattle.std.specs.Option.{option_copied, option_map};
 ghost use Rattle.st_tokens.specs.Stream.{stream, behind};
 ghost use Rattle.st_reading.specs.Reading.{ahead, size, is_name};
@@ -9,6 +9,8 @@ ghost use Rattle.st_reading.specs.declared.mark.Mark.TheVariants as marks;
 ghost use Rattle.st_form.specs.Plain.{plain};
 ghost use Rattle.small_programs.specs.Reads.{Makes, Takes};
 ghost use Rattle.small_programs.specs.Views.{action_of, statement_of, declaration_of, head_of, program_of};
+ghost use Rattle.small_programs.specs.Program.{statements};
+ghost use Rattle.small_programs.specs.Fit.{IsComparison, IsFitAction, IsFit, AreFit, AreComparisons, IsFitProgram};
 ghost use Rattle.small_programs.specs.ProgramText.{label_from, action_from, loop_from, statement_from, with_name, with_labels, with_form, size_of, next_from, body_from, process_behind, where_from, declaration_from, head_from, process_from, program_spelled};
 
 use crate::SmallFault;
@@ -60,6 +62,7 @@ fn action(alloc: Global, variables: &[&[u8]], tokens: &mut Tokens) -> Result<Act
     requires { length variables.now ≤ 64 }
     ensures reads { Takes action_of result (stream tokens.new) (action_from (map (λ n. n.now) variables.now) (stream tokens.old)) }
     ensures shrinks { size (stream tokens.new) ≤ size (stream tokens.old) }
+    ensures fit { IfOk result (λ a. IsFitAction (action_of a)) }
 {
     if is(ahead(tokens), Mark::Skip) {
         advance(tokens);
@@ -95,6 +98,7 @@ fn loop_statement<'a>(
     ensures names { IfOk result (λ s. (before : List (List ℕ)) → map (λ n. n.now) names.old.items ≡ with_name before (option_copied outer.entry)
         → map (λ n. n.now) names.new.items ≡ with_labels before (statement_of s)) }
     ensures shrinks { size (stream tokens.new) ≤ size (stream tokens.old) }
+    ensures fit { IfOk result (λ s. IsFit (statement_of s)) }
 {
     mark(tokens, Mark::Forever)?;
     mark(tokens, Mark::Do)?;
@@ -117,6 +121,7 @@ fn statement<'a>(
     ensures names { IfOk result (λ s. map (λ n. n.now) names.new.items
         ≡ with_labels (map (λ n. n.now) names.old.items) (statement_of s)) }
     ensures shrinks { size (stream tokens.new) ≤ size (stream tokens.old) }
+    ensures fit { IfOk result (λ s. IsFit (statement_of s)) }
 {
     let label = label(names, tokens)?;
     with_name(names, label)?;
@@ -154,6 +159,7 @@ fn next_statement<'a>(
         ≡ with_labels (map (λ n. n.now) names.old.items) (statement_of x.0)) }
     ensures limited { IfOk result (λ x. count + size_of (statement_of x.0) ≤ 400) }
     ensures shrinks { size (stream tokens.new) ≤ size (stream tokens.old) }
+    ensures fit { IfOk result (λ x. IsFit (statement_of x.0)) }
 {
     let statement = statement(alloc, variables, names, tokens)?;
     if LARGEST_BODY < count + size_of(&statement) {
@@ -177,6 +183,8 @@ fn body<'a>(
     ensures reads { Takes (λ v. map statement_of v.items) result (stream tokens.new)
         (body_from 400 (map (λ n. n.now) variables.now) 0 (map (λ n. n.now) names.entry.items) [] (stream tokens.old)) }
     ensures shrinks { size (stream tokens.new) ≤ size (stream tokens.old) }
+    ensures fit { IfOk result (λ v. AreFit (map statement_of v.items)) }
+    ensures few { IfOk result (λ v. statements (map statement_of v.items) ≤ 400) }
 {
     let mut statements = Vec::new(alloc);
     let mut count = 0usize;
@@ -207,6 +215,7 @@ fn initial(
     requires { length variables.now ≤ 64 }
     ensures reads { Takes (λ o. option_map plain o) result (stream tokens.new) (where_from (map (λ n. n.now) variables.now) (stream tokens.old)) }
     ensures shrinks { size (stream tokens.new) ≤ size (stream tokens.old) }
+    ensures fit { IfOk result (λ o. IfSome o (λ f. IsComparison (plain f))) }
 {
     if is(ahead(tokens), Mark::Where) {
         advance(tokens);
@@ -234,6 +243,7 @@ fn variable_declared<'a>(
     ensures names { IfOk result (λ d. map (λ n. n.now) variables.new.items ≡ map (λ n. n.now) variables.old.items ++ d.name.now ∷ []) }
     ensures length { OnOk result (vec_len variables.new ≡ vec_len variables.old + 1) }
     ensures shrinks { size (stream tokens.new) ≤ size (stream tokens.old) }
+    ensures fit { IfOk result (λ d. IfSome d.initial (λ f. IsComparison (plain f))) }
 {
     let name = new_name(variables, tokens)?;
     mark(tokens, Mark::Colon)?;
@@ -245,7 +255,10 @@ fn variable_declared<'a>(
 }
 
 fn with_form(forms: &mut Vec<Form>, form: Option<Form>) -> Result<(), Memory>
-    ensures { OnOk result (map plain forms.new.items ≡ with_form (map plain forms.old.items) (option_map plain form)) }
+    requires forms { AreComparisons (map plain forms.old.items) }
+    requires form { IfSome form (λ f. IsComparison (plain f)) }
+    ensures fit { OnOk result (AreComparisons (map plain forms.new.items)) }
+    ensures exact { OnOk result (map plain forms.new.items ≡ with_form (map plain forms.old.items) (option_map plain form)) }
 {
     if let Some(form) = form {
         forms.push(form)?;
@@ -258,6 +271,7 @@ fn heading<'a>(alloc: Global, tokens: &mut Tokens<'a>) -> Result<Head<'a>, Small
     ensures reads { Takes head_of result (stream tokens.new) (head_from 64 [] [] (stream tokens.old)) }
     ensures few { IfOk result (λ h. vec_len h.variables ≤ 64) }
     ensures shrinks { size (stream tokens.new) ≤ size (stream tokens.old) }
+    ensures fit { IfOk result (λ h. AreComparisons (map plain h.initial.items)) }
 {
     let mut variables = Vec::new(alloc);
     let mut forms = Vec::new(alloc);
@@ -289,8 +303,10 @@ fn process_behind<'a>(
     name: &'a [u8],
     tokens: &mut Tokens<'a>,
 ) -> Result<Program<'a>, SmallFault>
-    requires { vec_len head.variables ≤ 64 }
+    requires few { vec_len head.variables ≤ 64 }
+    requires fit { AreComparisons (map plain head.initial.items) }
     ensures reads { Takes program_of result (stream tokens.new) (process_behind (head_of head.entry) name.now (stream tokens.old)) }
+    ensures fit { IfOk result (λ p. IsFitProgram (program_of p)) }
 {
     let mut names = Vec::from_slice(alloc, &head.variables)?;
     names.push(name)?;
@@ -310,8 +326,10 @@ fn process<'a>(
     head: Head<'a>,
     tokens: &mut Tokens<'a>,
 ) -> Result<Program<'a>, SmallFault>
-    requires { vec_len head.variables ≤ 64 }
+    requires few { vec_len head.variables ≤ 64 }
+    requires fit { AreComparisons (map plain head.initial.items) }
     ensures reads { Takes program_of result (stream tokens.new) (process_from (head_of head.entry) (stream tokens.old)) }
+    ensures fit { IfOk result (λ p. IsFitProgram (program_of p)) }
 {
     let name = new_name(&head.variables, tokens)?;
     mark(tokens, Mark::Colons)?;
@@ -321,7 +339,8 @@ fn process<'a>(
 
 /// Reads the text of a program.
 pub fn read_program<'a>(alloc: Global, text: &'a [u8]) -> Result<Program<'a>, SmallFault>
-    ensures { Makes program_of result (program_spelled text.now) }
+    ensures exact { Makes program_of result (program_spelled text.now) }
+    ensures fit { IfOk result (λ p. IsFitProgram (program_of p)) }
 {
     let mut tokens = Tokens::new(text);
     let head = heading(alloc, &mut tokens)?;

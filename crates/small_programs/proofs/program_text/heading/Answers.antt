@@ -9,6 +9,7 @@ use Rattle.small_programs.proofs.program_text.heading.Goals as goal
 pub loop-room-init : goal.loop-room-init
 loop-room-init c = record {
   few = omega (arith, c.new-variables.ensures.len);
+  fit = rw c.new-forms.ensures.items tt;
   shrinks = omega arith;
   turns = rw (c.new-variables.ensures.items, c.new-forms.ensures.items) (head-starts _);
 }
@@ -31,8 +32,9 @@ loop-room-preserved c =
     let reads = rw c.advance.ensures at c.in_ok-declared.ensures.reads in
     record {
       few = omega (arith, c.in_ok-declared.ensures.length);
+      fit = c.in_ok-with_form.ensures.fit;
       shrinks = omega (arith, c.in_ok-declared.ensures.shrinks, ap size c.advance.ensures, size-behind (stream c.loop-room.tokens));
-      turns = rw (c.in_ok-with_form.ensures, c.in_ok-declared.ensures.names) (head-further _ _ _ _ _ c.loop-room.invariant.turns c.loop-room-test.true (sym local_) _ _ reads);
+      turns = rw (c.in_ok-with_form.ensures.exact, c.in_ok-declared.ensures.names) (head-further _ _ _ _ _ c.loop-room.invariant.turns c.loop-room-test.true (sym local_) _ _ reads);
     }
 
 pub returns-then-is-clause-reads : goal.returns-then-is-clause-reads

@@ -3,3 +3,5 @@ pub mod Writing
 pub mod Summing
 pub mod Sizes
 pub mod Repeating
+pub mod Exchanges
+pub mod Soundness

@@ -7,10 +7,10 @@ use Rattle.st_tokens.specs.Stream.{Stream, ends, breaks, more, behind}
 use Rattle.st_reading.specs.declared.mark.Mark.TheVariants as marks
 use Rattle.st_reading.specs.Sign.{is}
 use Rattle.st_reading.specs.Reading.{ahead, size}
-use Rattle.small_programs.specs.Program.{Statement, acts, repeats, statements}
+use Rattle.small_programs.specs.Program.{Statement, size_of, statements}
 use Rattle.small_programs.specs.Fit.{IsFit, AreFit, IsComparison, AreComparisons}
 use Rattle.small_programs.specs.Reads.{Read, read_then}
-use Rattle.small_programs.specs.ProgramText.{Declaration, Head, made_head, declaration_from, head_goes_on, head_from, with_form, next_from, body_goes_on, body_from, with_labels, size_of}
+use Rattle.small_programs.specs.ProgramText.{Declaration, Head, made_head, declaration_from, head_goes_on, head_from, with_form, next_from, body_goes_on, body_from, with_labels}
 
 -- one element more
 pub map-more : {A B : Type 0} (f : A → B) (xs ys : List A) (x : A) → ys ≡ xs ++ x ∷ [] → map f ys ≡ map f xs ++ f x ∷ []
@@ -112,10 +112,8 @@ AreComparisons-more xs ys x is h k = subst AreComparisons (sym is) (more_fit xs 
   more_fit (y ∷ xs) h = (h.0, more_fit xs h.1)
 
 statements-append : (xs : List Statement) (x : Statement) → statements (xs ++ x ∷ []) ≡ statements xs + size_of x
-statements-append [] (acts l a) = refl
-statements-append [] (repeats l m a) = refl
-statements-append (acts l a ∷ xs) x = omega (arith, statements-append xs x)
-statements-append (repeats l m a ∷ xs) x = omega (arith, statements-append xs x)
+statements-append [] x = omega arith
+statements-append (y ∷ xs) x = omega (arith, statements-append xs x)
 
 pub statements-more : (xs ys : List Statement) (x : Statement) → ys ≡ xs ++ x ∷ [] → statements ys ≡ statements xs + size_of x
 statements-more xs ys x is = ap statements is ∙ statements-append xs x

@@ -1,6 +1,6 @@
 -- The conditions of basic invariance for a small program: the claim holds at the start, and each mode of each transition
 -- keeps it (Manna and Pnueli, Temporal Verification of Reactive Systems: Safety, 1995, rule INV-B).
-use Rattle.std.specs.Prelude.{ℕ, ◌+◌, true, List, [], ◌∷◌, map, Option, Some, None, unwrap_or}
+use Rattle.std.specs.Prelude.{ℕ, ◌+◌, true, List, [], ◌∷◌, ◌++◌, map, Option, Some, None, unwrap_or}
 use Rattle.st_linear.specs.Linear.{Linear}
 use Rattle.st_form.specs.Formula.{Formula, Formulas, truth_value, at, negation, every, none, more, formulas}
 use Rattle.st_form.specs.Exchange.{Exchange, exchanged}
@@ -10,7 +10,7 @@ use Rattle.st_form.specs.declared.conditions.Premise.TheVariants.{Start, Keep}
 use Rattle.st_form.specs.declared.conditions.TransName.{TransName}
 use Rattle.st_form.specs.declared.conditions.TransName.TheVariants.{Idle, Step}
 use Rattle.st_form.specs.declared.conditions.Part.TheVariants.{Whole}
-use Rattle.small_programs.specs.Program.{Action, skips, assigns, Statement, acts, repeats, Program}
+use Rattle.small_programs.specs.Program.{Action, skips, assigns, Statement, acts, repeats, Program, size_of}
 
 -- a mode of a transition: where control is, what is tested, and what changes
 pub record Mode : Type 0 where
@@ -38,15 +38,16 @@ idle = record {
 abbrev pub mode : ℕ → ℕ → ℕ → Formula → Action → Mode
 mode l number m guard a = record { name = Step l Whole; number = number; at = l ∷ []; guard = guard; change = change_of a l m }
 
--- the modes of statements from location l on: the loop's test true, its test false, and its body
+-- the modes of a statement at location l; of a loop its test true, its test false, and its body
+abbrev pub modes_at : ℕ → Statement → List Mode
+modes_at l (acts x a) = mode l 1 (l + 1) (truth_value true) a ∷ []
+modes_at l (repeats x y a) =
+    mode l 1 (l + 1) (truth_value true) skips ∷ mode l 2 (l + 2) (negation (truth_value true)) skips ∷ mode (l + 1) 1 l (truth_value true) a ∷ []
+
+-- the modes of statements from location l on
 abbrev pub modes_from : ℕ → List Statement → List Mode
 modes_from l [] = []
-modes_from l (acts x a ∷ rest) = mode l 1 (l + 1) (truth_value true) a ∷ modes_from (l + 1) rest
-modes_from l (repeats x y a ∷ rest) =
-    mode l 1 (l + 1) (truth_value true) skips
-    ∷ mode l 2 (l + 2) (negation (truth_value true)) skips
-    ∷ mode (l + 1) 1 l (truth_value true) a
-    ∷ modes_from (l + 2) rest
+modes_from l (s ∷ rest) = modes_at l s ++ modes_from (l + size_of s) rest
 
 abbrev pub modes_of : Program → List Mode
 modes_of p = idle ∷ modes_from 0 p.body

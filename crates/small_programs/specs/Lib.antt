@@ -12,3 +12,4 @@ pub mod GoalView
 pub mod Steps
 pub mod Runs
 pub mod Conditions
+pub mod Sound

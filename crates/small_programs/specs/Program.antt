@@ -20,11 +20,15 @@ pub record Program : Type 0 where
   pub initial : List Formula
   pub body : List Statement
 
+-- how many statements it is
+abbrev pub size_of : Statement → ℕ
+size_of (acts l a) = 1
+size_of (repeats l m a) = 2
+
 -- how many statements there are, a loop's body counted too
 abbrev pub statements : List Statement → ℕ
 statements [] = 0
-statements (acts l a ∷ rest) = 1 + statements rest
-statements (repeats l m a ∷ rest) = 2 + statements rest
+statements (s ∷ rest) = size_of s + statements rest
 
 -- the labels by occurrence
 abbrev pub labels : List Statement → List (Option (List ℕ))

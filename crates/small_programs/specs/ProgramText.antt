@@ -15,7 +15,7 @@ use Rattle.st_reading.specs.declared.mark.Mark.TheVariants as marks
 use Rattle.st_reading.specs.Sign.{is}
 use Rattle.st_reading.specs.Reading.{ahead, is_name}
 use Rattle.st_form.specs.Formula.{Formula}
-use Rattle.small_programs.specs.Program.{Action, skips, assigns, Statement, acts, repeats, Program}
+use Rattle.small_programs.specs.Program.{Action, skips, assigns, Statement, acts, repeats, Program, size_of}
 use Rattle.small_programs.specs.Reads.{Read, read_then, read_as}
 use Rattle.small_programs.specs.Words.{marked, variable_named, new_name, is_end}
 use Rattle.small_programs.specs.Sums.{sum_from}
@@ -99,11 +99,6 @@ statement_from variables names s =
 abbrev pub with_labels : List (List ℕ) → Statement → List (List ℕ)
 with_labels names (acts l a) = with_name names l
 with_labels names (repeats l m a) = with_name (with_name names l) m
-
--- how many statements it is
-abbrev pub size_of : Statement → ℕ
-size_of (acts l a) = 1
-size_of (repeats l m a) = 2
 
 -- a statement behind others that count so many, and whether a semicolon stands behind it
 abbrev pub limited : ℕ → Statement → Stream → Read (Statement × Bool)

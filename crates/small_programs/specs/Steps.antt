@@ -10,18 +10,21 @@ use Rattle.st_form.specs.Formula.{Formula, Formulas, formulas, Situation, truth,
 use Rattle.st_form.specs.declared.conditions.TransName.{TransName}
 use Rattle.st_form.specs.declared.conditions.TransName.TheVariants.{Idle, Step}
 use Rattle.st_form.specs.declared.conditions.Part.TheVariants.{Whole}
-use Rattle.small_programs.specs.Program.{Action, skips, assigns, Statement, acts, repeats, Program, statements}
+use Rattle.small_programs.specs.Program.{Action, skips, assigns, Statement, acts, repeats, Program, size_of, statements}
 
 -- a statement that is left to run, with its occurrence; the body of a loop has the next one
 pub data Piece : Type 0 where
   act : ℕ → Action → Piece
   loop : ℕ → Action → Piece
 
+abbrev pub piece : ℕ → Statement → Piece
+piece n (acts l a) = act n a
+piece n (repeats l m a) = loop n a
+
 -- statements from an occurrence on
 abbrev pub pieces : ℕ → List Statement → List Piece
 pieces n [] = []
-pieces n (acts l a ∷ rest) = act n a ∷ pieces (n + 1) rest
-pieces n (repeats l m a ∷ rest) = loop n a ∷ pieces (n + 2) rest
+pieces n (s ∷ rest) = piece n s ∷ pieces (n + size_of s) rest
 
 pub record State : Type 0 where
   pub left : List Piece

@@ -9,9 +9,9 @@ ghost use Rattle.st_reading.specs.declared.mark.Mark.TheVariants as marks;
 ghost use Rattle.st_form.specs.Plain.{plain};
 ghost use Rattle.small_programs.specs.Reads.{Makes, Takes};
 ghost use Rattle.small_programs.specs.Views.{action_of, statement_of, declaration_of, head_of, program_of};
-ghost use Rattle.small_programs.specs.Program.{statements};
+ghost use Rattle.small_programs.specs.Program.{size_of, statements};
 ghost use Rattle.small_programs.specs.Fit.{IsComparison, IsFitAction, IsFit, AreFit, AreComparisons, IsFitProgram};
-ghost use Rattle.small_programs.specs.ProgramText.{label_from, action_from, loop_from, statement_from, with_name, with_labels, with_form, size_of, next_from, body_from, process_behind, where_from, declaration_from, head_from, process_from, program_spelled};
+ghost use Rattle.small_programs.specs.ProgramText.{label_from, action_from, loop_from, statement_from, with_name, with_labels, with_form, next_from, body_from, process_behind, where_from, declaration_from, head_from, process_from, program_spelled};
 
 use crate::SmallFault;
 use crate::comparisons::comparison;

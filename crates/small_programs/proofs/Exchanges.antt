@@ -5,13 +5,16 @@ use Rattle.std.specs.Option.{option_map}
 use Rattle.std.specs.List.{All}
 use Rattle.std.proofs.lemmas.Bool.Decides.{nat_tests}
 use Rattle.st_linear.specs.Linear.{Linear, fitting, sum_of, scaled, form_for, kept_entries, plus_scaled, with_one, with_listed, replaced, AllAbove, AreEntries}
-use Rattle.st_form.specs.Formula.{Formula, truth_value, row, equal, bool_var, at, negation, every, some}
+use Rattle.st_form.specs.Formula.{Formula, truth_value, row, equal, bool_var, at, negation, every, some, formulas}
 use Rattle.st_form.specs.Exchange.{Exchange, exchanged}
+use Rattle.st_form.specs.Condition.{Implication}
 use Rattle.farkas_check.specs.Limits.{IsSlight, IsNarrow}
-use Rattle.small_programs.specs.Program.{Action, skips, assigns}
-use Rattle.small_programs.specs.Conditions.{change_of}
+use Rattle.farkas_check.specs.Limits as are_narrow
+use Rattle.small_programs.specs.Sound.{FoundForm}
+use Rattle.small_programs.specs.Program.{Action, skips, assigns, Program}
+use Rattle.small_programs.specs.Conditions.{change_of, started}
 use Rattle.small_programs.specs.Sizes.{AreWithin, IsWithin}
-use Rattle.small_programs.specs.Fit.{IsModest, IsComparison, IsFitAction}
+use Rattle.small_programs.specs.Fit.{IsModest, IsComparison, AreComparisons, IsFitAction, IsFitProgram}
 use Rattle.small_programs.proofs.Sizes.{AreWithin-weaker, IsWithin-weaker, IsWithin-sum_of, IsWithin-scaled, fitting_within}
 
 -- the numbers of a claim after a mode
@@ -94,12 +97,6 @@ slight_entries (e ∷ es) h (suc k) d below = slight_entries es h.1 k d (omega a
 pub IsSlight-within : (f : Linear) → IsWithin (2 ^ 68) f → IsSlight f
 IsSlight-within f h = record { constant = omega (arith, h.constant); entries = slight_entries f.entries h.entries }
 
--- a formula that is there, and narrow
-pub record FoundForm (o : Option Formula) : Type 0 where
-  pub form : Formula
-  pub is : o ≡ Some form
-  pub narrow : IsNarrow form
-
 in_row : (o : Option Linear) → Found o → FoundForm (option_map row o)
 in_row o h = record { form = row h.form; is = ap (option_map row) h.is; narrow = IsSlight-within h.form h.size }
 
@@ -144,3 +141,14 @@ comparison_narrow (at l) h = absurd h
 comparison_narrow (negation f) h = comparison_narrow f h
 comparison_narrow (every fs) h = absurd h
 comparison_narrow (some fs) h = absurd h
+
+comparisons_narrow : (fs : List Formula) → AreComparisons fs → are_narrow.AreNarrow (formulas fs)
+comparisons_narrow [] h = tt
+comparisons_narrow (f ∷ fs) h = (comparison_narrow f h.0, comparisons_narrow fs h.1)
+
+pub started_narrow : (p : Program) (f : Formula) → IsFitProgram p → IsComparison f → IsNarrow (started p f).given × IsNarrow (started p f).shown
+started_narrow p f fit h = ((tt, comparisons_narrow p.initial fit.initial), comparison_narrow f h)
+
+-- the same for the condition that the code made
+pub narrow_by : (c d : Implication) → c ≡ d → IsNarrow d.given × IsNarrow d.shown → IsNarrow c.given × IsNarrow c.shown
+narrow_by c d is h = subst (λ (x : Implication). IsNarrow x.given × IsNarrow x.shown) (sym is) h

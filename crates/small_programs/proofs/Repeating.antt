@@ -8,6 +8,9 @@ use Rattle.st_reading.specs.declared.mark.Mark.TheVariants as marks
 use Rattle.st_reading.specs.Sign.{is}
 use Rattle.st_reading.specs.Reading.{ahead, size}
 use Rattle.small_programs.specs.Program.{Statement, size_of, statements}
+use Rattle.st_form.specs.Condition.{Implication}
+use Rattle.farkas_check.specs.Limits.{IsNarrow}
+use Rattle.small_programs.specs.Sound.{AreNarrow}
 use Rattle.small_programs.specs.Fit.{IsFit, AreFit, IsComparison, AreComparisons}
 use Rattle.small_programs.specs.Reads.{Read, read_then}
 use Rattle.small_programs.specs.ProgramText.{Declaration, Head, made_head, declaration_from, head_goes_on, head_from, with_form, next_from, body_goes_on, body_from, with_labels}
@@ -117,3 +120,9 @@ statements-append (y ∷ xs) x = omega (arith, statements-append xs x)
 
 pub statements-more : (xs ys : List Statement) (x : Statement) → ys ≡ xs ++ x ∷ [] → statements ys ≡ statements xs + size_of x
 statements-more xs ys x is = ap statements is ∙ statements-append xs x
+
+pub AreNarrow-more : (xs ys : List Implication) (x : Implication) → ys ≡ xs ++ x ∷ [] → IsNarrow x.given × IsNarrow x.shown → AreNarrow xs → AreNarrow ys
+AreNarrow-more xs ys x is h k = subst AreNarrow (sym is) (more_narrow xs k) where
+  more_narrow : (xs : List Implication) → AreNarrow xs → AreNarrow (xs ++ x ∷ [])
+  more_narrow [] k = (h.0, h.1, tt)
+  more_narrow (y ∷ xs) k = (k.0, k.1, more_narrow xs k.2)

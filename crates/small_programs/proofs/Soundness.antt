@@ -18,8 +18,8 @@ use Rattle.small_programs.specs.Steps.{Piece, act, loop, piece, pieces, State, s
 use Rattle.small_programs.specs.Runs.{AreSteps, IsRun, HoldsInEach, IsInvariant}
 use Rattle.small_programs.specs.Conditions.{Mode, change_of, idle, mode, modes_at, modes_from, modes_of, after_mode, enabled, kept, started, conditions_of}
 use Rattle.small_programs.specs.Fit.{IsComparison, IsFitAction, IsFit, AreFit, IsFitProgram}
-use Rattle.small_programs.specs.Sound.{control, AreValid}
-use Rattle.small_programs.proofs.Exchanges.{FoundForm, found_after}
+use Rattle.small_programs.specs.Sound.{control, AreValid, FoundForm}
+use Rattle.small_programs.proofs.Exchanges.{found_after}
 
 -- an element of a list
 pub data Among {A : Type 0} (x : A) : List A → Type 0 where

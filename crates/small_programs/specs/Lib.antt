@@ -13,3 +13,4 @@ pub mod Steps
 pub mod Runs
 pub mod Conditions
 pub mod Sound
+pub mod ModeView

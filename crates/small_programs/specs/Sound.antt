@@ -1,5 +1,5 @@
 -- When the conditions of a claim are valid.
-use Rattle.std.specs.Prelude.{ℕ, ◌+◌, List, [], ◌∷◌}
+use Rattle.std.specs.Prelude.{◌≡◌, ℕ, ◌+◌, List, [], ◌∷◌, Option, Some}
 use Rattle.st_form.specs.Formula.{Formula}
 use Rattle.st_form.specs.Condition.{Implication}
 use Rattle.control_states.specs.Control.{ControlFacts, single}
@@ -20,3 +20,9 @@ AreValid k (c ∷ cs) = IsValidCondition k c.given c.shown × AreValid k cs
 abbrev pub AreNarrow : List Implication → Type 0
 AreNarrow [] = Unit {0}
 AreNarrow (c ∷ cs) = IsNarrow c.given × IsNarrow c.shown × AreNarrow cs
+
+-- the claim after a mode is there, and its numbers are below 2^69 in size
+pub record FoundForm (o : Option Formula) : Type 0 where
+  pub form : Formula
+  pub is : o ≡ Some form
+  pub narrow : IsNarrow form

@@ -3,6 +3,7 @@
 #![tactic(auto)]
 
 mod comparisons;
+mod conditions;
 mod fault;
 mod program;
 mod program_text;

@@ -133,7 +133,8 @@ fn statement<'a>(
     Ok(Statement::Act(label, action))
 }
 
-fn size_of(statement: &Statement) -> usize
+/// How many statements it is: a loop's body counts, too.
+pub fn size_of(statement: &Statement) -> usize
     ensures exact { result ≡ size_of (statement_of statement.now) }
     ensures few { result ≤ 2 }
 {

@@ -5,3 +5,4 @@ pub mod Sizes
 pub mod Repeating
 pub mod Exchanges
 pub mod Soundness
+pub mod Rows

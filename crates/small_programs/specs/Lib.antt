@@ -14,3 +14,5 @@ pub mod Runs
 pub mod Conditions
 pub mod Sound
 pub mod ModeView
+pub mod CertificateText
+pub mod CertificateLimits

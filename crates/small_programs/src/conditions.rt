@@ -292,7 +292,11 @@ fn push_body(
 }
 
 /// The conditions that the claim is invariant, in their order: the start, idling, and each statement's modes.
-pub fn conditions(alloc: Global, program: &Program, claim: &Form) -> Result<Vec<Condition>, Memory>
+pub fn invariance_conditions(
+    alloc: Global,
+    program: &Program,
+    claim: &Form,
+) -> Result<Vec<Condition>, Memory>
     requires program { IsFitProgram (program_of program.now) }
     requires claim { IsComparison (plain claim.now) }
     ensures exact { IfOk result (λ v. map plain_condition v.items ≡ conditions_of (program_of program.now) (plain claim.now)) }

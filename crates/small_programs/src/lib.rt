@@ -2,6 +2,7 @@
 //! action, and one invariance of a comparison. Each part has one plain definition, and a law above it.
 #![tactic(auto)]
 
+mod certificates;
 mod comparisons;
 mod conditions;
 mod fault;
@@ -11,6 +12,8 @@ mod proof_text;
 mod sums;
 mod words;
 
+pub use certificates::{read_block, skipped};
+pub use conditions::invariance_conditions;
 pub use fault::SmallFault;
 pub use program::{Action, Label, Program, Statement};
 pub use program_text::read_program;

@@ -3,7 +3,7 @@ use Rattle.std.proofs.Common.{◌≡◌, ℕ, zero, suc, ◌+◌, ◌*◌, ◌^�
 use Rattle.std.specs.Prelude.{Bool, true, false, ◌&&◌, ◌==◌, IsTrue, nat_le, nat_lt, if◌then◌else◌, ℤ, pos, negsuc, ◌+ℤ◌, ◌*ℤ◌, neg_ℤ, unsigned_abs, Option, Some, None}
 use Rattle.std.proofs.lemmas.Bool.Decides.{nat_tests}
 use Rattle.std.proofs.lemmas.Int.{ints, unsigned_abs-mul}
-use Rattle.st_linear.specs.Linear.{Linear, is_small, are_small, fits, fitting, with_entry, joined, sum_of, scaled_entries, scaled, AreEntries}
+use Rattle.st_linear.specs.Linear.{Linear, is_within, is_small, are_small, fits, fitting, with_entry, joined, sum_of, scaled_entries, scaled, AreEntries}
 use Rattle.st_linear.specs.Simple.{negated, lowered}
 use Rattle.st_linear.proofs.Joined.{joined-ind}
 use Rattle.small_programs.specs.Sums.{is_written_number, are_written, is_written}
@@ -72,7 +72,7 @@ IsWithin-scaled n m c f le h = record {
 }
 
 small_within : (n : ℕ) (z : ℤ) → n < 2 ^ 100 → unsigned_abs z ≤ n → is_small z ≡ true
-unfolding is_small
+unfolding is_within
 small_within n z below le = grind (arith, nat_tests)
 
 are_small_within : (n : ℕ) (es : List (ℕ × ℤ)) → n < 2 ^ 100 → AreWithin n es → are_small es ≡ true

@@ -5,11 +5,11 @@ use Rattle.std.proofs.lemmas.Bool.Decides.{nat_tests}
 use Rattle.std.proofs.lemmas.Int.{to_z-of_z, fits_signed_from_abs}
 use mir.Syntax.{w128}
 use mir.Val.{to_z, of_z}
-use Rattle.st_linear.specs.Linear.{Linear, is_small, are_small, fits, fitting, variable}
+use Rattle.st_linear.specs.Linear.{Linear, is_within, is_small, are_small, fits, fitting, variable}
 use Rattle.small_programs.specs.Sums.{is_written_number, are_written, is_written, written}
 
 small_number : (z : ℤ) → is_written_number z ≡ true → is_small z ≡ true
-unfolding is_written_number is_small
+unfolding is_written_number is_within
 small_number z w = grind (arith, nat_tests)
 
 pub both : (a b : Bool) → (if a then b else false) ≡ true → (a ≡ true) × (b ≡ true)

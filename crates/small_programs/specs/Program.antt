@@ -1,6 +1,5 @@
 -- Small programs as plain data: one process of actions and of loops without end over one action.
-use Rattle.std.specs.Prelude.{ℕ, ◌+◌, List, [], ◌∷◌, ◌++◌, Option, length, map}
-use Rattle.std.specs.Option.{option_map}
+use Rattle.std.specs.Prelude.{ℕ, ◌+◌, ◌-◌, ◌==◌, if◌then◌else◌, List, [], ◌∷◌, Option, None}
 use Rattle.st_linear.specs.Linear.{Linear}
 use Rattle.st_form.specs.Formula.{Formula}
 
@@ -30,8 +29,8 @@ abbrev pub statements : List Statement → ℕ
 statements [] = 0
 statements (s ∷ rest) = size_of s + statements rest
 
--- the labels by occurrence
-abbrev pub labels : List Statement → List (Option (List ℕ))
-labels [] = []
-labels (acts l a ∷ rest) = l ∷ labels rest
-labels (repeats l m a ∷ rest) = l ∷ m ∷ labels rest
+-- the label of the statement of an occurrence, if it has one
+abbrev pub label_at : ℕ → List Statement → Option (List ℕ)
+label_at n [] = None
+label_at n (acts l a ∷ rest) = if n == 0 then l else label_at (n - 1) rest
+label_at n (repeats l m a ∷ rest) = if n == 0 then l else (if n == 1 then m else label_at (n - 2) rest)

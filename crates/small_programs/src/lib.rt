@@ -15,6 +15,6 @@ mod words;
 pub use certificates::{read_block, skipped};
 pub use conditions::invariance_conditions;
 pub use fault::SmallFault;
-pub use program::{Action, Label, Program, Statement};
+pub use program::{Action, Label, Program, Statement, label_at, locations};
 pub use program_text::read_program;
 pub use proof_text::{Goal, read_proof};

@@ -6,3 +6,4 @@ pub mod Repeating
 pub mod Exchanges
 pub mod Soundness
 pub mod Rows
+pub mod Spelled

@@ -17,9 +17,8 @@ use Rattle.small_programs.specs.Program.{Action, skips, assigns, Statement, acts
 use Rattle.small_programs.specs.Steps.{Piece, act, loop, piece, pieces, State, stored, IsStep, idling, acting, turning, front, situation, HoldsIn}
 use Rattle.small_programs.specs.Runs.{AreSteps, IsRun, HoldsInEach, IsInvariant}
 use Rattle.small_programs.specs.Conditions.{Mode, change_of, idle, mode, modes_at, modes_from, modes_of, after_mode, enabled, kept, started, conditions_of}
-use Rattle.small_programs.specs.Fit.{IsComparison, IsFitAction, IsFit, AreFit, IsFitProgram}
-use Rattle.small_programs.specs.Sound.{control, AreValid, FoundForm}
-use Rattle.small_programs.proofs.Exchanges.{found_after}
+use Rattle.small_programs.specs.Fit.{IsOfNumbers}
+use Rattle.small_programs.specs.Sound.{control, AreValid}
 
 -- an element of a list
 pub data Among {A : Type 0} (x : A) : List A → Type 0 where
@@ -39,7 +38,7 @@ all_true : (a b : Bool) → a ≡ true → b ≡ true → (a && (b && (true && t
 all_true a b p q = rw (p, q) refl
 
 -- a comparison speaks of numbers alone
-comparison_truth : (f : Formula) (s t : Situation) → IsComparison f → s.numbers ≡ t.numbers → truth s f ≡ truth t f
+comparison_truth : (f : Formula) (s t : Situation) → IsOfNumbers f → s.numbers ≡ t.numbers → truth s f ≡ truth t f
 comparison_truth (truth_value b) s t h same = absurd h
 comparison_truth (row f) s t h same = ap (λ (n : ℕ → ℤ). int_le (pos 0) (value n f)) same
 comparison_truth (equal f) s t h same = ap (λ (n : ℕ → ℤ). is_zero (value n f)) same
@@ -104,51 +103,51 @@ module _ (p : Program) where
     kept_valid (n ∷ ms) m (first n' ms' is) valid = subst (λ (x : Mode). IsValidCondition (control p) (kept f x).given (kept f x).shown) (sym is) valid.0
     kept_valid (n ∷ ms) m (later n' ms' is) valid = kept_valid ms m is valid.1
 
+    -- what is shown says that the claim holds behind the change
+    moved : (now : Situation) (x : Exchange) (o : Option Formula) → exchanged x f ≡ o → truth now (unwrap_or o (truth_value false)) ≡ true → truth (before now x) f ≡ true
+    moved now x None is shown = absurd cc
+    moved now x (Some g) is shown = sym (truth-exchanged f now x g is) ∙ shown
+
     -- a step by a mode keeps the claim
-    pub kept_by : (l m number : ℕ) (a : Action) (s : State) → IsComparison f → IsFitAction a → Among (mode l number m (truth_value true) a) (modes_of p) → AreValid (control p) Conditions
+    pub kept_by : (l m number : ℕ) (a : Action) (s : State) → IsOfNumbers f → Among (mode l number m (truth_value true) a) (modes_of p) → AreValid (control p) Conditions
         → l ≤ N → front N s.left ≡ l → HoldsIn p f s → (t : State) → t.store ≡ stored a s.store → HoldsIn p f t
-    kept_by l m number a s comparison fit among valid le at_ holds t is =
+    kept_by l m number a s comparison among valid le at_ holds t is =
         let condition = kept_valid (modes_of p) (mode l number m (truth_value true) a) among valid in
-        let found = found_after a l m f fit comparison in
         let here : situation p s ≡ record { numbers = s.store; truths = λ _. false; located = λ k. l == k } =
         ap (λ (n : ℕ). let x : Situation = record { numbers = s.store; truths = λ _. false; located = λ k. n == k } in x) at_ in
         let now : Situation = record { numbers = s.store; truths = λ _. false; located = λ k. l == k } in
         let claimed : truth now f ≡ true = subst (λ (x : Situation). truth x f ≡ true) here holds in
         let given : IsTrue (truth now (kept f (mode l number m (truth_value true) a)).given) = all_true _ _ claimed (grind (arith, nat_tests)) in
         let shown : IsTrue (truth now (after_mode (mode l number m (truth_value true) a) f)) = condition (standing l) now (in_control l le) given in
-        let same : after_mode (mode l number m (truth_value true) a) f ≡ found.form = ap (λ o. unwrap_or o f) found.is in
-        let moved = truth-exchanged f now (change_of a l m) found.form found.is in
         let numbers : t.store ≡ changed s.store (change_of a l m).numbers = is ∙ sym (changed_stored a l m s.store) in
-        comparison_truth f (situation p t) (before now (change_of a l m)) comparison numbers ∙ sym moved ∙ ap (truth now) (sym same) ∙ shown
+        comparison_truth f (situation p t) (before now (change_of a l m)) comparison numbers ∙ moved now (change_of a l m) (exchanged (change_of a l m) f) refl shown
 
   -- what is left to run, and that its modes are among those of the program
   abbrev Covered : List Piece → Type 0
   Covered [] = Unit {0}
-  Covered (act n a ∷ rest) = (n ≤ N) × IsFitAction a × Among (mode n 1 (front N rest) (truth_value true) a) (modes_of p) × Covered rest
-  Covered (loop n a ∷ rest) = (n + 1 ≤ N) × IsFitAction a × Among (mode n 1 (n + 1) (truth_value true) skips) (modes_of p) × Among (mode (n + 1) 1 n (truth_value true) a) (modes_of p) × Covered rest
+  Covered (act n a ∷ rest) = (n ≤ N) × Among (mode n 1 (front N rest) (truth_value true) a) (modes_of p) × Covered rest
+  Covered (loop n a ∷ rest) = (n + 1 ≤ N) × Among (mode n 1 (n + 1) (truth_value true) skips) (modes_of p) × Among (mode (n + 1) 1 n (truth_value true) a) (modes_of p) × Covered rest
 
   front_pieces : (n : ℕ) (ss : List Statement) → n + statements ss ≡ N → front N (pieces n ss) ≡ n
   front_pieces n [] sum = omega arith
   front_pieces n (acts l a ∷ ss) sum = refl
   front_pieces n (repeats l m a ∷ ss) sum = refl
 
-  covered_pieces : (n : ℕ) (ss : List Statement) → n + statements ss ≡ N → AreFit ss → ((m : Mode) → Among m (modes_from n ss) → Among m (modes_of p)) → Covered (pieces n ss)
-  covered_pieces n [] sum fit sub = tt
-  covered_pieces n (acts l a ∷ ss) sum fit sub = (
+  covered_pieces : (n : ℕ) (ss : List Statement) → n + statements ss ≡ N → ((m : Mode) → Among m (modes_from n ss) → Among m (modes_of p)) → Covered (pieces n ss)
+  covered_pieces n [] sum sub = tt
+  covered_pieces n (acts l a ∷ ss) sum sub = (
     omega arith,
-    fit.0,
     subst (λ (k : ℕ). Among (mode n 1 k (truth_value true) a) (modes_of p)) (sym (front_pieces (n + 1) ss (omega arith))) (sub _ (first _ _ refl)),
-    covered_pieces (n + 1) ss (omega arith) fit.1 (λ m is. sub m (later _ _ is)),
+    covered_pieces (n + 1) ss (omega arith) (λ m is. sub m (later _ _ is)),
   )
-  covered_pieces n (repeats l m a ∷ ss) sum fit sub = (
+  covered_pieces n (repeats l m a ∷ ss) sum sub = (
     omega arith,
-    fit.0,
     sub _ (first _ _ refl),
     sub _ (later _ _ (later _ _ (first _ _ refl))),
-    covered_pieces (n + 2) ss (omega arith) fit.1 (λ m is. sub m (later _ _ (later _ _ (later _ _ is)))),
+    covered_pieces (n + 2) ss (omega arith) (λ m is. sub m (later _ _ (later _ _ (later _ _ is)))),
   )
 
-  module _ (f : Formula) (fit : IsFitProgram p) (comparison : IsComparison f) (valid : AreValid (control p) (conditions_of p f)) where
+  module _ (f : Formula) (comparison : IsOfNumbers f) (valid : AreValid (control p) (conditions_of p f)) where
     same_store : (s t : State) → t.store ≡ s.store → HoldsIn p f s → HoldsIn p f t
     same_store s t is holds = comparison_truth f (situation p t) (situation p s) comparison is ∙ holds
 
@@ -157,10 +156,10 @@ module _ (p : Program) where
     kept_step s t name (idling is left store) covered holds = (same_store s t store holds, subst Covered (sym left) covered)
     kept_step s t name (acting n a rest at_ is left store) covered holds =
         let c : Covered (act n a ∷ rest) = subst Covered at_ covered in
-        (kept_by f n (front N rest) 1 a s comparison c.1 c.2 valid.1 c.0 (ap (front N) at_) holds t store, subst Covered (sym left) c.3)
+        (kept_by f n (front N rest) 1 a s comparison c.1 valid.1 c.0 (ap (front N) at_) holds t store, subst Covered (sym left) c.2)
     kept_step s t name (turning n a rest at_ is left store) covered holds =
         let c : Covered (loop n a ∷ rest) = subst Covered at_ covered in
-        let behind : Covered (act (n + 1) a ∷ loop n a ∷ rest) = (c.0, c.1, c.3, c) in
+        let behind : Covered (act (n + 1) a ∷ loop n a ∷ rest) = (c.0, c.2, c) in
         (same_store s t store holds, subst Covered (sym left) behind)
 
     kept_steps : (s : State) (rest : List (TransName × State)) → AreSteps s rest → Covered s.left → HoldsIn p f s → HoldsInEach p f rest
@@ -181,5 +180,5 @@ module _ (p : Program) where
     pub sound : IsInvariant p f
     sound first_ rest run =
         let holds = at_start first_ run.beginning run.initially in
-        let covered = covered_pieces 0 p.body (omega arith) fit.body (λ m is. later _ _ is) in
+        let covered = covered_pieces 0 p.body (omega arith) (λ m is. later _ _ is) in
         (holds, kept_steps first_ rest run.steps (subst Covered (sym run.beginning) covered) holds)

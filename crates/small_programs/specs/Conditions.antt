@@ -1,6 +1,6 @@
 -- The conditions of basic invariance for a small program: the claim holds at the start, and each mode of each transition
 -- keeps it (Manna and Pnueli, Temporal Verification of Reactive Systems: Safety, 1995, rule INV-B).
-use Rattle.std.specs.Prelude.{ℕ, ◌+◌, true, List, [], ◌∷◌, ◌++◌, map, Option, Some, None, unwrap_or}
+use Rattle.std.specs.Prelude.{ℕ, ◌+◌, true, false, List, [], ◌∷◌, ◌++◌, map, Option, Some, None, unwrap_or}
 use Rattle.st_linear.specs.Linear.{Linear}
 use Rattle.st_form.specs.Formula.{Formula, Formulas, truth_value, at, negation, every, none, more, formulas}
 use Rattle.st_form.specs.Exchange.{Exchange, exchanged}
@@ -52,9 +52,10 @@ modes_from l (s ∷ rest) = modes_at l s ++ modes_from (l + size_of s) rest
 abbrev pub modes_of : Program → List Mode
 modes_of p = idle ∷ modes_from 0 p.body
 
--- the formula after a mode; the numbers of a comparison and of what is assigned are so small that there always is one
+-- the formula after a mode; it would be false where a number of it were too large, which no comparison of the grammar and
+-- no action of it come to
 abbrev pub after_mode : Mode → Formula → Formula
-after_mode m f = unwrap_or (exchanged m.change f) f
+after_mode m f = unwrap_or (exchanged m.change f) (truth_value false)
 
 -- at each of these locations, and then the guard
 abbrev pub enabled : List ℕ → Formula → Formulas

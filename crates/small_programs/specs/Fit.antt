@@ -42,3 +42,14 @@ pub record IsFitProgram (p : Program) : Type 0 where
   pub initial : AreComparisons p.initial
   pub body : AreFit p.body
   pub few : statements p.body ≤ 400
+
+-- a comparison, or its opposite: it speaks of numbers alone
+abbrev pub IsOfNumbers : Formula → Type 0
+IsOfNumbers (row f) = Unit {0}
+IsOfNumbers (equal f) = Unit {0}
+IsOfNumbers (negation f) = IsOfNumbers f
+IsOfNumbers (truth_value b) = ⊥
+IsOfNumbers (bool_var v) = ⊥
+IsOfNumbers (at l) = ⊥
+IsOfNumbers (every fs) = ⊥
+IsOfNumbers (some fs) = ⊥

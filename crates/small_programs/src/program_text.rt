@@ -308,6 +308,7 @@ fn process_behind<'a>(
     requires fit { AreComparisons (map plain head.initial.items) }
     ensures reads { Takes program_of result (stream tokens.new) (process_behind (head_of head.entry) name.now (stream tokens.old)) }
     ensures fit { IfOk result (λ p. IsFitProgram (program_of p)) }
+    ensures few { IfOk result (λ p. vec_len p.variables ≤ 64) }
 {
     let mut names = Vec::from_slice(alloc, &head.variables)?;
     names.push(name)?;
@@ -331,6 +332,7 @@ fn process<'a>(
     requires fit { AreComparisons (map plain head.initial.items) }
     ensures reads { Takes program_of result (stream tokens.new) (process_from (head_of head.entry) (stream tokens.old)) }
     ensures fit { IfOk result (λ p. IsFitProgram (program_of p)) }
+    ensures few { IfOk result (λ p. vec_len p.variables ≤ 64) }
 {
     let name = new_name(&head.variables, tokens)?;
     mark(tokens, Mark::Colons)?;
@@ -342,6 +344,7 @@ fn process<'a>(
 pub fn read_program<'a>(alloc: Global, text: &'a [u8]) -> Result<Program<'a>, SmallFault>
     ensures exact { Makes program_of result (program_spelled text.now) }
     ensures fit { IfOk result (λ p. IsFitProgram (program_of p)) }
+    ensures few { IfOk result (λ p. vec_len p.variables ≤ 64) }
 {
     let mut tokens = Tokens::new(text);
     let head = heading(alloc, &mut tokens)?;

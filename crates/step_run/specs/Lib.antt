@@ -1,0 +1,12 @@
+pub mod Asked
+pub mod Check
+pub mod Headline
+pub mod Outcome
+pub mod Plan
+pub mod Reading
+pub mod Report
+pub mod Top
+pub mod Valid
+pub mod Writing
+pub mod Number
+pub mod CheckedView

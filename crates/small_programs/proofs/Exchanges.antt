@@ -1,12 +1,12 @@
 -- A claim after a mode: there always is one, and its numbers are small.
-use Rattle.std.proofs.Common.{◌≡◌, ℕ, zero, suc, ◌+◌, ◌*◌, ◌^◌, ◌<◌, ◌≤◌, List, [], ◌∷◌, refl, sym, ◌∙◌, ap, subst, arith, cond, eqb}
-use Rattle.std.specs.Prelude.{Bool, true, false, ◌==◌, if◌then◌else◌, is_some, ℤ, pos, unsigned_abs, Option, Some, None, option_and_then, length, slice_index_or}
+use Rattle.std.proofs.Common.{◌≡◌, ℕ, zero, suc, ◌+◌, ◌*◌, ◌^◌, ◌<◌, ◌≤◌, List, [], ◌∷◌, refl, sym, ◌∙◌, ap, subst, arith}
+use Rattle.std.specs.Prelude.{Bool, true, false, ◌==◌, if◌then◌else◌, is_some, ℤ, unsigned_abs, Option, Some, None, option_and_then}
 use Rattle.std.specs.Option.{option_map}
 use Rattle.std.specs.List.{All}
 use Rattle.std.proofs.lemmas.Bool.Decides.{nat_tests}
-use Rattle.st_linear.specs.Linear.{Linear, fitting, sum_of, scaled, form_for, kept_entries, plus_scaled, with_one, with_listed, replaced, AllAbove, AreEntries}
+use Rattle.st_linear.specs.Linear.{Linear, fitting, sum_of, scaled, kept_entries, plus_scaled, with_one, with_listed, replaced, AllAbove, AreEntries}
 use Rattle.st_form.specs.Formula.{Formula, truth_value, row, equal, bool_var, at, negation, every, some, formulas}
-use Rattle.st_form.specs.Exchange.{Exchange, exchanged}
+use Rattle.st_form.specs.Exchange.{exchanged}
 use Rattle.st_form.specs.Condition.{Implication}
 use Rattle.farkas_check.specs.Limits.{IsSlight, IsNarrow}
 use Rattle.farkas_check.specs.Limits as are_narrow

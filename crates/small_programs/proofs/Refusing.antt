@@ -1,6 +1,6 @@
 -- Refusals, and what they are in a larger reading.
-use Rattle.std.proofs.Common.{◌≡◌, refl}
-use Rattle.std.specs.Prelude.{Option, Some, None}
+use Rattle.std.proofs.Common.{◌≡◌}
+use Rattle.std.specs.Prelude.{Option, None}
 use Rattle.small_programs.specs.declared.fault.SmallFault.{SmallFault}
 use Rattle.small_programs.specs.declared.fault.SmallFault.TheVariants.{Unsupported, Memory}
 use Rattle.small_programs.specs.Reads.{Refuses}

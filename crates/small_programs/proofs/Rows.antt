@@ -1,11 +1,10 @@
 -- How the reading of picks and of rows of trees goes on.
-use Rattle.std.proofs.Common.{◌≡◌, ℕ, zero, suc, ◌+◌, ◌-◌, ◌^◌, ◌<◌, ◌≤◌, List, [], ◌∷◌, ◌++◌, length, refl, sym, ◌∙◌, ap, subst, arith, map, length-append}
-use Rattle.std.specs.Prelude.{Bool, true, false, Option, Some, None, codes, slice_index_or}
+use Rattle.std.proofs.Common.{◌≡◌, ℕ, zero, suc, ◌+◌, ◌-◌, ◌^◌, ◌<◌, ◌≤◌, List, [], ◌∷◌, ◌++◌, refl, sym, ◌∙◌, ap, subst, arith}
+use Rattle.std.specs.Prelude.{Bool, true, false, Some, None, codes}
 use Rattle.std.specs.List.{All}
 use Rattle.st_certificate.specs.Tree.{Tree, trees}
 use Rattle.farkas_check.specs.Limits.{IsLimited, AreLimited}
 use Rattle.small_programs.specs.CertificateText.{Take, take_then, next_pick, picks_go_on, picks_from, next_tree, row_goes_on, row_from, tree_by, tree_from, word_at, else_absurd, else_farkas, else_case, case_behind, farkas_behind}
-use Rattle.small_programs.specs.CertificateLimits.{ArePicks}
 use Rattle.small_programs.proofs.Repeating.{Turns}
 
 module _ (done : List (ℕ × ℕ)) (s : List ℕ) (whole : Take (List (ℕ × ℕ))) (place : ℕ) where

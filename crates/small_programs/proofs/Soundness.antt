@@ -1,22 +1,22 @@
 -- Where all conditions of a claim are valid, the claim holds in every state of every run.
-use Rattle.std.proofs.Common.{◌≡◌, ℕ, zero, suc, ◌+◌, ◌<◌, ◌≤◌, List, [], ◌∷◌, ◌++◌, inl, inr, refl, sym, ◌∙◌, ap, subst, arith, cond, map}
-use Rattle.std.specs.Prelude.{Bool, true, false, not, ◌&&◌, ◌||◌, ◌==◌, if◌then◌else◌, IsTrue, ◌↔◌, ◌⊎◌, int_le, ℤ, pos, Option, Some, None, unwrap_or, slice_get, slice_index_or, replicate, length}
+use Rattle.std.proofs.Common.{◌≡◌, ℕ, zero, suc, ◌+◌, ◌<◌, ◌≤◌, List, [], ◌∷◌, ◌++◌, inl, inr, refl, sym, ◌∙◌, ap, subst, arith, map}
+use Rattle.std.specs.Prelude.{Bool, true, false, not, ◌&&◌, ◌==◌, if◌then◌else◌, IsTrue, int_le, ℤ, pos, Option, Some, None, unwrap_or, slice_get, replicate}
 use Rattle.std.specs.List.{range_with_len}
 use Rattle.std.proofs.lemmas.Bool.Decides.{nat_tests}
-use Rattle.st_linear.specs.Linear.{Linear, value, form_for, value_or, changed}
-use Rattle.st_form.specs.Formula.{Formula, Formulas, truth_value, row, equal, bool_var, at, negation, every, some, none, more, formulas, Situation, truth, every_truth, is_zero}
+use Rattle.st_linear.specs.Linear.{Linear, value, value_or, changed}
+use Rattle.st_form.specs.Formula.{Formula, truth_value, row, equal, bool_var, at, negation, every, some, formulas, Situation, truth, every_truth, is_zero}
 use Rattle.st_form.specs.Exchange.{Exchange, exchanged, before}
 use Rattle.st_form.specs.Condition.{Implication}
 use Rattle.st_form.proofs.Truths.{truth-exchanged}
 use Rattle.st_form.specs.declared.conditions.TransName.{TransName}
 use Rattle.control_states.specs.declared.alternative.Alternative.{Alternative}
-use Rattle.control_states.specs.declared.alternative.Alternative.TheVariants.{Location, Inside}
-use Rattle.control_states.specs.Control.{ControlFacts, ComponentFacts, component_at, Active, process, child, IsOneOf, IsControlState, IsAt, InControl, single}
+use Rattle.control_states.specs.declared.alternative.Alternative.TheVariants.{Location}
+use Rattle.control_states.specs.Control.{component_at, Active, process, child, IsOneOf, InControl}
 use Rattle.farkas_check.specs.Meaning.{IsValidCondition}
-use Rattle.small_programs.specs.Program.{Action, skips, assigns, Statement, acts, repeats, Program, size_of, statements}
-use Rattle.small_programs.specs.Steps.{Piece, act, loop, piece, pieces, State, stored, IsStep, idling, acting, turning, front, situation, HoldsIn}
-use Rattle.small_programs.specs.Runs.{AreSteps, IsRun, HoldsInEach, IsInvariant}
-use Rattle.small_programs.specs.Conditions.{Mode, change_of, idle, mode, modes_at, modes_from, modes_of, after_mode, enabled, kept, started, conditions_of}
+use Rattle.small_programs.specs.Program.{Action, skips, assigns, Statement, acts, repeats, Program, statements}
+use Rattle.small_programs.specs.Steps.{Piece, act, loop, pieces, State, stored, IsStep, idling, acting, turning, front, situation, HoldsIn}
+use Rattle.small_programs.specs.Runs.{AreSteps, HoldsInEach, IsInvariant}
+use Rattle.small_programs.specs.Conditions.{Mode, change_of, mode, modes_from, modes_of, after_mode, kept, conditions_of}
 use Rattle.small_programs.specs.Fit.{IsOfNumbers}
 use Rattle.small_programs.specs.Sound.{control, AreValid}
 

@@ -1,5 +1,5 @@
 -- What a text spells speaks of numbers alone.
-use Rattle.std.proofs.Common.{◌≡◌, ℕ, List, refl, subst, sym}
+use Rattle.std.proofs.Common.{◌≡◌, ℕ, List, subst}
 use Rattle.std.specs.Prelude.{Bool, true, false, Option, Some, None, if◌then◌else◌}
 use Rattle.st_tokens.specs.Stream.{Stream, behind, text_stream}
 use Rattle.st_reading.specs.declared.mark.Mark.TheVariants as marks

@@ -1,6 +1,6 @@
 -- How the reading of a sum goes on.
 use Rattle.std.proofs.Common.{◌≡◌, ℕ, zero, suc, ◌<◌, ◌≤◌, List, refl, sym, ◌∙◌, ap, arith}
-use Rattle.std.specs.Prelude.{Bool, true, false, Option, Some, None}
+use Rattle.std.specs.Prelude.{Bool, Some, None}
 use Rattle.st_linear.specs.Linear.{Linear}
 use Rattle.st_tokens.specs.Stream.{Stream, ends, breaks, more, behind}
 use Rattle.st_reading.specs.Reading.{ahead, size}

@@ -1,6 +1,6 @@
 -- Forms whose numbers may be written.
-use Rattle.std.proofs.Common.{◌≡◌, ℕ, ◌^◌, ◌<◌, ◌≤◌, List, [], ◌∷◌, refl, sym, ◌∙◌, ap, arith, cond, rules}
-use Rattle.std.specs.Prelude.{Bool, true, false, ◌&&◌, IsTrue, nat_le, nat_lt, if◌then◌else◌, ℤ, pos, unsigned_abs, Option, Some, None}
+use Rattle.std.proofs.Common.{◌≡◌, ℕ, ◌^◌, ◌<◌, List, [], ◌∷◌, refl, ◌∙◌, ap, arith, cond}
+use Rattle.std.specs.Prelude.{Bool, true, false, ◌&&◌, IsTrue, if◌then◌else◌, ℤ, pos, Some, None}
 use Rattle.std.proofs.lemmas.Bool.Decides.{nat_tests}
 use Rattle.std.proofs.lemmas.Int.{to_z-of_z, fits_signed_from_abs}
 use mir.Syntax.{w128}

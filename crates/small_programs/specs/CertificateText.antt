@@ -7,7 +7,7 @@
 -- Blanks may stand between tokens. Words are runs of lower-case letters, numbers runs of digits. Numbers of components
 -- and rows count from 1 and are at most 2^32 - 1; a multiplier is below 2^40; a leaf has at most 4,096 picks, a tree at
 -- most 399 trees round it, a block at most 100,000 trees.
-use Rattle.std.specs.Prelude.{ℕ, zero, suc, ◌+◌, ◌-◌, ◌*◌, ◌^◌, Bool, true, false, ◌&&◌, ◌||◌, ◌==◌, nat_lt, nat_le, not, if◌then◌else◌, List, [], ◌∷◌, ◌++◌, take, drop, codes, Option, Some, None}
+use Rattle.std.specs.Prelude.{ℕ, zero, suc, ◌+◌, ◌-◌, ◌*◌, ◌^◌, Bool, true, false, ◌&&◌, ◌||◌, ◌==◌, nat_lt, nat_le, if◌then◌else◌, List, [], ◌∷◌, ◌++◌, take, drop, codes, Option, Some, None}
 use Rattle.std.specs.List.{prefix_len}
 use Rattle.std.specs.Str.{bytes_eq}
 use Rattle.st_certificate.specs.Tree.{Tree, Trees, impossible, branch, farkas, linear, by_case, no_tree, with_tree, trees}

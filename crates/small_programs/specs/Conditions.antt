@@ -1,7 +1,6 @@
 -- The conditions of basic invariance for a small program: the claim holds at the start, and each mode of each transition
 -- keeps it (Manna and Pnueli, Temporal Verification of Reactive Systems: Safety, 1995, rule INV-B).
-use Rattle.std.specs.Prelude.{ℕ, ◌+◌, true, false, List, [], ◌∷◌, ◌++◌, map, Option, Some, None, unwrap_or}
-use Rattle.st_linear.specs.Linear.{Linear}
+use Rattle.std.specs.Prelude.{ℕ, ◌+◌, true, false, List, [], ◌∷◌, ◌++◌, map, Some, None, unwrap_or}
 use Rattle.st_form.specs.Formula.{Formula, Formulas, truth_value, at, negation, every, none, more, formulas}
 use Rattle.st_form.specs.Exchange.{Exchange, exchanged}
 use Rattle.st_form.specs.Condition.{Implication}

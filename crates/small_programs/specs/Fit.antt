@@ -1,5 +1,5 @@
 -- What the readers keep of the numbers of forms, so that no number of a condition leaves its bounds.
-use Rattle.std.specs.Prelude.{ℕ, ◌+◌, ◌^◌, ◌<◌, ◌≤◌, List, [], ◌∷◌, length}
+use Rattle.std.specs.Prelude.{◌^◌, ◌≤◌, List, [], ◌∷◌}
 use Rattle.st_linear.specs.Linear.{Linear, AreEntries}
 use Rattle.st_form.specs.Formula.{Formula, truth_value, row, equal, bool_var, at, negation, every, some}
 use Rattle.small_programs.specs.Program.{Action, skips, assigns, Statement, acts, repeats, Program, statements}

@@ -1,7 +1,6 @@
 -- Reading from a stream of tokens: a value and what is left, or nothing where the text isn't of the small grammar.
-use Rattle.std.specs.Prelude.{◌≡◌, ◌≤◌, List, Option, Some, None, Result, Ok, Err}
+use Rattle.std.specs.Prelude.{◌≡◌, Option, Some, None, Result, Ok, Err}
 use Rattle.st_tokens.specs.Stream.{Stream}
-use Rattle.st_reading.specs.Reading.{size}
 use Rattle.small_programs.specs.declared.fault.SmallFault.{SmallFault}
 use Rattle.small_programs.specs.declared.fault.SmallFault.TheVariants.{Unsupported, Memory}
 

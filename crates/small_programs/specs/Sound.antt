@@ -1,5 +1,5 @@
 -- When the conditions of a claim are valid.
-use Rattle.std.specs.Prelude.{◌≡◌, ℕ, ◌+◌, List, [], ◌∷◌, Option, Some}
+use Rattle.std.specs.Prelude.{◌≡◌, ◌+◌, List, [], ◌∷◌, Option, Some}
 use Rattle.st_form.specs.Formula.{Formula}
 use Rattle.st_form.specs.Condition.{Implication}
 use Rattle.control_states.specs.Control.{ControlFacts, single}

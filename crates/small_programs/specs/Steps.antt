@@ -4,9 +4,9 @@
 --
 -- `loop forever do S` is `while true do S`: its test is read before each turn, and control then stands at S. As the test
 -- is never false, no step leaves the loop.
-use Rattle.std.specs.Prelude.{◌≡◌, ℕ, ◌+◌, Bool, false, ◌==◌, IsTrue, if◌then◌else◌, List, [], ◌∷◌, ℤ}
-use Rattle.st_linear.specs.Linear.{Linear, value}
-use Rattle.st_form.specs.Formula.{Formula, Formulas, formulas, Situation, truth, every_truth}
+use Rattle.std.specs.Prelude.{◌≡◌, ℕ, ◌+◌, false, ◌==◌, IsTrue, if◌then◌else◌, List, [], ◌∷◌, ℤ}
+use Rattle.st_linear.specs.Linear.{value}
+use Rattle.st_form.specs.Formula.{Formula, Situation, truth}
 use Rattle.st_form.specs.declared.conditions.TransName.{TransName}
 use Rattle.st_form.specs.declared.conditions.TransName.TheVariants.{Idle, Step}
 use Rattle.st_form.specs.declared.conditions.Part.TheVariants.{Whole}

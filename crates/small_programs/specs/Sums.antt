@@ -1,7 +1,6 @@
 -- Sums: linear forms of numerals, variables and multiples of variables, whose numbers are at most 2^30 in size.
-use Rattle.std.specs.Prelude.{◌≡◌, ℕ, zero, suc, ◌^◌, ◌≤◌, Bool, false, true, nat_le, if◌then◌else◌, List, [], ◌∷◌, ℤ, pos, unsigned_abs, Option, Some, None}
+use Rattle.std.specs.Prelude.{ℕ, zero, suc, ◌^◌, Bool, false, true, nat_le, if◌then◌else◌, List, [], ◌∷◌, ℤ, pos, unsigned_abs, Option, Some, None}
 use Rattle.st_tokens.specs.Stream.{Stream, behind}
-use Rattle.st_reading.specs.declared.mark.Mark.{Mark}
 use Rattle.st_reading.specs.declared.mark.Mark.TheVariants as marks
 use Rattle.st_reading.specs.declared.sign.Sign.{Sign}
 use Rattle.st_reading.specs.declared.sign.Sign.TheVariants as signs

@@ -1,5 +1,5 @@
 -- The program's own types as plain data.
-use Rattle.std.specs.Prelude.{ℕ, List, map, Option}
+use Rattle.std.specs.Prelude.{map}
 use Rattle.std.specs.Option.{option_copied, option_map}
 use Rattle.st_form.specs.Plain.{plain}
 use Rattle.small_programs.specs.declared.program.Action.{Action}

@@ -1,5 +1,5 @@
 -- From status 0 to what it shows.
-use Rattle.std.proofs.Common.{◌≡◌, ℕ, ◌+◌, List, [], ◌∷◌, length, refl, sym, ◌∙◌, ap, subst}
+use Rattle.std.proofs.Common.{◌≡◌, ℕ, ◌+◌, List, [], ◌∷◌, length, refl, ap, subst}
 use Rattle.std.specs.Prelude.{Bool, true, false, Option, Some, None, IfSome, option_and_then, if◌then◌else◌, nat_lt}
 use Rattle.st_form.specs.Condition.{Implication}
 use Rattle.farkas_check.specs.Problem.{Setting}
@@ -10,7 +10,7 @@ use Rattle.small_programs.specs.ProgramText.{program_spelled}
 use Rattle.small_programs.specs.ProofText.{Goal, goal_spelled}
 use Rattle.small_programs.specs.Conditions.{conditions_of}
 use Rattle.small_programs.specs.CertificateText.{skipped, block_from}
-use Rattle.small_programs.specs.Sound.{control, AreValid}
+use Rattle.small_programs.specs.Sound.{AreValid}
 use Rattle.small_programs.proofs.Soundness.{sound}
 use Rattle.small_programs.proofs.Spelled.{spelled_numbers}
 use Rattle.step_run.specs.declared.status.Status.{Status}
@@ -18,7 +18,7 @@ use Rattle.step_run.specs.declared.status.Status.TheVariants.{Proved}
 use Rattle.st_certificate.specs.Tree.{Tree}
 use Rattle.step_run.specs.Valid.{is_certificate}
 use Rattle.step_run.specs.Check.{Checked, all_valid, malformed, not_valid, block_by, block_tested, block_judged, checked_from, setting_of}
-use Rattle.step_run.specs.Plan.{Outcome, Plan, outcome_of}
+use Rattle.step_run.specs.Plan.{Outcome, outcome_of}
 use Rattle.step_run.specs.Outcome.{word, is_check, ending, outcome_of_checked, judged, too_long, too_long_certificates, plan_of, plan_of_words, plan_of_program, plan_of_goal}
 use Rattle.step_run.specs.Headline.{Shows, Headline}
 use Rattle.step_run.specs.Top.{UnlessFault}

@@ -1,13 +1,13 @@
 -- From the blocks of all conditions to the outcome, and from status 0 to what it shows.
-use Rattle.std.proofs.Common.{◌≡◌, ℕ, ◌+◌, ◌*◌, ◌≤◌, List, [], ◌∷◌, ◌++◌, length, refl, sym, ◌∙◌, ap, subst, arith, map, length-append}
-use Rattle.std.specs.Prelude.{Option, Some, None, replicate}
+use Rattle.std.proofs.Common.{◌≡◌, ℕ, ◌+◌, ◌*◌, ◌≤◌, List, [], ◌∷◌, length, ◌∙◌, ap, arith}
+use Rattle.std.specs.Prelude.{replicate}
 use Rattle.std.proofs.lemmas.List.{length-map}
 use Rattle.st_form.specs.Formula.{Formula}
 use Rattle.st_form.specs.Condition.{Implication}
 use Rattle.farkas_check.specs.Problem.{Setting}
-use Rattle.small_programs.specs.Program.{Statement, acts, repeats, Program, size_of, statements}
+use Rattle.small_programs.specs.Program.{Statement, acts, repeats, Program, statements}
 use Rattle.small_programs.specs.ProofText.{Goal}
-use Rattle.small_programs.specs.Conditions.{Mode, modes_at, modes_from, modes_of, kept, conditions_of}
+use Rattle.small_programs.specs.Conditions.{modes_from, modes_of, kept, conditions_of}
 use Rattle.small_programs.specs.Fit.{IsFitProgram}
 use Rattle.st_form.specs.declared.variables.Variable.{Variable}
 use Rattle.control_states.specs.Control.{ControlFacts, single}

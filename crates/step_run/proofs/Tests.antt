@@ -1,11 +1,11 @@
 -- The test of certificates is right.
-use Rattle.std.proofs.Common.{◌≡◌, ℕ, ◌+◌, ◌<◌, ◌≤◌, List, [], ◌∷◌, length, refl, sym, ◌∙◌, ap, arith}
-use Rattle.std.specs.Prelude.{Bool, true, false, ◌&&◌, IsTrue, nat_le, nat_lt, int_lt, int_le, is_none, ◌↔◌, ℤ, pos, negsuc, ◌≤ℤ◌, ◌<ℤ◌, Option, Some, None}
+use Rattle.std.proofs.Common.{◌≡◌, ℕ, ◌+◌, ◌<◌, ◌≤◌, List, [], ◌∷◌, refl, sym, ◌∙◌, ap, arith}
+use Rattle.std.specs.Prelude.{Bool, true, false, ◌&&◌, IsTrue, nat_le, nat_lt, int_lt, int_le, is_none, ◌↔◌, ℤ, pos, ◌≤ℤ◌, ◌<ℤ◌, Option, Some, None}
 use Rattle.std.proofs.lemmas.Bool.Decides.{nat_tests}
 use Rattle.std.proofs.lemmas.Int.{ints}
 use Rattle.st_linear.specs.Linear.{Linear}
 use Rattle.st_linear.specs.declared.rows.Line.{Line}
-use Rattle.st_form.specs.Formula.{Formula, Formulas}
+use Rattle.st_form.specs.Formula.{Formula}
 use Rattle.st_certificate.specs.Tree.{Tree, Trees, impossible, branch, farkas, linear, no_tree, with_tree}
 use Rattle.farkas_leaf.specs.Leaf as of_rows
 use Rattle.farkas_leaf.specs.Lines as of_lines
@@ -14,7 +14,7 @@ use Rattle.farkas_check.specs.Valid.{There, Valid, AreValid, IsCertificate}
 use Rattle.st_form.specs.Condition.{Implication}
 use Rattle.small_programs.specs.CertificateText.{block_from}
 use Rattle.step_run.specs.Check.{block_by, block_tested}
-use Rattle.step_run.specs.Valid.{rise_within, has_none, is_contradiction, closes_rows, is_signed, are_signed, closes_lines, there, is_valid, are_valid, is_certificate}
+use Rattle.step_run.specs.Valid.{rise_within, has_none, closes_rows, is_signed, are_signed, closes_lines, there, is_valid, are_valid, is_certificate}
 
 both : (a b : Bool) → (a && b) ≡ true → (a ≡ true) × (b ≡ true)
 both true true e = (refl, refl)

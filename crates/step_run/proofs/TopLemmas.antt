@@ -1,5 +1,5 @@
 -- From how the work ended to what the whole run promises.
-use Rattle.std.proofs.Common.{◌≡◌, inl, inr, ℕ, ◌<◌, ◌^◌, ◌-◌, List, subst, sym, ap, ◌∙◌, refl, arith, string_bytes}
+use Rattle.std.proofs.Common.{◌≡◌, inl, inr, ℕ, ◌<◌, ◌^◌, ◌-◌, List, subst, sym, ap, ◌∙◌, refl, arith}
 use Rattle.std.specs.Prelude.{Option, Some, None, IfSome}
 use Rattle.step_run.specs.declared.status.Ended.{Ended}
 use Rattle.step_run.specs.declared.status.Status.{Status}

@@ -1,5 +1,5 @@
 -- What asking for a file comes to.
-use Rattle.std.specs.Prelude.{ℕ, List, ◌≡◌, ◌≤◌, length, Option, string_bytes}
+use Rattle.std.specs.Prelude.{ℕ, List, ◌≡◌, ◌≤◌, length, Option}
 use Rattle.st_outside.specs.Faults.{Rose}
 use Rattle.step_run.specs.declared.work.Asked.{Asked}
 use Rattle.step_run.specs.declared.work.Asked.TheVariants.{Bytes, TooLong, Faulted}

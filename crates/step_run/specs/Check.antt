@@ -1,5 +1,5 @@
 -- The certificates of conditions, block by block.
-use Rattle.std.specs.Prelude.{ℕ, ◌+◌, ◌-◌, Bool, true, false, List, [], ◌∷◌, length, replicate, Option, Some, None, if◌then◌else◌}
+use Rattle.std.specs.Prelude.{ℕ, ◌+◌, Bool, false, List, [], ◌∷◌, length, replicate, Option, Some, None, if◌then◌else◌}
 use Rattle.st_form.specs.Condition.{Implication}
 use Rattle.st_form.specs.declared.variables.Variable.{Variable}
 use Rattle.st_certificate.specs.Tree.{Tree}

@@ -1,5 +1,4 @@
 -- What the blocks come to, as plain data.
-use Rattle.std.specs.Prelude.{ℕ}
 use Rattle.st_form.specs.Plain.{plain_condition}
 use Rattle.step_run.specs.declared.checking.Checked.{Checked}
 use Rattle.step_run.specs.declared.checking.Checked.TheVariants.{AllValid, Malformed, NotValid}

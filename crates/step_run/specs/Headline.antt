@@ -1,7 +1,7 @@
 -- What a run that ends with status 0 has shown: the program's text spells a well-typed program, the proof's text spells
 -- a goal for it, the certificates' text begins with a valid block for each condition of basic invariance and has only
 -- blanks behind, and the goal holds in every state of every run of that program by SPL's steps.
-use Rattle.std.specs.Prelude.{◌≡◌, ℕ, List, [], Option, Some, None, IfSome}
+use Rattle.std.specs.Prelude.{◌≡◌, ℕ, List, [], Option, Some, IfSome}
 use Rattle.small_programs.specs.Program.{Program}
 use Rattle.small_programs.specs.ProgramText.{program_spelled}
 use Rattle.small_programs.specs.ProofText.{Goal, goal_spelled}

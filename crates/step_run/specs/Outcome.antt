@@ -1,5 +1,5 @@
 -- The plan of a run for its words: which files it asks for, and how it ends.
-use Rattle.std.specs.Prelude.{ℕ, ◌-◌, List, [], ◌∷◌, ◌++◌, ◌≡◌, ◌==◌, length, Option, Some, None, Bool, true, false, not, ◌&&◌, if◌then◌else◌, codes, map, string_bytes}
+use Rattle.std.specs.Prelude.{ℕ, ◌-◌, List, [], ◌∷◌, ◌≡◌, ◌==◌, length, Option, Some, None, Bool, true, false, not, ◌&&◌, codes, map, string_bytes}
 use Rattle.std.specs.declared.string.String.{String}
 use Rattle.std.specs.declared.alloc.Global.{Global}
 use Rattle.std.specs.List.{slice_index_or}

@@ -1,5 +1,5 @@
 -- What a run does with its files, as a plan: it ends, or it asks for the bytes of a file and goes on with them.
-use Rattle.std.specs.Prelude.{ℕ, List, ◌≡◌, ◌≤◌, ◌⊎◌, length, Option, Some, option_and_then, IfSome, if◌then◌else◌, nat_lt, string_bytes}
+use Rattle.std.specs.Prelude.{ℕ, List, ◌≡◌, ◌≤◌, ◌⊎◌, length, Option, Some, option_and_then, IfSome, if◌then◌else◌, nat_lt}
 use Rattle.step_run.specs.declared.status.Ended.{Ended}
 use Rattle.step_run.specs.declared.status.Status.{Status}
 use Rattle.step_run.specs.declared.status.Status.TheVariants.{ReadFault, WriteFault, Memory}

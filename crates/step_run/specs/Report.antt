@@ -1,11 +1,9 @@
 -- The texts of a run.
 use Rattle.std.specs.Prelude.{ℕ, ◌+◌, List, [], ◌∷◌, ◌++◌, codes, Option, Some, None}
 use Rattle.std.specs.Fmt.{decimal}
-use Rattle.st_form.specs.declared.conditions.CondName.{CondName}
 use Rattle.st_form.specs.declared.conditions.TransName.{TransName}
 use Rattle.st_form.specs.declared.conditions.TransName.TheVariants.{Idle, Step}
-use Rattle.small_programs.specs.Program.{Statement, Program, label_at}
-use Rattle.small_programs.specs.ProofText.{Goal}
+use Rattle.small_programs.specs.Program.{Statement, label_at}
 use Rattle.step_run.specs.declared.status.FileRole.{FileRole}
 use Rattle.step_run.specs.declared.status.FileRole.TheVariants.{Program as TheProgram, Proof, Certificates}
 

@@ -2,7 +2,7 @@
 use Rattle.std.specs.Prelude.{ℕ, ◌+◌, Bool, true, false, ◌&&◌, nat_le, nat_lt, int_lt, int_le, ℤ, pos, List, [], ◌∷◌, length, Option, Some, None, is_none}
 use Rattle.st_linear.specs.Linear.{Linear}
 use Rattle.st_linear.specs.declared.rows.Line.{Line}
-use Rattle.st_form.specs.Formula.{Formula, Formulas}
+use Rattle.st_form.specs.Formula.{Formula}
 use Rattle.st_certificate.specs.Tree.{Tree, Trees, impossible, branch, farkas, linear, no_tree, with_tree}
 use Rattle.farkas_leaf.specs.Leaf as of_rows
 use Rattle.farkas_leaf.specs.Lines as of_lines

@@ -1,4 +1,4 @@
-use Rattle.std.proofs.Common.{◌≡◌, ◌+◌, ◌*◌, [], map}
+use Rattle.std.proofs.Common.{◌+◌, ◌*◌, [], map}
 use Rattle.st_certificate.specs.Plain.{plain}
 use Rattle.st_certificate.specs.Tree.{trees}
 use Rattle.farkas_check.specs.Limits.{AreLimited}

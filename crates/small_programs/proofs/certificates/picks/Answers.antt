@@ -1,4 +1,4 @@
-use Rattle.std.proofs.Common.{◌≡◌, ◌∙◌, sym, ap, arith, length, length-append, ◌++◌, ◌∷◌, []}
+use Rattle.std.proofs.Common.{sym, ap, arith, length, length-append, ◌∷◌, []}
 use Rattle.small_programs.proofs.Rows.{picks-further, picks-ends, picks-stops, picks-none, small-more}
 use Rattle.small_programs.proofs.certificates.picks.Goals as goal
 

@@ -1,4 +1,4 @@
-use Rattle.std.proofs.Common.{◌≡◌, ◌<◌, ◌≤◌, ◌^◌, [], length}
+use Rattle.std.proofs.Common.{◌<◌, ◌≤◌, ◌^◌, [], length}
 use Rattle.std.specs.List.{All}
 use Rattle.small_programs.specs.CertificateText.{picks_from}
 use Rattle.small_programs.proofs.Repeating.{Turns}

@@ -1,5 +1,4 @@
-use Rattle.std.proofs.Common.{◌≡◌, ap, arith, rules}
-use Rattle.std.specs.Prelude.{None}
+use Rattle.std.proofs.Common.{◌≡◌, arith}
 use Rattle.st_linear.specs.Linear.{sum_of}
 use Rattle.st_linear.specs.Simple.{negated}
 use Rattle.small_programs.proofs.Writing.{fitting-some_is}

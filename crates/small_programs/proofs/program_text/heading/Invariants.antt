@@ -1,4 +1,4 @@
-use Rattle.std.proofs.Common.{◌≡◌, ◌≤◌, [], map, vec_len}
+use Rattle.std.proofs.Common.{◌≤◌, [], map, vec_len}
 use Rattle.st_tokens.specs.Stream.{stream}
 use Rattle.st_reading.specs.Reading.{size}
 use Rattle.st_form.specs.Plain.{plain}

@@ -1,7 +1,7 @@
 use Rattle.std.proofs.Common.{subst, arith}
 use Rattle.small_programs.specs.Reads.{Makes}
 use Rattle.small_programs.specs.Sums.{written}
-use Rattle.small_programs.proofs.Writing.{fitting-some_is, written-none, wide_is}
+use Rattle.small_programs.proofs.Writing.{fitting-some_is, wide_is}
 use Rattle.small_programs.proofs.sums.number.Goals as goal
 
 pub returns-in-Ok-clause-exact : goal.returns-in-Ok-clause-exact

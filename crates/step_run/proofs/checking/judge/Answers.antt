@@ -1,4 +1,4 @@
-use Rattle.std.proofs.Common.{◌≡◌, ◌+◌, ◌∙◌, sym, ap, refl, subst, length, map, arith}
+use Rattle.std.proofs.Common.{◌+◌, ◌∙◌, sym, ap, refl, subst, length, map}
 use Rattle.std.specs.Prelude.{IfOk}
 use Rattle.std.proofs.lemmas.List.{length-map}
 use Rattle.st_form.specs.Plain.{plain, plain_condition}

@@ -1,8 +1,7 @@
-use Rattle.std.proofs.Common.{◌∙◌, ap, refl}
+use Rattle.std.proofs.Common.{◌∙◌, ap}
 use Rattle.step_run.specs.Report.{read_fault_text}
 use Rattle.std.proofs.lemmas.Result.{IfOk-weaker}
-use Rattle.step_run.proofs.Judging.{judged_decided}
-use Rattle.step_run.proofs.Follow.{asked_fault, asked_bytes, decided_here}
+use Rattle.step_run.proofs.Follow.{asked_fault, asked_bytes}
 use Rattle.step_run.proofs.work.work.Goals as goal
 
 pub returns-in-Faulted-clause-follows : goal.returns-in-Faulted-clause-follows

@@ -3,7 +3,7 @@
 
 #[cfg(test)]
 mod tests {
-    use st_outside::{MemoryFiles, MemorySink, OpenGate, Silent};
+    use st_outside::{Failed, Files, MemoryFiles, MemorySink, OpenGate, Silent};
     use std::test::Fail;
     use step_run::{Status, step_run};
 
@@ -188,6 +188,53 @@ cert 5 case 1 { absurd farkas [1*1, 2*1] absurd };
             assert!(rt; REPORT.as_bytes().starts_with(out.bytes()), "at {failing}");
             assert_eq!(rt; out.faults(), 1, "at {failing}");
         }
+        Ok(())
+    }
+
+    #[test]
+    fn the_earlier_cause_comes_first(rt: HostRuntime) -> Result<(), Fail> {
+        let words = words(&rt, &["step", "check", "p", "q", "c"])?;
+        let texts = (PROGRAM, PROOF, "cert 1 absurd;");
+        for (read, write, status, report) in [
+            (6, 100, 6, "read fault: certificates\n"),
+            (6, 1, 7, ""),
+            (1, 1, 7, ""),
+        ] {
+            let mut files = stored(&rt, texts, &[read], 1000)?;
+            let mut out = sink(&rt, 100, &[write], 100)?;
+            let ended = step_run(&rt, rt.alloc(), &words, &mut files, &mut out, &OpenGate);
+            assert_eq!(rt; ended.number(), status, "at {read}");
+            assert_eq!(rt; out.bytes(), report.as_bytes(), "at {read}");
+        }
+        Ok(())
+    }
+
+    /// Files that never end.
+    #[derive(Drop)]
+    struct Endless;
+
+    impl Files for Endless {
+        ghost use Rattle.std.specs.Prelude.{None};
+
+        ghost told = { λ _ _. None };
+
+        ghost faults = { λ _ _. 0 };
+
+        fn read_at(&mut self, _name: &str, _from: u64, buf: &mut [u8]) -> Result<usize, Failed> {
+            for byte in buf.iter_mut() {
+                *byte = b'%';
+            }
+            Ok(buf.len())
+        }
+    }
+
+    #[test]
+    fn a_file_without_end_passes_its_limit(rt: HostRuntime) -> Result<(), Fail> {
+        let words = words(&rt, &["step", "check", "p", "q", "c"])?;
+        let mut out = sink(&rt, 100, &[], 100)?;
+        let ended = step_run(&rt, rt.alloc(), &words, &mut Endless, &mut out, &OpenGate);
+        assert_eq!(rt; ended, Status::Limit);
+        assert_eq!(rt; out.bytes(), b"limit: Text 4194304\n".as_slice());
         Ok(())
     }
 }

@@ -8,10 +8,14 @@ pub mod Quiet
 pub mod ExpressionLaw
 pub mod Witnesses
 pub mod ExpressionSoundness
+pub mod ExpressionCompleteness
 pub mod StatementSoundness
+pub mod ProgramSoundness
 pub mod ListLaw
 pub mod StatementLaw
 pub mod BodyLaw
 pub mod WholeLaw
 pub mod Completing
 pub mod InsideLaw
+pub mod LevelLaw
+pub mod ProgramLaw

@@ -1,11 +1,12 @@
 -- How a whole program is read.
-use Rattle.std.specs.Prelude.{ℕ, ◌+◌, Bool, true, false, cond, List, [], ◌∷◌, ◌++◌, length, Option, Some, None, Ok, Err, nat_lt}
+use Rattle.std.specs.Prelude.{ℕ, suc, ◌+◌, Bool, true, false, cond, List, [], ◌∷◌, ◌++◌, length, Option, Some, None, Ok, Err, nat_lt}
+use Rattle.st_tokens.specs.declared.limit.LimitKind.{LimitKind}
 use Rattle.st_tokens.specs.declared.limit.LimitKind.TheVariants as limits
 use Rattle.st_tokens.specs.Stream.{Stream, ends, breaks, more, behind, text_stream}
 use Rattle.st_reading.specs.declared.mark.Mark.TheVariants as marks
 use Rattle.st_reading.specs.Sign.{is}
 use Rattle.st_reading.specs.Faults.{Passed, passed}
-use Rattle.st_reading.specs.Reading.{other, Read, Label, ahead, place_of, name_of, is_name, refusal, expected, gives, then_reads, Turn, leaves, goes, on_operator, chain, size, only, Counted, counting, linked}
+use Rattle.st_reading.specs.Reading.{other, Read, Label, ahead, place_of, name_of, is_name, refusal, expected, gives, then_reads, Turn, leaves, goes, on_operator, chain, size, only, Counted, counting, linked, Carried, whole}
 use Rattle.spl_parser.specs.Signs.{mode, kind}
 use Rattle.spl_parser.specs.ExpressionTree.{Expr}
 use Rattle.spl_parser.specs.ProgramTree.{Body, Declaration, Process, Program}
@@ -21,9 +22,22 @@ pub record Limits : Type 0 where
   pub opened : ℕ
   pub round : ℕ
 
--- what was read, and how many variables and statements there are then
-abbrev pub Summed : Type 0 → Type 0
-Summed A = A × ℕ × ℕ
+-- how many processes, variables and statements there are
+pub record Totals : Type 0 where
+  pub processes : ℕ
+  pub variables : ℕ
+  pub statements : ℕ
+
+abbrev pub totals : ℕ → ℕ → ℕ → Totals
+totals p v n = record { processes = p; variables = v; statements = n }
+
+-- a process that is put together, and what there is then
+abbrev pub process : Totals → Label → Counted (List Declaration) → Counted Body → Carried Totals Process
+process t name ds b = (record { name = name; declarations = ds.0; body = b.0 }, totals (t.processes + 1) ds.1 b.1)
+
+-- a name, seen by f, if one more may be named
+abbrev pub limited_name : {A : Type 0} → LimitKind → Bool → (Label → A) → Reader A
+limited_name limited may f s = cond (is_name (ahead s)) (cond may (Ok (f (name_of s), behind s)) (Err (other (passed limited (place_of s))))) (Err (refusal s))
 
 module _ (limit : Limits) where
   unfoldable pub value_of : Reader Expr
@@ -35,7 +49,7 @@ module _ (limit : Limits) where
 
   -- a declared name, where n were declared before
   unfoldable pub variable_of : ℕ → Reader (Counted Label)
-  variable_of n s = cond (is_name (ahead s)) (cond (limit.variables n) (Ok ((name_of s, n + 1), behind s)) (Err (other (passed limits.Variables (place_of s))))) (Err (refusal s))
+  variable_of n s = limited_name limits.Variables (limit.variables n) (λ l. (l, n + 1)) s
 
   -- name { "," name }
   unfoldable pub names_of : ℕ → Reader (Counted (List Label))
@@ -61,36 +75,25 @@ module _ (limit : Limits) where
 
   -- a process's name, where n processes were read before
   unfoldable pub process_name : ℕ → Reader Label
-  process_name n s = cond (is_name (ahead s)) (cond (limit.processes n) (Ok (name_of s, behind s)) (Err (other (passed limits.Processes (place_of s))))) (Err (refusal s))
-
-  abbrev pub process : Label → Counted (List Declaration) → Counted Body → Summed Process
-  process name ds b = (record { name = name; declarations = ds.0; body = b.0 }, ds.1, b.1)
+  process_name n s = limited_name limits.Processes (limit.processes n) (λ l. l) s
 
   -- name "::" "[" { decl } sequence [ ";" name ":" ] "]"
-  unfoldable pub process_of : ℕ → ℕ → ℕ → Reader (Summed Process)
-  process_of number variables statements s =
-      then_reads (process_name number) (λ name. then_reads (expected marks.Colons) (λ m. then_reads (expected marks.OpenBlock) (λ m. then_reads (declarations_of variables) (λ ds. then_reads (body_of value_of (lower_of (limit.round + 1)) statements)
-      (λ b. gives (process name ds b)))))) s
-
-  abbrev pub further_process : {B : Type 0} → Unit {0} → ℕ → Summed (List Process) → Reader (Turn B (Summed (List Process)))
-  further_process o place xs = then_reads (process_of (length xs.0) xs.1 xs.2) (λ x. gives (goes (xs.0 ++ x.0 ∷ [], x.1, x.2)))
-
-  abbrev pub further_processes : Summed (List Process) → Reader (Summed (List Process))
-  further_processes xs s = chain (only marks.Bars) further_process gives (size s) xs s
+  unfoldable pub process_of : Totals → Reader (Carried Totals Process)
+  process_of t s =
+      then_reads (process_name t.processes) (λ name. then_reads (expected marks.Colons) (λ m. then_reads (expected marks.OpenBlock) (λ m. then_reads (declarations_of t.variables) (λ ds. then_reads (body_of value_of (lower_of (suc limit.round)) t.statements)
+      (λ b. gives (process t name ds b)))))) s
 
   -- process { "||" process }
-  unfoldable pub processes_of : ℕ → Reader (Summed (List Process))
-  processes_of variables s = then_reads (process_of 0 variables 0) (λ x. further_processes (x.0 ∷ [], x.1, x.2)) s
+  unfoldable pub processes_of : Totals → Reader (Carried Totals (List Process))
+  processes_of t s = then_reads (process_of t) (λ x. linked marks.Bars process_of (x.0 ∷ [], x.1)) s
 
-  -- the text ends
-  unfoldable pub at_end : Reader (Unit {0})
-  at_end (ends place) = Ok (tt, ends place)
-  at_end (breaks f) = Err (refusal (breaks f))
-  at_end (more t s) = Err (refusal (more t s))
+  -- { decl } process { "||" process }
+  unfoldable pub spelled_of : Reader Program
+  spelled_of s = then_reads (declarations_of 0) (λ ds. then_reads (processes_of (totals 0 ds.1 0)) (λ ps. gives (record { declarations = ds.0; processes = ps.0 }))) s
 
-  -- { decl } process { "||" process }, and nothing behind it
+  -- and nothing behind it
   unfoldable pub program_of : Reader Program
-  program_of s = then_reads (declarations_of 0) (λ ds. then_reads (processes_of ds.1) (λ ps. then_reads at_end (λ e. gives (record { declarations = ds.0; processes = ps.0 })))) s
+  program_of s = whole spelled_of s
 
 -- the limits of programs
 abbrev pub usual : Limits

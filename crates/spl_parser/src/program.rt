@@ -1,11 +1,12 @@
 //! Processes and whole programs.
 
-ghost use Rattle.std.specs.Prelude.{◌≡◌, ◌≤◌, length};
+ghost use Rattle.std.specs.Prelude.{◌≡◌, ◌+◌, ◌≤◌, length};
 ghost use Rattle.st_tokens.specs.Stream.{stream, text_stream};
-ghost use Rattle.st_reading.specs.Reading.{Reads, size};
+ghost use Rattle.st_reading.specs.declared.mark.Mark.TheVariants as marks;
+ghost use Rattle.st_reading.specs.Reading.{Reads, size, linked};
 ghost use Rattle.st_reading.specs.Faults.{see, name_view};
 ghost use Rattle.spl_parser.specs.ProgramTree.{process_view, process_views, program_view};
-ghost use Rattle.spl_parser.specs.Programs.{process_name, process_of, further_processes, processes_of, at_end, program_of, usual};
+ghost use Rattle.spl_parser.specs.Programs.{totals, process_name, process_of, processes_of, program_of, usual};
 ghost use Rattle.spl_parser.specs.Parsing.{Parses, parsed};
 
 use crate::declaration::declarations;
@@ -13,7 +14,8 @@ use crate::limits::{PROCESSES, ROUND};
 use crate::raw::{RawProcess, RawProgram};
 use crate::statement::body;
 use st_reading::{
-    Mark, ParseFault, RawName, advance, ahead, expect, is, is_name, name_ahead, place_of, refusal,
+    Mark, ParseFault, RawName, advance, ahead, at_end, expect, is, is_name, name_ahead, place_of,
+    refusal,
 };
 use st_tokens::{LimitKind, Tokens};
 use std::alloc::Global;
@@ -44,7 +46,7 @@ fn process<'a>(
     statements: &mut u32,
     tokens: &mut Tokens<'a>,
 ) -> Result<RawProcess<'a>, ParseFault>
-    ensures reads { Reads see (λ p. (process_view p, variables.new, statements.new)) result (stream tokens.new) (process_of usual number variables.old statements.old (stream tokens.old)) }
+    ensures reads { Reads see (λ p. (process_view p, totals (number + 1) variables.new statements.new)) result (stream tokens.new) (process_of usual (totals number variables.old statements.old) (stream tokens.old)) }
     ensures shrinks { size (stream tokens.new) ≤ size (stream tokens.old) }
 {
     let name = process_name(number, tokens)?;
@@ -67,7 +69,7 @@ fn further_processes<'a>(
     statements: &mut u32,
     tokens: &mut Tokens<'a>,
 ) -> Result<Vec<RawProcess<'a>>, ParseFault>
-    ensures reads { Reads see (λ v. (process_views v.items, variables.new, statements.new)) result (stream tokens.new) (further_processes usual (process_views processes.entry.items, variables.old, statements.old) (stream tokens.old)) }
+    ensures reads { Reads see (λ v. (process_views v.items, totals (length v.items) variables.new statements.new)) result (stream tokens.new) (linked marks.Bars (process_of usual) (process_views processes.entry.items, totals (length processes.entry.items) variables.old statements.old) (stream tokens.old)) }
     ensures shrinks { size (stream tokens.new) ≤ size (stream tokens.old) }
 {
     'chain: while is(ahead(tokens), Mark::Bars) {
@@ -86,8 +88,7 @@ fn processes<'a>(
     statements: &mut u32,
     tokens: &mut Tokens<'a>,
 ) -> Result<Vec<RawProcess<'a>>, ParseFault>
-    requires { statements.old ≡ 0 }
-    ensures reads { Reads see (λ v. (process_views v.items, variables.new, statements.new)) result (stream tokens.new) (processes_of usual variables.old (stream tokens.old)) }
+    ensures reads { Reads see (λ v. (process_views v.items, totals (length v.items) variables.new statements.new)) result (stream tokens.new) (processes_of usual (totals 0 variables.old statements.old) (stream tokens.old)) }
     ensures shrinks { size (stream tokens.new) ≤ size (stream tokens.old) }
 {
     let first = process(alloc, 0, variables, statements, tokens)?;
@@ -96,21 +97,9 @@ fn processes<'a>(
     further_processes(alloc, processes, variables, statements, tokens)
 }
 
-/// The end of the text.
-#[tactic(auto, unfolding(crate::specs::Programs::at_end))]
-fn at_end(tokens: &mut Tokens) -> Result<(), ParseFault>
-    ensures reads { Reads see (λ x. x) result (stream tokens.new) (at_end usual (stream tokens.old)) }
-    ensures shrinks { size (stream tokens.new) ≤ size (stream tokens.old) }
-{
-    match tokens.peek() {
-        Ok(None) => Ok(()),
-        _ => Err(refusal(tokens)),
-    }
-}
-
 /// Reads a program. The first fault in the order of the text is answered; at one place a token fault comes before
 /// `Syntax`, and that before `Limit`.
-#[tactic(auto, unfolding(crate::specs::Programs::program_of))]
+#[tactic(auto, unfolding(crate::specs::Programs::program_of, crate::specs::Programs::spelled_of))]
 pub fn parse_program<'a>(alloc: Global, text: &'a [u8]) -> Result<RawProgram<'a>, ParseFault>
     ensures reads { Parses program_view result (parsed text.now) }
 {

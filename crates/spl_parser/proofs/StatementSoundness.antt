@@ -203,3 +203,236 @@ module _ (value : Reader Expr) (V : List Lexeme → Expr → Type 0) (sv : Sound
       let more_of : IsBody V low ((a ++ (b ++ t ∷ p)) ++ q) w = from_rest a x l (b ++ t ∷ p) (ys ++ y ∷ []) (item_behind b ys items t p y f g) (ws ++ y ∷ []) (ap (λ v. v ++ y ∷ []) e) q w rest in
       let same : (a ++ (b ++ t ∷ p)) ++ q ≡ (a ++ b) ++ (t ∷ p ++ q) = simp append_assoc in
       subst (λ (v : List Lexeme). IsBody V low v w) same more_of
+
+  pub body_sound : (n : ℕ) → Sound (body_of value lower n) (λ ts y. IsBody V low ts y.0)
+  unfolding body_of
+  body_sound n s y rest h =
+      let p = split (lower (fresh false) n) (λ x. rest_of_body value lower (x.0 ∷ [], x.1)) s y rest h in
+      let c = sl.sound (fresh false) n s p.value p.middle p.first in
+      let d = rest_sound (size p.middle) (p.value.0 ∷ [], p.value.1) p.middle y rest p.second in
+      record {
+        text = c.text ++ d.text;
+        is = c.is ∙ ap (λ m. c.text ++> m) d.is ∙ sym (append_stream c.text d.text rest);
+        spells = subst (λ (v : List Lexeme). IsBody V low (v ++ d.text) y.0) (append-nil c.text) (from_rest c.text p.value.0 c.spells [] [] no_items (p.value.0 ∷ []) refl d.text y.0 d.spells);
+      }
+
+  from_child : (ts : List Lexeme) (y : Counted Body) → Both (OneMark marks.OpenBlock) (λ m ts (y : Counted Body). IsBody V low ts y.0) ts y → IsChild V low ts y.0
+  from_child ts y (behind_it a b m z (one_mark t h) l) = child t b z.0 h l
+
+  pub child_sound : (n : ℕ) → Sound (child_of value lower n) (λ ts y. IsChild V low ts y.0)
+  unfolding child_of
+  child_sound n =
+      sound_as (then_reads (expected marks.OpenBlock) (λ m. body_of value lower n)) (Both (OneMark marks.OpenBlock) (λ m ts (y : Counted Body). IsBody V low ts y.0)) (λ ts y. IsChild V low ts y.0) from_child
+      (sound_bind (expected marks.OpenBlock) (λ m. body_of value lower n) (OneMark marks.OpenBlock) (λ m ts y. IsBody V low ts y.0) (sound_expected marks.OpenBlock) (λ m. body_sound n))
+
+  pub children_sound : (n : ℕ) → Sound (children_of value lower n) (λ ts ys. Row2 marks.Bars (IsChild V low) ts ys.0)
+  unfolding children_of
+  children_sound n s ys rest h = row2_sound marks.Bars (child_of value lower) (IsChild V low) child_sound n s ys rest h
+
+  -- CONDITIONALS
+  abbrev Else : Bool → List Lexeme → Counted Branch → Type 0
+  Else inner = Both (λ ts (x : Counted Statement). low inner ts x.0) (λ x. Given (branch x.0, x.1))
+
+  from_else : (inner : Bool) (t : Lexeme) → Is marks.Else t → (ts : List Lexeme) (y : Counted Branch) → Else inner ts y → IsBranch V low inner (t ∷ ts) y.0
+  from_else inner t e ts y (behind_it a b x z l given) = rw append-nil (with_else t a x.0 e l)
+
+  branch_at : (inner : Bool) (n : ℕ) (s : Stream) (y : Counted Branch) (rest : Stream) (b : Bool) → b ≡ is (ahead s) marks.Else → cond b (then_reads (lower (fresh inner) n) (λ x. gives (branch x.0, x.1)) (behind s)) (gives {X = Passed} (no_branch, n) s) ≡ Ok (y, rest) → Cut (λ ts y. IsBranch V low inner ts y.0) s y rest
+  branch_at inner n s y rest false e h = taken {X = Passed} (λ ts (y : Counted Branch). IsBranch V low inner ts y.0) [] (gives (no_branch, n) s) (no_branch, n) y s rest refl h without
+  branch_at inner n (ends p) y rest true e h = cc
+  branch_at inner n (breaks f) y rest true e h = cc
+  branch_at inner n (more t s) y rest true e h =
+      behind_token t s (Else inner) (λ ts y. IsBranch V low inner ts y.0) y rest (from_else inner t (sym e))
+      (sound_bind (lower (fresh inner) n) (λ x. gives (branch x.0, x.1)) (λ ts x. low inner ts x.0) (λ x. Given (branch x.0, x.1)) (sl.sound (fresh inner) n) (λ x. sound_gives (branch x.0, x.1)) s y rest h)
+
+  pub branch_sound : (inner : Bool) (n : ℕ) → Sound (branch_of value lower inner n) (λ ts y. IsBranch V low inner ts y.0)
+  unfolding branch_of
+  branch_sound inner n s y rest h = branch_at inner n s y rest (is (ahead s) marks.Else) refl h
+
+  abbrev Closing : Expr → Statement → Counted Branch → List Lexeme → Counted Action → Type 0
+  Closing e x y = Both (OneMark marks.Fi) (λ m. Given (conditional e x y.0, y.1))
+
+  abbrev Chosen : Bool → List Lexeme → Counted Action → Type 0
+  Chosen inner = Both V (λ e. Both (OneMark marks.Then) (λ m. Both (λ ts (x : Counted Statement). low inner ts x.0) (λ x. Both (λ ts (y : Counted Branch). IsBranch V low inner ts y.0) (Closing e x.0))))
+
+  chosen_sound : (inner : Bool) (n : ℕ) → Sound (conditional_of value lower inner n) (Chosen inner)
+  unfolding conditional_of
+  chosen_sound inner n =
+      sound_bind value (λ e. then_reads (expected marks.Then) (λ m. then_reads (lower (fresh inner) n) (λ x. then_reads (branch_of value lower inner x.1) (λ y. then_reads (expected marks.Fi) (λ z. gives (conditional e x.0 y.0, y.1)))))) V (λ e. Both (OneMark marks.Then) (λ m. Both (λ ts x. low inner ts x.0) (λ x. Both (λ ts y. IsBranch V low inner ts y.0) (Closing e x.0)))) sv
+      (λ e. sound_bind (expected marks.Then) (λ m. then_reads (lower (fresh inner) n) (λ x. then_reads (branch_of value lower inner x.1) (λ y. then_reads (expected marks.Fi) (λ z. gives (conditional e x.0 y.0, y.1))))) (OneMark marks.Then) (λ m. Both (λ ts x. low inner ts x.0) (λ x. Both (λ ts y. IsBranch V low inner ts y.0) (Closing e x.0))) (sound_expected marks.Then)
+      (λ m. sound_bind (lower (fresh inner) n) (λ x. then_reads (branch_of value lower inner x.1) (λ y. then_reads (expected marks.Fi) (λ z. gives (conditional e x.0 y.0, y.1)))) (λ ts x. low inner ts x.0) (λ x. Both (λ ts y. IsBranch V low inner ts y.0) (Closing e x.0)) (sl.sound (fresh inner) n)
+      (λ x. sound_bind (branch_of value lower inner x.1) (λ y. then_reads (expected marks.Fi) (λ z. gives (conditional e x.0 y.0, y.1))) (λ ts y. IsBranch V low inner ts y.0) (Closing e x.0) (branch_sound inner x.1)
+      (λ y. sound_bind (expected marks.Fi) (λ z. gives (conditional e x.0 y.0, y.1)) (OneMark marks.Fi) (λ z. Given (conditional e x.0 y.0, y.1)) (sound_expected marks.Fi) (λ z. sound_gives (conditional e x.0 y.0, y.1))))))
+
+  -- A STATEMENT BEHIND ITS FIRST TOKEN
+  abbrev Doing : (Statement → Action) → List Lexeme → Counted Action → Type 0
+  Doing action = Both (OneMark marks.Do) (λ m. Both (λ ts (x : Counted Statement). low false ts x.0) (λ x. Given (action x.0, x.1)))
+
+  doing_sound : (action : Statement → Action) (n : ℕ) → Sound (doing value lower action n) (Doing action)
+  doing_sound action n =
+      sound_bind (expected marks.Do) (λ m. then_reads (lower (fresh false) n) (λ x. gives (action x.0, x.1))) (OneMark marks.Do) (λ m. Both (λ ts x. low false ts x.0) (λ x. Given (action x.0, x.1))) (sound_expected marks.Do)
+      (λ m. sound_bind (lower (fresh false) n) (λ x. gives (action x.0, x.1)) (λ ts x. low false ts x.0) (λ x. Given (action x.0, x.1)) (sl.sound (fresh false) n) (λ x. sound_gives (action x.0, x.1)))
+
+  abbrev Enclosed : {A : Type 0} → (List Lexeme → List A → Type 0) → (List A → Action) → Mark → List Lexeme → Counted Action → Type 0
+  Enclosed {A} R action mark = Both (λ ts (xs : Counted (List A)). R ts xs.0) (λ xs. Both (OneMark mark) (λ m. Given (action xs.0, xs.1)))
+
+  enclosed_sound : {A : Type 0} (r : Reader (Counted (List A))) (R : List Lexeme → List A → Type 0) (action : List A → Action) (mark : Mark) → Sound r (λ ts xs. R ts xs.0) → Sound (enclosed action mark r) (Enclosed R action mark)
+  enclosed_sound r R action mark sound =
+      sound_bind r (λ xs. then_reads (expected mark) (λ m. gives (action xs.0, xs.1))) (λ ts xs. R ts xs.0) (λ xs. Both (OneMark mark) (λ m. Given (action xs.0, xs.1))) sound
+      (λ xs. sound_bind (expected mark) (λ m. gives (action xs.0, xs.1)) (OneMark mark) (λ m. Given (action xs.0, xs.1)) (sound_expected mark) (λ m. sound_gives (action xs.0, xs.1)))
+
+  map_sound : {A B : Type 0} (f : A → B) (r : Reader A) (K : List Lexeme → A → Type 0) → Sound r K → Sound (then_reads r (λ x. gives (f x))) (Both K (λ x. Given (f x)))
+  map_sound f r K sound = sound_bind r (λ x. gives (f x)) K (λ x. Given (f x)) sound (λ x. sound_gives (f x))
+
+  -- what the tokens behind the first stand for
+  abbrev Tail : Bool → ℕ → Label → Start → List Lexeme → Counted Action → Type 0
+  Tail inner n l starts.Named = Both (IsRightSide V) (λ e. Given (assign l e, n))
+  Tail inner n l starts.Listed = Both (AllAssigned value V sv) (λ a. Given (a, n))
+  Tail inner n l starts.Skip = Given (skip, n)
+  Tail inner n l starts.Critical = Given (critical, n)
+  Tail inner n l starts.Noncritical = Given (noncritical, n)
+  Tail inner n l starts.Await = Both V (λ e. Given (await e, n))
+  Tail inner n l starts.Request = Both OneName (λ m. Given (request m, n))
+  Tail inner n l starts.Release = Both OneName (λ m. Given (release m, n))
+  Tail inner n l starts.If = Chosen inner
+  Tail inner n l starts.While = Both V (λ e. Doing (while_do e))
+  Tail inner n l starts.Loop = Both (OneMark marks.Forever) (λ m. Doing forever)
+  Tail inner n l starts.Block = Enclosed (Row marks.Semicolon (low inner)) (λ xs. block (statements xs)) marks.CloseBlock
+  Tail inner n l starts.Select = Both (OneMark marks.OpenBlock) (λ m. Enclosed (Row2 marks.Either (low false)) (λ xs. select (statements xs)) marks.CloseBlock)
+  Tail inner n l starts.Cooperate = Enclosed (Row2 marks.Bars (IsChild V low)) (λ xs. cooperate (bodies xs)) marks.Coend
+  Tail inner n l starts.Group = Enclosed (Row marks.Semicolon (low true)) (λ xs. group (statements xs)) marks.CloseGroup
+
+  tail_sound : (inner : Bool) (n : ℕ) (l : Label) (x : Start) → Sound (action_of value lower inner n l x) (Tail inner n l x)
+  unfolding action_of
+  tail_sound inner n l starts.Named = map_sound (λ e. (assign l e, n)) (right_side_of value) (IsRightSide V) (right_side_sound value V sv)
+  tail_sound inner n l starts.Listed = map_sound (λ (a : Action). (a, n)) (all_assigned_of value) (AllAssigned value V sv) (all_assigned_sound value V sv)
+  tail_sound inner n l starts.Skip = sound_gives (skip, n)
+  tail_sound inner n l starts.Critical = sound_gives (critical, n)
+  tail_sound inner n l starts.Noncritical = sound_gives (noncritical, n)
+  tail_sound inner n l starts.Await = map_sound (λ e. (await e, n)) value V sv
+  tail_sound inner n l starts.Request = map_sound (λ m. (request m, n)) named OneName sound_named
+  tail_sound inner n l starts.Release = map_sound (λ m. (release m, n)) named OneName sound_named
+  tail_sound inner n l starts.If = chosen_sound inner n
+  tail_sound inner n l starts.While = sound_bind value (λ e. doing value lower (while_do e) n) V (λ e. Doing (while_do e)) sv (λ e. doing_sound (while_do e) n)
+  tail_sound inner n l starts.Loop = sound_bind (expected marks.Forever) (λ m. doing value lower forever n) (OneMark marks.Forever) (λ m. Doing forever) (sound_expected marks.Forever) (λ m. doing_sound forever n)
+  tail_sound inner n l starts.Block = enclosed_sound (sequence_of value lower inner n) (Row marks.Semicolon (low inner)) (λ xs. block (statements xs)) marks.CloseBlock (sequence_sound inner n)
+  tail_sound inner n l starts.Select =
+      sound_bind (expected marks.OpenBlock) (λ m. enclosed (λ xs. select (statements xs)) marks.CloseBlock (selection_of value lower n)) (OneMark marks.OpenBlock) (λ m. Enclosed (Row2 marks.Either (low false)) (λ xs. select (statements xs)) marks.CloseBlock) (sound_expected marks.OpenBlock)
+      (λ m. enclosed_sound (selection_of value lower n) (Row2 marks.Either (low false)) (λ xs. select (statements xs)) marks.CloseBlock (selection_sound n))
+  tail_sound inner n l starts.Cooperate = enclosed_sound (children_of value lower n) (Row2 marks.Bars (IsChild V low)) (λ xs. cooperate (bodies xs)) marks.Coend (children_sound n)
+  tail_sound inner n l starts.Group = enclosed_sound (sequence_of value lower true n) (Row marks.Semicolon (low true)) (λ xs. group (statements xs)) marks.CloseGroup (sequence_sound true n)
+
+  from_block : {R : List Lexeme → List Statement → Type 0} (action : List Statement → Action) (mark : Mark) (ts : List Lexeme) (a : Counted Action) → Enclosed R action mark ts a → (text : List Lexeme) × (u : Lexeme) × (xs : List Statement) × R text xs × Is mark u × (ts ≡ text ++ u ∷ []) × (a.0 ≡ action xs)
+  from_block action mark ts a (behind_it b c xs z rows (behind_it d e m w (one_mark u h) given)) = (b, u, xs.0, rows, h, refl, refl)
+
+  from_tail : (inner : Bool) (n : ℕ) (t : Lexeme) (x : Start) → start (sign_of t) ≡ Some x → begins inner (Some x) ≡ true → (ts : List Lexeme) (a : Counted Action) → Tail inner n (label_of t) x ts a → IsBare V low inner t.start (t ∷ ts) a.0
+  from_tail inner n t starts.Named e ok ts a (behind_it b c y z r given) = rw append-nil (s_assign inner t b y e r)
+  from_tail inner n t starts.Listed e ok ts a (behind_it b c y z r given) = rw append-nil (from_all_assigned value V sv inner t e b y r)
+  from_tail inner n t starts.Skip e ok ts a given = s_skip inner t e
+  from_tail false n t starts.Critical e ok ts a given = s_critical t e
+  from_tail true n t starts.Critical e ok ts a l = cc
+  from_tail false n t starts.Noncritical e ok ts a given = s_noncritical t e
+  from_tail true n t starts.Noncritical e ok ts a l = cc
+  from_tail inner n t starts.Await e ok ts a (behind_it b c y z r given) = rw append-nil (s_await inner t b y e r)
+  from_tail false n t starts.Request e ok ts a (behind_it b c y z (one_name u h) given) = s_request t u e h
+  from_tail true n t starts.Request e ok ts a l = cc
+  from_tail false n t starts.Release e ok ts a (behind_it b c y z (one_name u h) given) = s_release t u e h
+  from_tail true n t starts.Release e ok ts a l = cc
+  from_tail inner n t starts.If e ok ts a (behind_it b1 c1 v z1 lv (behind_it b2 c2 m2 z2 (one_mark u h2) (behind_it b3 c3 x z3 lx (behind_it b4 c4 y z4 ly (behind_it b5 c5 m5 z5 (one_mark w h5) given))))) =
+      s_if inner t u w b1 b3 b4 v x.0 y.0 e lv h2 lx ly h5
+  from_tail false n t starts.While e ok ts a (behind_it b1 c1 v z1 lv (behind_it b2 c2 m2 z2 (one_mark u h2) (behind_it b3 c3 x z3 lx given))) = rw append-nil (s_while t u b1 b3 v x.0 e lv h2 lx)
+  from_tail true n t starts.While e ok ts a l = cc
+  from_tail false n t starts.Loop e ok ts a (behind_it b1 c1 m1 z1 (one_mark u h1) (behind_it b2 c2 m2 z2 (one_mark v h2) (behind_it b3 c3 x z3 lx given))) = rw append-nil (s_loop t u v b3 x.0 e h1 h2 lx)
+  from_tail true n t starts.Loop e ok ts a l = cc
+  from_tail inner n t starts.Block e ok ts a (behind_it b c xs z rows (behind_it d f m w (one_mark u h) given)) = s_block inner t u b xs.0 e rows h
+  from_tail false n t starts.Select e ok ts a (behind_it b1 c1 m1 z1 (one_mark u h1) (behind_it b c xs z rows (behind_it d f m w (one_mark v h) given))) = s_select t u v b xs.0 e h1 rows h
+  from_tail true n t starts.Select e ok ts a l = cc
+  from_tail false n t starts.Cooperate e ok ts a (behind_it b c xs z rows (behind_it d f m w (one_mark u h) given)) = s_cooperate t u b xs.0 e rows h
+  from_tail true n t starts.Cooperate e ok ts a l = cc
+  from_tail false n t starts.Group e ok ts a (behind_it b c xs z rows (behind_it d f m w (one_mark u h) given)) = s_group t u b xs.0 e rows h
+  from_tail true n t starts.Group e ok ts a l = cc
+
+  -- WHOLE STATEMENTS
+  abbrev Bare : Bool → Option Label → List Lexeme → Statement → Type 0
+  Bare inner label ts y = (place : ℕ) × (a : Action) × IsBare V low inner place ts a × (y ≡ stated label place a)
+
+  from_first : (inner : Bool) (label : Option Label) (n : ℕ) (t : Lexeme) (x : Start) → start (sign_of t) ≡ Some x → begins inner (Some x) ≡ true → (ts : List Lexeme) (y : Counted Statement) → Both (Tail inner n (label_of t) x) (λ a. Given (standing label t.start a)) ts y → Bare inner label (t ∷ ts) y.0
+  from_first inner label n t x e ok ts y (behind_it b c a z l given) = rw append-nil (t.start, a.0, from_tail inner n t x e ok b a l, refl)
+
+  bare_at : (inner : Bool) (label : Option Label) (n : ℕ) (s : Stream) → ((x : Start) → start (ahead s) ≡ Some x → begins inner (Some x) ≡ true) → (y : Counted Statement) (rest : Stream) (c : Option Start) → c ≡ start (ahead s)
+      → on_operator c (Err (refusal s)) (λ x. then_reads (action_of value lower inner n (name_of s) x) (λ a. gives (standing label (place_of s) a)) (behind s)) ≡ Ok (y, rest) → Cut (λ ts y. Bare inner label ts y.0) s y rest
+  bare_at inner label n s ok y rest None e h = cc
+  bare_at inner label n (ends p) ok y rest (Some x) e h = cc
+  bare_at inner label n (breaks f) ok y rest (Some x) e h = cc
+  bare_at inner label n (more t s) ok y rest (Some x) e h =
+      behind_token t s (Both (Tail inner n (label_of t) x) (λ a. Given (standing label t.start a))) (λ ts y. Bare inner label ts y.0) y rest (from_first inner label n t x (sym e) (ok x (sym e)))
+      (map_sound (standing label t.start) (action_of value lower inner n (label_of t) x) (Tail inner n (label_of t) x) (tail_sound inner n (label_of t) x) s y rest h)
+
+  bare_sound : (inner : Bool) (label : Option Label) (n : ℕ) (s : Stream) → ((x : Start) → start (ahead s) ≡ Some x → begins inner (Some x) ≡ true) → (y : Counted Statement) (rest : Stream) → bare_of value lower inner label n s ≡ Ok (y, rest) → Cut (λ ts y. Bare inner label ts y.0) s y rest
+  unfolding bare_of
+  bare_sound inner label n s ok y rest h = bare_at inner label n s ok y rest (start (ahead s)) refl h
+
+  any_start : (s : Stream) (x : Start) → start (ahead s) ≡ Some x → begins false (Some x) ≡ true
+  any_start s x e = refl
+
+  abbrev Assigned : Label → List Lexeme → Statement → Type 0
+  Assigned l ts x = (e : Expr) × IsRightSide V ts e × (x ≡ stated None l.place (assign l e))
+
+  from_assigned : (l : Label) (n : ℕ) (ts : List Lexeme) (y : Counted Statement) → Both (IsRightSide V) (λ e. Given (stated None l.place (assign l e), n)) ts y → Assigned l ts y.0
+  from_assigned l n ts y (behind_it b c e z r given) = rw append-nil (e, r, refl)
+
+  assigned_sound : (l : Label) (n : ℕ) → Sound (assigned_of value l n) (λ ts y. Assigned l ts y.0)
+  unfolding assigned_of
+  assigned_sound l n =
+      sound_as (then_reads (right_side_of value) (λ e. gives (stated None l.place (assign l e), n))) (Both (IsRightSide V) (λ e. Given (stated None l.place (assign l e), n))) (λ ts y. Assigned l ts y.0) (from_assigned l n)
+      (map_sound (λ e. (stated None l.place (assign l e), n)) (right_side_of value) (IsRightSide V) (right_side_sound value V sv))
+
+  unlabelled_from : (inner : Bool) (ts : List Lexeme) (y : Statement) → Bare inner None ts y → IsStatement V low inner ts y
+  unlabelled_from inner ts y b = subst (IsStatement V low inner ts) (sym b.3) (unlabelled inner b.0 ts b.1 b.2)
+
+  labelled_from : (t u : Lexeme) → IsName t → Is marks.Colon u → (ts : List Lexeme) (y : Statement) → Bare false (Some (label_of t)) ts y → IsStatement V low false (t ∷ u ∷ ts) y
+  labelled_from t u e f ts y b = subst (IsStatement V low false (t ∷ u ∷ ts)) (sym b.3) (labelled t u b.0 ts b.1 e f b.2)
+
+  named_starts : (t : Lexeme) → IsName t → start (sign_of t) ≡ Some starts.Named
+  named_starts t e = by_sign (sign_of t) e
+    where
+      by_sign : (g : Sign) → is_name g ≡ true → start g ≡ Some starts.Named
+      by_sign signs.Name e = refl
+      by_sign _ e = cc
+
+  assigned_from : (t : Lexeme) → IsName t → (ts : List Lexeme) (y : Statement) → Assigned (label_of t) ts y → IsStatement V low false (t ∷ ts) y
+  assigned_from t e ts y a = subst (IsStatement V low false (t ∷ ts)) (sym a.2) (unlabelled false t.start (t ∷ ts) (assign (label_of t) a.0) (s_assign false t ts a.0 (named_starts t e) a.1))
+
+  behind_name : (t : Lexeme) → IsName t → (n : ℕ) (s : Stream) (y : Counted Statement) (rest : Stream) (c : Bool) → c ≡ is (ahead s) marks.Colon → cond c (bare_of value lower false (Some (label_of t)) n (behind s)) (assigned_of value (label_of t) n s) ≡ Ok (y, rest) → Cut (λ ts y. IsStatement V low false ts y.0) (more t s) y rest
+  behind_name t e n s y rest false f h =
+      let c = assigned_sound (label_of t) n s y rest h in
+      record { text = t ∷ c.text; is = ap (more t) c.is; spells = assigned_from t e c.text y.0 c.spells }
+  behind_name t e n (ends p) y rest true f h = cc
+  behind_name t e n (breaks p) y rest true f h = cc
+  behind_name t e n (more u s) y rest true f h =
+      let c = bare_sound false (Some (label_of t)) n s (any_start s) y rest h in
+      record { text = t ∷ u ∷ c.text; is = ap (λ m. more t (more u m)) c.is; spells = labelled_from t u e (sym f) c.text y.0 c.spells }
+
+  named_sound : (t : Lexeme) → IsName t → (n : ℕ) (s : Stream) (y : Counted Statement) (rest : Stream) → named_of value lower (label_of t) n s ≡ Ok (y, rest) → Cut (λ ts y. IsStatement V low false ts y.0) (more t s) y rest
+  unfolding named_of
+  named_sound t e n s y rest h = behind_name t e n s y rest (is (ahead s) marks.Colon) refl h
+
+  fresh_at : (n : ℕ) (s : Stream) (y : Counted Statement) (rest : Stream) (c : Bool) → c ≡ is_name (ahead s) → cond c (named_of value lower (name_of s) n (behind s)) (bare_of value lower false None n s) ≡ Ok (y, rest) → Cut (λ ts y. IsStatement V low false ts y.0) s y rest
+  fresh_at n s y rest false e h =
+      let c = bare_sound false None n s (any_start s) y rest h in
+      record { text = c.text; is = c.is; spells = unlabelled_from false c.text y.0 c.spells }
+  fresh_at n (ends p) y rest true e h = cc
+  fresh_at n (breaks p) y rest true e h = cc
+  fresh_at n (more t s) y rest true e h = named_sound t (sym e) n s y rest h
+
+  -- what goes on begins so
+  goes_in : (s : Stream) → goes_on (fresh true) (ahead s) ≡ true → (x : Start) → start (ahead s) ≡ Some x → begins true (Some x) ≡ true
+  goes_in s h x e = ap (begins true) (sym e) ∙ h
+
+  pub statement_sound : (b : Begun) (n : ℕ) (s : Stream) → goes_on b (ahead s) ≡ true → (y : Counted Statement) (rest : Stream) → statement_of value lower b n s ≡ Ok (y, rest) → Cut (λ ts y. Rest V low b ts y.0) s y rest
+  unfolding statement_of
+  statement_sound (fresh true) n s g y rest h =
+      let c = bare_sound true None n s (goes_in s g) y rest h in
+      record { text = c.text; is = c.is; spells = unlabelled_from true c.text y.0 c.spells }
+  statement_sound (fresh false) n s g y rest h = fresh_at n s y rest (is_name (ahead s)) refl h
+  statement_sound (after_name l) n s g y rest h = assigned_sound l n s y rest h
+  statement_sound (after_label l) n s g y rest h = bare_sound false (Some l) n s (any_start s) y rest h

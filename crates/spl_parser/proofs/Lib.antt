@@ -9,6 +9,7 @@ pub mod ExpressionLaw
 pub mod Witnesses
 pub mod ExpressionSoundness
 pub mod StatementSoundness
+pub mod ProgramSoundness
 pub mod ListLaw
 pub mod StatementLaw
 pub mod BodyLaw

@@ -80,6 +80,29 @@ item_behind {A} {mark} {L} b ys no_items t p y f g = subst (λ (v : List Lexeme)
 item_behind {A} {mark} {L} b ys (item_more u a c x zs e l rest) t p y f g =
     subst (λ (v : List Lexeme). Items mark L v (x ∷ zs ++ y ∷ [])) (ap (λ v. u ∷ v) (sym (append_assoc a c (t ∷ p)))) (item_more u a (c ++ t ∷ p) x (zs ++ y ∷ []) e l (item_behind c zs rest t p y f g))
 
+module _ (V : List Lexeme → Expr → Type 0) (low : Bool → List Lexeme → Statement → Type 0) where
+  abbrev pub Bare : Bool → Option Label → List Lexeme → Statement → Type 0
+  Bare inner label ts y = (place : ℕ) × (a : Action) × IsBare V low inner place ts a × (y ≡ stated label place a)
+
+  abbrev pub Assigned : Label → List Lexeme → Statement → Type 0
+  Assigned l ts x = (e : Expr) × IsRightSide V ts e × (x ≡ stated None l.place (assign l e))
+
+  pub unlabelled_from : (inner : Bool) (ts : List Lexeme) (y : Statement) → Bare inner None ts y → IsStatement V low inner ts y
+  unlabelled_from inner ts y b = subst (IsStatement V low inner ts) (sym b.3) (unlabelled inner b.0 ts b.1 b.2)
+
+  pub labelled_from : (t u : Lexeme) → IsName t → Is marks.Colon u → (ts : List Lexeme) (y : Statement) → Bare false (Some (label_of t)) ts y → IsStatement V low false (t ∷ u ∷ ts) y
+  labelled_from t u e f ts y b = subst (IsStatement V low false (t ∷ u ∷ ts)) (sym b.3) (labelled t u b.0 ts b.1 e f b.2)
+
+  pub named_starts : (t : Lexeme) → IsName t → start (sign_of t) ≡ Some starts.Named
+  named_starts t e = by_sign (sign_of t) e
+    where
+      by_sign : (g : Sign) → is_name g ≡ true → start g ≡ Some starts.Named
+      by_sign signs.Name e = refl
+      by_sign _ e = cc
+
+  pub assigned_from : (t : Lexeme) → IsName t → (ts : List Lexeme) (y : Statement) → Assigned (label_of t) ts y → IsStatement V low false (t ∷ ts) y
+  assigned_from t e ts y a = subst (IsStatement V low false (t ∷ ts)) (sym a.2) (unlabelled false t.start (t ∷ ts) (assign (label_of t) a.0) (s_assign false t ts a.0 (named_starts t e) a.1))
+
 module _ (value : Reader Expr) (V : List Lexeme → Expr → Type 0) (sv : Sound value V) (lower : Lower) (LL : Begun → List Lexeme → Statement → Type 0) (sl : Inner V lower LL) where
   abbrev low : Bool → List Lexeme → Statement → Type 0
   low inner = LL (fresh inner)
@@ -321,9 +344,6 @@ module _ (value : Reader Expr) (V : List Lexeme → Expr → Type 0) (sv : Sound
   tail_sound inner n l starts.Cooperate = enclosed_sound (children_of value lower n) (Row2 marks.Bars (IsChild V low)) (λ xs. cooperate (bodies xs)) marks.Coend (children_sound n)
   tail_sound inner n l starts.Group = enclosed_sound (sequence_of value lower true n) (Row marks.Semicolon (low true)) (λ xs. group (statements xs)) marks.CloseGroup (sequence_sound true n)
 
-  from_block : {R : List Lexeme → List Statement → Type 0} (action : List Statement → Action) (mark : Mark) (ts : List Lexeme) (a : Counted Action) → Enclosed R action mark ts a → (text : List Lexeme) × (u : Lexeme) × (xs : List Statement) × R text xs × Is mark u × (ts ≡ text ++ u ∷ []) × (a.0 ≡ action xs)
-  from_block action mark ts a (behind_it b c xs z rows (behind_it d e m w (one_mark u h) given)) = (b, u, xs.0, rows, h, refl, refl)
-
   from_tail : (inner : Bool) (n : ℕ) (t : Lexeme) (x : Start) → start (sign_of t) ≡ Some x → begins inner (Some x) ≡ true → (ts : List Lexeme) (a : Counted Action) → Tail inner n (label_of t) x ts a → IsBare V low inner t.start (t ∷ ts) a.0
   from_tail inner n t starts.Named e ok ts a (behind_it b c y z r given) = rw append-nil (s_assign inner t b y e r)
   from_tail inner n t starts.Listed e ok ts a (behind_it b c y z r given) = rw append-nil (from_all_assigned value V sv inner t e b y r)
@@ -352,65 +372,43 @@ module _ (value : Reader Expr) (V : List Lexeme → Expr → Type 0) (sv : Sound
   from_tail true n t starts.Group e ok ts a l = cc
 
   -- WHOLE STATEMENTS
-  abbrev Bare : Bool → Option Label → List Lexeme → Statement → Type 0
-  Bare inner label ts y = (place : ℕ) × (a : Action) × IsBare V low inner place ts a × (y ≡ stated label place a)
-
-  from_first : (inner : Bool) (label : Option Label) (n : ℕ) (t : Lexeme) (x : Start) → start (sign_of t) ≡ Some x → begins inner (Some x) ≡ true → (ts : List Lexeme) (y : Counted Statement) → Both (Tail inner n (label_of t) x) (λ a. Given (standing label t.start a)) ts y → Bare inner label (t ∷ ts) y.0
+  from_first : (inner : Bool) (label : Option Label) (n : ℕ) (t : Lexeme) (x : Start) → start (sign_of t) ≡ Some x → begins inner (Some x) ≡ true → (ts : List Lexeme) (y : Counted Statement) → Both (Tail inner n (label_of t) x) (λ a. Given (standing label t.start a)) ts y → Bare V low inner label (t ∷ ts) y.0
   from_first inner label n t x e ok ts y (behind_it b c a z l given) = rw append-nil (t.start, a.0, from_tail inner n t x e ok b a l, refl)
 
   bare_at : (inner : Bool) (label : Option Label) (n : ℕ) (s : Stream) → ((x : Start) → start (ahead s) ≡ Some x → begins inner (Some x) ≡ true) → (y : Counted Statement) (rest : Stream) (c : Option Start) → c ≡ start (ahead s)
-      → on_operator c (Err (refusal s)) (λ x. then_reads (action_of value lower inner n (name_of s) x) (λ a. gives (standing label (place_of s) a)) (behind s)) ≡ Ok (y, rest) → Cut (λ ts y. Bare inner label ts y.0) s y rest
+      → on_operator c (Err (refusal s)) (λ x. then_reads (action_of value lower inner n (name_of s) x) (λ a. gives (standing label (place_of s) a)) (behind s)) ≡ Ok (y, rest) → Cut (λ ts y. Bare V low inner label ts y.0) s y rest
   bare_at inner label n s ok y rest None e h = cc
   bare_at inner label n (ends p) ok y rest (Some x) e h = cc
   bare_at inner label n (breaks f) ok y rest (Some x) e h = cc
   bare_at inner label n (more t s) ok y rest (Some x) e h =
-      behind_token t s (Both (Tail inner n (label_of t) x) (λ a. Given (standing label t.start a))) (λ ts y. Bare inner label ts y.0) y rest (from_first inner label n t x (sym e) (ok x (sym e)))
+      behind_token t s (Both (Tail inner n (label_of t) x) (λ a. Given (standing label t.start a))) (λ ts y. Bare V low inner label ts y.0) y rest (from_first inner label n t x (sym e) (ok x (sym e)))
       (map_sound (standing label t.start) (action_of value lower inner n (label_of t) x) (Tail inner n (label_of t) x) (tail_sound inner n (label_of t) x) s y rest h)
 
-  bare_sound : (inner : Bool) (label : Option Label) (n : ℕ) (s : Stream) → ((x : Start) → start (ahead s) ≡ Some x → begins inner (Some x) ≡ true) → (y : Counted Statement) (rest : Stream) → bare_of value lower inner label n s ≡ Ok (y, rest) → Cut (λ ts y. Bare inner label ts y.0) s y rest
+  bare_sound : (inner : Bool) (label : Option Label) (n : ℕ) (s : Stream) → ((x : Start) → start (ahead s) ≡ Some x → begins inner (Some x) ≡ true) → (y : Counted Statement) (rest : Stream) → bare_of value lower inner label n s ≡ Ok (y, rest) → Cut (λ ts y. Bare V low inner label ts y.0) s y rest
   unfolding bare_of
   bare_sound inner label n s ok y rest h = bare_at inner label n s ok y rest (start (ahead s)) refl h
 
   any_start : (s : Stream) (x : Start) → start (ahead s) ≡ Some x → begins false (Some x) ≡ true
   any_start s x e = refl
 
-  abbrev Assigned : Label → List Lexeme → Statement → Type 0
-  Assigned l ts x = (e : Expr) × IsRightSide V ts e × (x ≡ stated None l.place (assign l e))
-
-  from_assigned : (l : Label) (n : ℕ) (ts : List Lexeme) (y : Counted Statement) → Both (IsRightSide V) (λ e. Given (stated None l.place (assign l e), n)) ts y → Assigned l ts y.0
+  from_assigned : (l : Label) (n : ℕ) (ts : List Lexeme) (y : Counted Statement) → Both (IsRightSide V) (λ e. Given (stated None l.place (assign l e), n)) ts y → Assigned V low l ts y.0
   from_assigned l n ts y (behind_it b c e z r given) = rw append-nil (e, r, refl)
 
-  assigned_sound : (l : Label) (n : ℕ) → Sound (assigned_of value l n) (λ ts y. Assigned l ts y.0)
+  assigned_sound : (l : Label) (n : ℕ) → Sound (assigned_of value l n) (λ ts y. Assigned V low l ts y.0)
   unfolding assigned_of
   assigned_sound l n =
-      sound_as (then_reads (right_side_of value) (λ e. gives (stated None l.place (assign l e), n))) (Both (IsRightSide V) (λ e. Given (stated None l.place (assign l e), n))) (λ ts y. Assigned l ts y.0) (from_assigned l n)
+      sound_as (then_reads (right_side_of value) (λ e. gives (stated None l.place (assign l e), n))) (Both (IsRightSide V) (λ e. Given (stated None l.place (assign l e), n))) (λ ts y. Assigned V low l ts y.0) (from_assigned l n)
       (map_sound (λ e. (stated None l.place (assign l e), n)) (right_side_of value) (IsRightSide V) (right_side_sound value V sv))
-
-  unlabelled_from : (inner : Bool) (ts : List Lexeme) (y : Statement) → Bare inner None ts y → IsStatement V low inner ts y
-  unlabelled_from inner ts y b = subst (IsStatement V low inner ts) (sym b.3) (unlabelled inner b.0 ts b.1 b.2)
-
-  labelled_from : (t u : Lexeme) → IsName t → Is marks.Colon u → (ts : List Lexeme) (y : Statement) → Bare false (Some (label_of t)) ts y → IsStatement V low false (t ∷ u ∷ ts) y
-  labelled_from t u e f ts y b = subst (IsStatement V low false (t ∷ u ∷ ts)) (sym b.3) (labelled t u b.0 ts b.1 e f b.2)
-
-  named_starts : (t : Lexeme) → IsName t → start (sign_of t) ≡ Some starts.Named
-  named_starts t e = by_sign (sign_of t) e
-    where
-      by_sign : (g : Sign) → is_name g ≡ true → start g ≡ Some starts.Named
-      by_sign signs.Name e = refl
-      by_sign _ e = cc
-
-  assigned_from : (t : Lexeme) → IsName t → (ts : List Lexeme) (y : Statement) → Assigned (label_of t) ts y → IsStatement V low false (t ∷ ts) y
-  assigned_from t e ts y a = subst (IsStatement V low false (t ∷ ts)) (sym a.2) (unlabelled false t.start (t ∷ ts) (assign (label_of t) a.0) (s_assign false t ts a.0 (named_starts t e) a.1))
 
   behind_name : (t : Lexeme) → IsName t → (n : ℕ) (s : Stream) (y : Counted Statement) (rest : Stream) (c : Bool) → c ≡ is (ahead s) marks.Colon → cond c (bare_of value lower false (Some (label_of t)) n (behind s)) (assigned_of value (label_of t) n s) ≡ Ok (y, rest) → Cut (λ ts y. IsStatement V low false ts y.0) (more t s) y rest
   behind_name t e n s y rest false f h =
       let c = assigned_sound (label_of t) n s y rest h in
-      record { text = t ∷ c.text; is = ap (more t) c.is; spells = assigned_from t e c.text y.0 c.spells }
+      record { text = t ∷ c.text; is = ap (more t) c.is; spells = assigned_from V low t e c.text y.0 c.spells }
   behind_name t e n (ends p) y rest true f h = cc
   behind_name t e n (breaks p) y rest true f h = cc
   behind_name t e n (more u s) y rest true f h =
       let c = bare_sound false (Some (label_of t)) n s (any_start s) y rest h in
-      record { text = t ∷ u ∷ c.text; is = ap (λ m. more t (more u m)) c.is; spells = labelled_from t u e (sym f) c.text y.0 c.spells }
+      record { text = t ∷ u ∷ c.text; is = ap (λ m. more t (more u m)) c.is; spells = labelled_from V low t u e (sym f) c.text y.0 c.spells }
 
   named_sound : (t : Lexeme) → IsName t → (n : ℕ) (s : Stream) (y : Counted Statement) (rest : Stream) → named_of value lower (label_of t) n s ≡ Ok (y, rest) → Cut (λ ts y. IsStatement V low false ts y.0) (more t s) y rest
   unfolding named_of
@@ -419,7 +417,7 @@ module _ (value : Reader Expr) (V : List Lexeme → Expr → Type 0) (sv : Sound
   fresh_at : (n : ℕ) (s : Stream) (y : Counted Statement) (rest : Stream) (c : Bool) → c ≡ is_name (ahead s) → cond c (named_of value lower (name_of s) n (behind s)) (bare_of value lower false None n s) ≡ Ok (y, rest) → Cut (λ ts y. IsStatement V low false ts y.0) s y rest
   fresh_at n s y rest false e h =
       let c = bare_sound false None n s (any_start s) y rest h in
-      record { text = c.text; is = c.is; spells = unlabelled_from false c.text y.0 c.spells }
+      record { text = c.text; is = c.is; spells = unlabelled_from V low false c.text y.0 c.spells }
   fresh_at n (ends p) y rest true e h = cc
   fresh_at n (breaks p) y rest true e h = cc
   fresh_at n (more t s) y rest true e h = named_sound t (sym e) n s y rest h
@@ -432,7 +430,7 @@ module _ (value : Reader Expr) (V : List Lexeme → Expr → Type 0) (sv : Sound
   unfolding statement_of
   statement_sound (fresh true) n s g y rest h =
       let c = bare_sound true None n s (goes_in s g) y rest h in
-      record { text = c.text; is = c.is; spells = unlabelled_from true c.text y.0 c.spells }
+      record { text = c.text; is = c.is; spells = unlabelled_from V low true c.text y.0 c.spells }
   statement_sound (fresh false) n s g y rest h = fresh_at n s y rest (is_name (ahead s)) refl h
   statement_sound (after_name l) n s g y rest h = assigned_sound l n s y rest h
   statement_sound (after_label l) n s g y rest h = bare_sound false (Some l) n s (any_start s) y rest h

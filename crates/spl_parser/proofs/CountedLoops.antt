@@ -15,7 +15,7 @@ use Rattle.spl_parser.specs.ProgramTree.{Statement, Process, Body, body, stateme
 use Rattle.spl_parser.specs.Item.{Item, last, item}
 use Rattle.spl_parser.specs.Reading.{Reader}
 use Rattle.spl_parser.specs.Statements.{Lower, item_of, turned_by, continuing, closed_body}
-use Rattle.spl_parser.specs.Programs.{Summed, process_of, further_process, usual}
+
 
 -- the items of a body
 module _ (value : Reader Expr) (lower : Lower) (xs : List Statement) (n : ℕ) (s start : Stream) (whole : Read Passed (Counted Body)) where
@@ -45,21 +45,3 @@ module _ (value : Reader Expr) (lower : Lower) (xs : List Statement) (n : ℕ) (
   body_stays_open e g h fails =
       let is = running_ends (only marks.Semicolon) (continuing value lower) closed_body refl (xs, n) s start whole g (only_none (ahead s) marks.Semicolon h) in
       stop_as e (closed_body (xs, n) s) whole (λ f c. is ∙ c) (map_fails (λ (m : ℕ). (body (statements xs) None, n)) (expected marks.CloseBlock) s e fails)
-
--- further processes
-module _ (xs : List Process) (v n : ℕ) (s start : Stream) (whole : Read Passed (Summed (List Process))) where
-  abbrev pub InProgram : List Process → ℕ → ℕ → Stream → Type 0
-  InProgram ys w m after = Running (only marks.Bars) (further_process usual) gives (ys, w, m) after start whole
-
-  pub process_next : (number : ℕ) (x : Process) (w m : ℕ) (next after : Stream) (ys : List Process) → InProgram xs v n s → true ≡ is (ahead s) marks.Bars → next ≡ behind s → number ≡ length xs → process_of usual number v n next ≡ Ok ((x, w, m), after) → size after ≤ size next → ys ≡ xs ++ x ∷ [] → InProgram ys w m after
-  process_next number x w m next after ys g h is_next number_is e le made =
-      running_next (only marks.Bars) (further_process usual) gives refl (xs, v, n) s start whole g tt (ys, w, m) next after (only_some (ahead s) marks.Bars h) is_next
-      (mapped (λ (y : Summed Process). goes (xs ++ y.0 ∷ [], y.1, y.2)) (process_of usual (length xs) v n) next after (x, w, m) (ap (λ k. process_of usual k v n next) (sym number_is) ∙ e) ∙ ap (λ z. Ok (goes (z, w, m), after)) (sym made)) le
-
-  pub process_ends : InProgram xs v n s → false ≡ is (ahead s) marks.Bars → whole ≡ Ok ((xs, v, n), s)
-  process_ends g h = running_ends (only marks.Bars) (further_process usual) gives refl (xs, v, n) s start whole g (only_none (ahead s) marks.Bars h)
-
-  pub process_fails : (number : ℕ) (e : Option (Stop Passed)) (next : Stream) → InProgram xs v n s → true ≡ is (ahead s) marks.Bars → next ≡ behind s → number ≡ length xs → IsStop e (process_of usual number v n next) → IsStop e whole
-  process_fails number e next g h is_next number_is fails =
-      running_fails (only marks.Bars) (further_process usual) gives refl (xs, v, n) s start whole g tt e next (only_some (ahead s) marks.Bars h) is_next
-      (map_fails (λ (y : Summed Process). goes (xs ++ y.0 ∷ [], y.1, y.2)) (process_of usual (length xs) v n) next e (stop_as e (process_of usual number v n next) (process_of usual (length xs) v n next) (λ f c. ap (λ k. process_of usual k v n next) (sym number_is) ∙ c) fails))

@@ -19,7 +19,7 @@ use Rattle.spl_parser.specs.ProgramTree.{Statement, stated, assign, Body, Declar
 use Rattle.spl_parser.specs.Begun.{Begun, fresh, after_name, after_label}
 use Rattle.spl_parser.specs.Reading.{Reader, Level, formula}
 use Rattle.spl_parser.specs.Statements.{Lower, goes_on, front_place, statement_of, limited, body_of, inside}
-use Rattle.spl_parser.specs.Programs.{Limits, value_of, lower_of, variable_of, names_of, type_of, initial_of, declaration_of, declarations_of, Summed, process_name, process, process_of, further_process, further_processes, processes_of}
+use Rattle.spl_parser.specs.Programs.{Limits, value_of, lower_of, variable_of, names_of, type_of, initial_of, declaration_of, declarations_of, Totals, totals, process_name, process, process_of, processes_of}
 use Rattle.spl_parser.specs.Grammar.{Inside, SpellsWithin, IsStatement, Low, IsBody, IsInitial, free, given as an_initial, IsDeclaration, declaration, Declarations, no_declarations, declaration_more, IsProcess, process as a_process, IsProgram, program}
 use Rattle.spl_parser.proofs.ExpressionSoundness.{expression_sound, below_sound}
 use Rattle.spl_parser.proofs.StatementSoundness.{Inner, Rest, assigned_from, labelled_from, statement_sound, body_sound}

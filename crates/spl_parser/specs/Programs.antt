@@ -5,7 +5,7 @@ use Rattle.st_tokens.specs.Stream.{Stream, ends, breaks, more, behind, text_stre
 use Rattle.st_reading.specs.declared.mark.Mark.TheVariants as marks
 use Rattle.st_reading.specs.Sign.{is}
 use Rattle.st_reading.specs.Faults.{Passed, passed}
-use Rattle.st_reading.specs.Reading.{other, Read, Label, ahead, place_of, name_of, is_name, refusal, expected, gives, then_reads, Turn, leaves, goes, on_operator, chain, size, only, Counted, counting, linked}
+use Rattle.st_reading.specs.Reading.{other, Read, Label, ahead, place_of, name_of, is_name, refusal, expected, gives, then_reads, Turn, leaves, goes, on_operator, chain, size, only, Counted, counting, linked, Carried}
 use Rattle.spl_parser.specs.Signs.{mode, kind}
 use Rattle.spl_parser.specs.ExpressionTree.{Expr}
 use Rattle.spl_parser.specs.ProgramTree.{Body, Declaration, Process, Program}
@@ -21,9 +21,18 @@ pub record Limits : Type 0 where
   pub opened : ℕ
   pub round : ℕ
 
--- what was read, and how many variables and statements there are then
-abbrev pub Summed : Type 0 → Type 0
-Summed A = A × ℕ × ℕ
+-- how many processes, variables and statements there are
+pub record Totals : Type 0 where
+  pub processes : ℕ
+  pub variables : ℕ
+  pub statements : ℕ
+
+abbrev pub totals : ℕ → ℕ → ℕ → Totals
+totals p v n = record { processes = p; variables = v; statements = n }
+
+-- a process that is put together, and what there is then
+abbrev pub process : Totals → Label → Counted (List Declaration) → Counted Body → Carried Totals Process
+process t name ds b = (record { name = name; declarations = ds.0; body = b.0 }, totals (t.processes + 1) ds.1 b.1)
 
 module _ (limit : Limits) where
   unfoldable pub value_of : Reader Expr
@@ -63,24 +72,15 @@ module _ (limit : Limits) where
   unfoldable pub process_name : ℕ → Reader Label
   process_name n s = cond (is_name (ahead s)) (cond (limit.processes n) (Ok (name_of s, behind s)) (Err (other (passed limits.Processes (place_of s))))) (Err (refusal s))
 
-  abbrev pub process : Label → Counted (List Declaration) → Counted Body → Summed Process
-  process name ds b = (record { name = name; declarations = ds.0; body = b.0 }, ds.1, b.1)
-
   -- name "::" "[" { decl } sequence [ ";" name ":" ] "]"
-  unfoldable pub process_of : ℕ → ℕ → ℕ → Reader (Summed Process)
-  process_of number variables statements s =
-      then_reads (process_name number) (λ name. then_reads (expected marks.Colons) (λ m. then_reads (expected marks.OpenBlock) (λ m. then_reads (declarations_of variables) (λ ds. then_reads (body_of value_of (lower_of (limit.round + 1)) statements)
-      (λ b. gives (process name ds b)))))) s
-
-  abbrev pub further_process : {B : Type 0} → Unit {0} → ℕ → Summed (List Process) → Reader (Turn B (Summed (List Process)))
-  further_process o place xs = then_reads (process_of (length xs.0) xs.1 xs.2) (λ x. gives (goes (xs.0 ++ x.0 ∷ [], x.1, x.2)))
-
-  abbrev pub further_processes : Summed (List Process) → Reader (Summed (List Process))
-  further_processes xs s = chain (only marks.Bars) further_process gives (size s) xs s
+  unfoldable pub process_of : Totals → Reader (Carried Totals Process)
+  process_of t s =
+      then_reads (process_name t.processes) (λ name. then_reads (expected marks.Colons) (λ m. then_reads (expected marks.OpenBlock) (λ m. then_reads (declarations_of t.variables) (λ ds. then_reads (body_of value_of (lower_of (limit.round + 1)) t.statements)
+      (λ b. gives (process t name ds b)))))) s
 
   -- process { "||" process }
-  unfoldable pub processes_of : ℕ → Reader (Summed (List Process))
-  processes_of variables s = then_reads (process_of 0 variables 0) (λ x. further_processes (x.0 ∷ [], x.1, x.2)) s
+  unfoldable pub processes_of : Totals → Reader (Carried Totals (List Process))
+  processes_of t s = then_reads (process_of t) (λ x. linked marks.Bars process_of (x.0 ∷ [], x.1)) s
 
   -- the text ends
   unfoldable pub at_end : Reader (Unit {0})
@@ -90,7 +90,7 @@ module _ (limit : Limits) where
 
   -- { decl } process { "||" process }, and nothing behind it
   unfoldable pub program_of : Reader Program
-  program_of s = then_reads (declarations_of 0) (λ ds. then_reads (processes_of ds.1) (λ ps. then_reads at_end (λ e. gives (record { declarations = ds.0; processes = ps.0 })))) s
+  program_of s = then_reads (declarations_of 0) (λ ds. then_reads (processes_of (totals 0 ds.1 0)) (λ ps. then_reads at_end (λ e. gives (record { declarations = ds.0; processes = ps.0 })))) s
 
 -- the limits of programs
 abbrev pub usual : Limits

@@ -1,11 +1,12 @@
 //! Processes and whole programs.
 
-ghost use Rattle.std.specs.Prelude.{◌≡◌, ◌≤◌, length};
+ghost use Rattle.std.specs.Prelude.{◌≡◌, ◌+◌, ◌≤◌, length};
 ghost use Rattle.st_tokens.specs.Stream.{stream, text_stream};
-ghost use Rattle.st_reading.specs.Reading.{Reads, size};
+ghost use Rattle.st_reading.specs.declared.mark.Mark.TheVariants as marks;
+ghost use Rattle.st_reading.specs.Reading.{Reads, size, linked};
 ghost use Rattle.st_reading.specs.Faults.{see, name_view};
 ghost use Rattle.spl_parser.specs.ProgramTree.{process_view, process_views, program_view};
-ghost use Rattle.spl_parser.specs.Programs.{process_name, process_of, further_processes, processes_of, at_end, program_of, usual};
+ghost use Rattle.spl_parser.specs.Programs.{totals, process_name, process_of, processes_of, at_end, program_of, usual};
 ghost use Rattle.spl_parser.specs.Parsing.{Parses, parsed};
 
 use crate::declaration::declarations;
@@ -44,7 +45,7 @@ fn process<'a>(
     statements: &mut u32,
     tokens: &mut Tokens<'a>,
 ) -> Result<RawProcess<'a>, ParseFault>
-    ensures reads { Reads see (λ p. (process_view p, variables.new, statements.new)) result (stream tokens.new) (process_of usual number variables.old statements.old (stream tokens.old)) }
+    ensures reads { Reads see (λ p. (process_view p, totals (number + 1) variables.new statements.new)) result (stream tokens.new) (process_of usual (totals number variables.old statements.old) (stream tokens.old)) }
     ensures shrinks { size (stream tokens.new) ≤ size (stream tokens.old) }
 {
     let name = process_name(number, tokens)?;
@@ -67,7 +68,7 @@ fn further_processes<'a>(
     statements: &mut u32,
     tokens: &mut Tokens<'a>,
 ) -> Result<Vec<RawProcess<'a>>, ParseFault>
-    ensures reads { Reads see (λ v. (process_views v.items, variables.new, statements.new)) result (stream tokens.new) (further_processes usual (process_views processes.entry.items, variables.old, statements.old) (stream tokens.old)) }
+    ensures reads { Reads see (λ v. (process_views v.items, totals (length v.items) variables.new statements.new)) result (stream tokens.new) (linked marks.Bars (process_of usual) (process_views processes.entry.items, totals (length processes.entry.items) variables.old statements.old) (stream tokens.old)) }
     ensures shrinks { size (stream tokens.new) ≤ size (stream tokens.old) }
 {
     'chain: while is(ahead(tokens), Mark::Bars) {
@@ -86,8 +87,7 @@ fn processes<'a>(
     statements: &mut u32,
     tokens: &mut Tokens<'a>,
 ) -> Result<Vec<RawProcess<'a>>, ParseFault>
-    requires { statements.old ≡ 0 }
-    ensures reads { Reads see (λ v. (process_views v.items, variables.new, statements.new)) result (stream tokens.new) (processes_of usual variables.old (stream tokens.old)) }
+    ensures reads { Reads see (λ v. (process_views v.items, totals (length v.items) variables.new statements.new)) result (stream tokens.new) (processes_of usual (totals 0 variables.old statements.old) (stream tokens.old)) }
     ensures shrinks { size (stream tokens.new) ≤ size (stream tokens.old) }
 {
     let first = process(alloc, 0, variables, statements, tokens)?;

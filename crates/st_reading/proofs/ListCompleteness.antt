@@ -5,7 +5,7 @@ use Rattle.st_reading.specs.declared.mark.Mark.{Mark}
 use Rattle.st_reading.specs.declared.sign.Sign.{Sign}
 use Rattle.st_reading.specs.declared.sign.Sign.TheVariants as signs
 use Rattle.st_reading.specs.Sign.{sign_of, is}
-use Rattle.st_reading.specs.Reading.{Read, ◌>>=◌, ahead, size, then_reads, expected, gives, Turn, leaves, goes, turned, chain, only, listing, further, Counted, counting, linked}
+use Rattle.st_reading.specs.Reading.{Read, ◌>>=◌, ahead, size, then_reads, expected, gives, Turn, leaves, goes, turned, chain, only, listing, further, Carried, counting, linked}
 use Rattle.st_reading.specs.Spelling.{Is, Items, no_items, item_more, Row, row, Row2, row2}
 use Rattle.st_reading.specs.Steady.{Within}
 use Rattle.st_reading.proofs.Streams.{append_stream}
@@ -21,12 +21,12 @@ abbrev pub Complete : {X A : Type 0} → (Sign → Bool) → (Stream → Read X 
 Complete set r L = (ts : List Lexeme) (x : _) → L ts x → (after : Stream) → set (ahead after) ≡ true → r (ts ++> after) ≡ Ok (x, after)
 
 -- the value and some count
-pub record Read_as {X A : Type 0} (o : Read X (Counted A)) (x : A) (after : Stream) : Type 0 where
-  pub count : ℕ
+pub record Read_as {X N A : Type 0} (o : Read X (Carried N A)) (x : A) (after : Stream) : Type 0 where
+  pub count : N
   pub reads : o ≡ Ok ((x, count), after)
 
-abbrev pub Counts : {X A : Type 0} → (Sign → Bool) → (ℕ → Stream → Read X (Counted A)) → (List Lexeme → A → Type 0) → Type 0
-Counts set r L = (n : ℕ) (ts : List Lexeme) (x : _) → L ts x → (after : Stream) → set (ahead after) ≡ true → Read_as (r n (ts ++> after)) x after
+abbrev pub Counts : {X N A : Type 0} → (Sign → Bool) → (N → Stream → Read X (Carried N A)) → (List Lexeme → A → Type 0) → Type 0
+Counts {X} {N} set r L = (n : N) (ts : List Lexeme) (x : _) → L ts x → (after : Stream) → set (ahead after) ≡ true → Read_as (r n (ts ++> after)) x after
 
 -- the token that is wanted
 pub expected_is : {X : Type 0} (m : Mark) (t : Lexeme) (s : Stream) → Is m t → expected {X = X} m (more t s) ≡ Ok (t.start, s)
@@ -80,16 +80,16 @@ module _ {X A : Type 0} (mark : Mark) (r : Stream → Read X A) (shrinks : Shrin
       ∙ two x b (y ∷ xs) items y xs refl after h
 
 -- COUNTED LISTS
-module _ {X O A : Type 0} (op : Sign → Option O) (nothing : None ≡ op signs.Nothing) (r : O → ℕ → Stream → Read X (Counted A)) (shrinks : (o : O) (n : ℕ) → Shrinks (r o n)) (L : O → Lexeme → List Lexeme → A → Type 0) (inner outer : Sign → Bool)
+module _ {X O N A : Type 0} (op : Sign → Option O) (nothing : None ≡ op signs.Nothing) (r : O → N → Stream → Read X (Carried N A)) (shrinks : (o : O) (n : N) → Shrinks (r o n)) (L : O → Lexeme → List Lexeme → A → Type 0) (inner outer : Sign → Bool)
     (marked : (g : Sign) (o : O) → op g ≡ Some o → inner g ≡ true) (within : Within outer inner) (stops : (g : Sign) → outer g ≡ true → op g ≡ None) (complete : (o : O) (t : Lexeme) → Counts inner (r o) (L o t)) where
   pub steps_between : (b : List Lexeme) (ys : List A) → Steps op L b ys → (after : Stream) → outer (ahead after) ≡ true → inner (ahead (b ++> after)) ≡ true
   steps_between b ys no_steps after h = within (ahead after) h
   steps_between b ys (a_step t o a c y zs e l rest) after h = marked (sign_of t) o e
 
-  counts : (o : O) (place : ℕ) (xs : Counted (List A)) → Shrinks {A = Turn (Counted (List A)) (Counted (List A))} (counting r o place xs)
+  counts : (o : O) (place : ℕ) (xs : Carried N (List A)) → Shrinks {A = Turn (Carried N (List A)) (Carried N (List A))} (counting r o place xs)
   counts o place xs = shrinks_map (counted_on xs) (r o xs.1) (shrinks o xs.1)
 
-  pub steps_complete : (b : List Lexeme) (ys : List A) → Steps op L b ys → (xs : List A) (n : ℕ) (after : Stream) → outer (ahead after) ≡ true → Read_as (chain op (counting r) gives (size (b ++> after)) (xs, n) (b ++> after)) (xs ++ ys) after
+  pub steps_complete : (b : List Lexeme) (ys : List A) → Steps op L b ys → (xs : List A) (n : N) (after : Stream) → outer (ahead after) ≡ true → Read_as (chain op (counting r) gives (size (b ++> after)) (xs, n) (b ++> after)) (xs ++ ys) after
   steps_complete b ys no_steps xs n after h = record { count = n; reads = chain_none op (counting r) gives (size after) (xs, n) after (sym (stops (ahead after) h)) ∙ ap (λ zs. Ok ((zs, n), after)) (sym (append-nil xs)) }
   steps_complete b ys (a_step t o a c y zs e l rest) xs n after h =
       let item = complete o t n a y l (c ++> after) (steps_between c zs rest after h) in

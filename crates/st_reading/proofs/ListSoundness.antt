@@ -5,7 +5,7 @@ use Rattle.st_reading.specs.declared.mark.Mark.{Mark}
 use Rattle.st_reading.specs.declared.sign.Sign.{Sign}
 use Rattle.st_reading.specs.declared.sign.Sign.TheVariants as signs
 use Rattle.st_reading.specs.Sign.{sign_of, is}
-use Rattle.st_reading.specs.Reading.{Stop, Read, ◌>>=◌, Label, ahead, place_of, name_of, label_of, is_name, refusal, then_reads, expected, named, gives, Turn, leaves, goes, turned, on_operator, chain, only, listing, Counted, counting, linked, size, further}
+use Rattle.st_reading.specs.Reading.{Stop, Read, ◌>>=◌, Label, ahead, place_of, name_of, label_of, is_name, refusal, then_reads, expected, named, gives, Turn, leaves, goes, turned, on_operator, chain, only, listing, Carried, counting, linked, size, further}
 use Rattle.st_reading.specs.Spelling.{Cut, Sound, Both, behind_it, Is, IsName, OneName, one_name, Items, no_items, item_more, Row, row, Row2, row2}
 use Rattle.st_reading.proofs.Streams.{append_stream}
 use Rattle.st_reading.proofs.Soundness.{split, values, taken}
@@ -58,7 +58,7 @@ pub steps_items : {A : Type 0} (m : Mark) (L : List Lexeme → A → Type 0) (ts
 steps_items m L ts ys no_steps = no_items
 steps_items m L ts ys (a_step t o a b y zs e l rest) = item_more t a b y zs (only_is m (sign_of t) o e) l (steps_items m L b zs rest)
 
-abbrev pub counted_on : {A : Type 0} → Counted (List A) → Counted A → Turn (Counted (List A)) (Counted (List A))
+abbrev pub counted_on : {N A : Type 0} → Carried N (List A) → Carried N A → Turn (Carried N (List A)) (Carried N (List A))
 counted_on xs x = goes (xs.0 ++ x.0 ∷ [], x.1)
 
 abbrev pub listed_on : {A : Type 0} → List A → A → Turn (List A) (List A)
@@ -77,21 +77,21 @@ pub record Extends {A : Type 0} (L : List Lexeme → List A → Type 0) (xs : Li
 extends_none : {A : Type 0} (L : List Lexeme → List A → Type 0) → L [] [] → (xs zs : List A) → xs ≡ zs → Extends L xs [] zs
 extends_none L none xs zs e = record { more_items = []; joined = sym e ∙ sym (append-nil xs); spells = none }
 
-module _ {X O A : Type 0} (op : Sign → Option O) (nothing : None ≡ op signs.Nothing) (r : O → ℕ → Stream → Read X (Counted A)) (L : O → Lexeme → List Lexeme → A → Type 0) (sound : (o : O) (n : ℕ) (t : Lexeme) → Sound (r o n) (λ ts x. L o t ts x.0)) where
-  abbrev Counts : Counted (List A) → List Lexeme → Counted (List A) → Type 0
+module _ {X O N A : Type 0} (op : Sign → Option O) (nothing : None ≡ op signs.Nothing) (r : O → N → Stream → Read X (Carried N A)) (L : O → Lexeme → List Lexeme → A → Type 0) (sound : (o : O) (n : N) (t : Lexeme) → Sound (r o n) (λ ts x. L o t ts x.0)) where
+  abbrev Counts : Carried N (List A) → List Lexeme → Carried N (List A) → Type 0
   Counts xs ts zs = Extends (Steps op L) xs.0 ts zs.0
 
-  ended : (xs : Counted (List A)) (s : Stream) (zs : Counted (List A)) (rest : Stream) → gives {X = X} xs s ≡ Ok (zs, rest) → Cut (Counts xs) s zs rest
+  ended : (xs : Carried N (List A)) (s : Stream) (zs : Carried N (List A)) (rest : Stream) → gives {X = X} xs s ≡ Ok (zs, rest) → Cut (Counts xs) s zs rest
   ended xs s zs rest h = taken {X = X} (Counts xs) [] (gives xs s) xs zs s rest refl h (extends_none (Steps op L) no_steps xs.0 xs.0 refl)
 
-  step : (xs : Counted (List A)) (t : Lexeme) (o : O) → op (sign_of t) ≡ Some o → (s : Stream) (x : Counted A) (m : Stream) (zs : Counted (List A)) (rest : Stream) → Cut (λ ts x. L o t ts x.0) s x m → Cut (Counts (xs.0 ++ x.0 ∷ [], x.1)) m zs rest → Cut (Counts xs) (more t s) zs rest
+  step : (xs : Carried N (List A)) (t : Lexeme) (o : O) → op (sign_of t) ≡ Some o → (s : Stream) (x : Carried N A) (m : Stream) (zs : Carried N (List A)) (rest : Stream) → Cut (λ ts x. L o t ts x.0) s x m → Cut (Counts (xs.0 ++ x.0 ∷ [], x.1)) m zs rest → Cut (Counts xs) (more t s) zs rest
   step xs t o e s x m zs rest c d = record {
     text = t ∷ c.text ++ d.text;
     is = ap (more t) (c.is ∙ ap (λ n. c.text ++> n) d.is ∙ sym (append_stream c.text d.text rest));
     spells = record { more_items = x.0 ∷ d.spells.more_items; joined = d.spells.joined ∙ append_assoc xs.0 (x.0 ∷ []) d.spells.more_items; spells = a_step t o c.text d.text x.0 d.spells.more_items e c.spells d.spells.spells };
   }
 
-  at_operator : (k : ℕ) → ((xs : Counted (List A)) (s : Stream) (zs : Counted (List A)) (rest : Stream) → chain op (counting r) gives k xs s ≡ Ok (zs, rest) → Cut (Counts xs) s zs rest) → (xs : Counted (List A)) (s : Stream) (zs : Counted (List A)) (rest : Stream) (p : Option O) → p ≡ op (ahead s)
+  at_operator : (k : ℕ) → ((xs : Carried N (List A)) (s : Stream) (zs : Carried N (List A)) (rest : Stream) → chain op (counting r) gives k xs s ≡ Ok (zs, rest) → Cut (Counts xs) s zs rest) → (xs : Carried N (List A)) (s : Stream) (zs : Carried N (List A)) (rest : Stream) (p : Option O) → p ≡ op (ahead s)
       → on_operator p (gives {X = X} xs s) (λ o. counting r o (place_of s) xs (behind s) >>= λ y. turned (λ w n. chain op (counting r) gives k w n) y.0 y.1) ≡ Ok (zs, rest) → Cut (Counts xs) s zs rest
   at_operator k again xs s zs rest None e h = ended xs s zs rest h
   at_operator k again xs (ends p) zs rest (Some o) e h = cc
@@ -100,14 +100,14 @@ module _ {X O A : Type 0} (op : Sign → Option O) (nothing : None ≡ op signs.
       let p = split (r o xs.1) (λ x m. chain op (counting r) gives k (xs.0 ++ x.0 ∷ [], x.1) m) s zs rest (through h) in
       step xs t o (sym e) s p.value p.middle zs rest (sound o xs.1 t s p.value p.middle p.first) (again (xs.0 ++ p.value.0 ∷ [], p.value.1) p.middle zs rest p.second)
     where
-      at_read : (q : Read X (Counted A)) → ((q >>= λ x. gives {X = X} (counted_on xs x.0) x.1) >>= λ y. turned (λ w n. chain op (counting r) gives k w n) y.0 y.1) ≡ Ok (zs, rest) → (q >>= λ x. chain op (counting r) gives k (xs.0 ++ x.0.0 ∷ [], x.0.1) x.1) ≡ Ok (zs, rest)
+      at_read : (q : Read X (Carried N A)) → ((q >>= λ x. gives {X = X} (counted_on xs x.0) x.1) >>= λ y. turned (λ w n. chain op (counting r) gives k w n) y.0 y.1) ≡ Ok (zs, rest) → (q >>= λ x. chain op (counting r) gives k (xs.0 ++ x.0.0 ∷ [], x.0.1) x.1) ≡ Ok (zs, rest)
       at_read (Ok x) h = h
       at_read (Err f) h = cc
 
       through : (counting r o t.start xs s >>= λ y. turned (λ w n. chain op (counting r) gives k w n) y.0 y.1) ≡ Ok (zs, rest) → then_reads (r o xs.1) (λ x m. chain op (counting r) gives k (xs.0 ++ x.0 ∷ [], x.1) m) s ≡ Ok (zs, rest)
       through h = at_read (r o xs.1 s) h
 
-  pub counting_sound : (k : ℕ) (xs : Counted (List A)) → Sound (chain op (counting r) gives k xs) (Counts xs)
+  pub counting_sound : (k : ℕ) (xs : Carried N (List A)) → Sound (chain op (counting r) gives k xs) (Counts xs)
   unfolding chain
   counting_sound zero xs s zs rest h = ended xs s zs rest h
   counting_sound (suc k) xs s zs rest h = at_operator k (λ xs s zs rest h. counting_sound k xs s zs rest h) xs s zs rest (op (ahead s)) refl h
@@ -195,15 +195,15 @@ module _ {X A : Type 0} (mark : Mark) (r : Stream → Read X A) (L : List Lexeme
       on_mark false e h = cc
 
 -- COUNTED ROWS
-module _ {X A : Type 0} (mark : Mark) (r : ℕ → Stream → Read X (Counted A)) (L : List Lexeme → A → Type 0) (sound : (n : ℕ) → Sound (r n) (λ ts x. L ts x.0)) where
+module _ {X N A : Type 0} (mark : Mark) (r : N → Stream → Read X (Carried N A)) (L : List Lexeme → A → Type 0) (sound : (n : N) → Sound (r n) (λ ts x. L ts x.0)) where
   -- further items, behind those that were read before
-  further_sound : (xs : Counted (List A)) → Sound (linked mark r xs) (λ ts zs. Extends (Items mark L) xs.0 ts zs.0)
+  further_sound : (xs : Carried N (List A)) → Sound (linked mark r xs) (λ ts zs. Extends (Items mark L) xs.0 ts zs.0)
   further_sound xs s zs rest h =
       let c = counting_sound (only mark) refl (λ o. r) (λ o t. L) (λ o n t. sound n) (size s) xs s zs rest h in
       record { text = c.text; is = c.is; spells = record { more_items = c.spells.more_items; joined = c.spells.joined; spells = steps_items mark L c.text c.spells.more_items c.spells.spells } }
 
   -- an item, and further ones behind the mark
-  pub row_sound : (n : ℕ) → Sound (then_reads (r n) (λ x. linked mark r (x.0 ∷ [], x.1))) (λ ts zs. Row mark L ts zs.0)
+  pub row_sound : (n : N) → Sound (then_reads (r n) (λ x. linked mark r (x.0 ∷ [], x.1))) (λ ts zs. Row mark L ts zs.0)
   row_sound n s zs rest h =
       let p = split (r n) (λ x. linked mark r (x.0 ∷ [], x.1)) s zs rest h in
       let c = sound n s p.value p.middle p.first in
@@ -214,11 +214,11 @@ module _ {X A : Type 0} (mark : Mark) (r : ℕ → Stream → Read X (Counted A)
         spells = subst (Row mark L (c.text ++ d.text)) (sym d.spells.joined) (row c.text d.text p.value.0 d.spells.more_items c.spells d.spells.spells);
       }
 
-  abbrev behind_first : Counted A → Stream → Read X (Counted (List A))
+  abbrev behind_first : Carried N A → Stream → Read X (Carried N (List A))
   behind_first x = then_reads (expected mark) (λ m. then_reads (r x.1) (λ y. linked mark r (x.0 ∷ y.0 ∷ [], y.1)))
 
   -- an item, another one, and further ones
-  pub row2_sound : (n : ℕ) → Sound (then_reads (r n) behind_first) (λ ts zs. Row2 mark L ts zs.0)
+  pub row2_sound : (n : N) → Sound (then_reads (r n) behind_first) (λ ts zs. Row2 mark L ts zs.0)
   row2_sound n s zs rest h =
       let p = split (r n) behind_first s zs rest h in
       let q = split (expected mark) (λ m. then_reads (r p.value.1) (λ y. linked mark r (p.value.0 ∷ y.0 ∷ [], y.1))) p.middle zs rest p.second in

@@ -5,7 +5,7 @@ use Rattle.st_reading.specs.declared.mark.Mark.{Mark}
 use Rattle.st_reading.specs.declared.sign.Sign.{Sign}
 use Rattle.st_reading.specs.declared.sign.Sign.TheVariants as signs
 use Rattle.st_reading.specs.Sign.{is}
-use Rattle.st_reading.specs.Reading.{Stop, Read, ◌>>=◌, ahead, size, gives, then_reads, Turn, leaves, goes, IsStop, only, listing, Counted, counting}
+use Rattle.st_reading.specs.Reading.{Stop, Read, ◌>>=◌, ahead, size, gives, then_reads, Turn, leaves, goes, IsStop, only, listing, Carried, counting}
 use Rattle.st_reading.proofs.Chains.{Running, running_next, running_ends, running_fails}
 
 -- A fault is carried from one reading to another.
@@ -38,23 +38,23 @@ module _ {X A B : Type 0} (mark : Mark) (item : Stream → Read X A) (finish : L
   pub listing_fails : (e : Option (Stop X)) (next : Stream) → Running (only mark) (listing item) finish xs s start whole → true ≡ is (ahead s) mark → next ≡ behind s → IsStop e (item next) → IsStop e whole
   listing_fails e next g h is_next fails = running_fails (only mark) (listing item) finish refl xs s start whole g tt e next (only_some (ahead s) mark h) is_next (map_fails (λ y. goes (xs ++ y ∷ [])) item next e fails)
 
-module _ {X O A B : Type 0} (op : Sign → Option O) (r : O → ℕ → Stream → Read X (Counted A)) (finish : Counted (List A) → Stream → Read X B) (none : None ≡ op signs.Nothing) (xs : List A) (n : ℕ) (s start : Stream) (whole : Read X B) where
-  pub counting_next : (o : O) (x : A) (m : ℕ) (next after : Stream) (ys : List A) → Running op (counting r) finish (xs, n) s start whole → Some o ≡ op (ahead s) → next ≡ behind s → r o n next ≡ Ok ((x, m), after) → size after ≤ size next → ys ≡ xs ++ x ∷ []
+module _ {X O N A B : Type 0} (op : Sign → Option O) (r : O → N → Stream → Read X (Carried N A)) (finish : Carried N (List A) → Stream → Read X B) (none : None ≡ op signs.Nothing) (xs : List A) (n : N) (s start : Stream) (whole : Read X B) where
+  pub counting_next : (o : O) (x : A) (m : N) (next after : Stream) (ys : List A) → Running op (counting r) finish (xs, n) s start whole → Some o ≡ op (ahead s) → next ≡ behind s → r o n next ≡ Ok ((x, m), after) → size after ≤ size next → ys ≡ xs ++ x ∷ []
       → Running op (counting r) finish (ys, m) after start whole
   counting_next o x m next after ys g h is_next e le made =
       running_next op (counting r) finish none (xs, n) s start whole g o (ys, m) next after h is_next
-      (mapped (λ (y : Counted A). goes (xs ++ y.0 ∷ [], y.1)) (r o n) next after (x, m) e ∙ ap (λ z. Ok (goes (z, m), after)) (sym made)) le
+      (mapped (λ (y : Carried N A). goes (xs ++ y.0 ∷ [], y.1)) (r o n) next after (x, m) e ∙ ap (λ z. Ok (goes (z, m), after)) (sym made)) le
 
   pub counting_ends : Running op (counting r) finish (xs, n) s start whole → None ≡ op (ahead s) → whole ≡ finish (xs, n) s
   counting_ends g h = running_ends op (counting r) finish none (xs, n) s start whole g h
 
   pub counting_fails : (o : O) (e : Option (Stop X)) (next : Stream) → Running op (counting r) finish (xs, n) s start whole → Some o ≡ op (ahead s) → next ≡ behind s → IsStop e (r o n next) → IsStop e whole
   counting_fails o e next g h is_next fails =
-      running_fails op (counting r) finish none (xs, n) s start whole g o e next h is_next (map_fails (λ (y : Counted A). goes (xs ++ y.0 ∷ [], y.1)) (r o n) next e fails)
+      running_fails op (counting r) finish none (xs, n) s start whole g o e next h is_next (map_fails (λ (y : Carried N A). goes (xs ++ y.0 ∷ [], y.1)) (r o n) next e fails)
 
 -- behind a mark
-module _ {X A B : Type 0} (mark : Mark) (r : ℕ → Stream → Read X (Counted A)) (finish : Counted (List A) → Stream → Read X B) (xs : List A) (n : ℕ) (s start : Stream) (whole : Read X B) where
-  pub linked_next : (x : A) (m : ℕ) (next after : Stream) (ys : List A) → Running (only mark) (counting (λ o. r)) finish (xs, n) s start whole → true ≡ is (ahead s) mark → next ≡ behind s → r n next ≡ Ok ((x, m), after) → size after ≤ size next → ys ≡ xs ++ x ∷ []
+module _ {X N A B : Type 0} (mark : Mark) (r : N → Stream → Read X (Carried N A)) (finish : Carried N (List A) → Stream → Read X B) (xs : List A) (n : N) (s start : Stream) (whole : Read X B) where
+  pub linked_next : (x : A) (m : N) (next after : Stream) (ys : List A) → Running (only mark) (counting (λ o. r)) finish (xs, n) s start whole → true ≡ is (ahead s) mark → next ≡ behind s → r n next ≡ Ok ((x, m), after) → size after ≤ size next → ys ≡ xs ++ x ∷ []
       → Running (only mark) (counting (λ o. r)) finish (ys, m) after start whole
   linked_next x m next after ys g h is_next e le made =
       counting_next (only mark) (λ o. r) finish refl xs n s start whole tt x m next after ys g (only_some (ahead s) mark h) is_next e le made

@@ -114,17 +114,21 @@ listing r o place xs = then_reads r (λ x. gives (goes (xs ++ x ∷ [])))
 abbrev pub further : {X A : Type 0} → Mark → (Stream → Read X A) → List A → Stream → Read X (List A)
 further mark r xs s = chain (only mark) (listing r) gives (size s) xs s
 
--- a value, and how many there are then of what is counted
-abbrev pub Counted : Type 0 → Type 0
-Counted A = A × ℕ
+-- a value, and what is carried on from it to what is read next, as counts
+abbrev pub Carried : Type 0 → Type 0 → Type 0
+Carried N A = A × N
 
--- a further item of a list, counted
-abbrev pub counting : {X O A B : Type 0} → (O → ℕ → Stream → Read X (Counted A)) → O → ℕ → Counted (List A) → Stream → Read X (Turn B (Counted (List A)))
+-- a further item of a list, which takes over what the one before it carries on
+abbrev pub counting : {X O N A B : Type 0} → (O → N → Stream → Read X (Carried N A)) → O → ℕ → Carried N (List A) → Stream → Read X (Turn B (Carried N (List A)))
 counting r o place xs = then_reads (r o xs.1) (λ x. gives (goes (xs.0 ++ x.0 ∷ [], x.1)))
 
--- further items behind a mark, counted
-abbrev pub linked : {X A : Type 0} → Mark → (ℕ → Stream → Read X (Counted A)) → Counted (List A) → Stream → Read X (Counted (List A))
+-- further items behind a mark
+abbrev pub linked : {X N A : Type 0} → Mark → (N → Stream → Read X (Carried N A)) → Carried N (List A) → Stream → Read X (Carried N (List A))
 linked mark r xs s = chain (only mark) (counting (λ o. r)) gives (size s) xs s
+
+-- a value, and how many there are then of what is counted
+abbrev pub Counted : Type 0 → Type 0
+Counted A = Carried ℕ A
 
 -- Want of memory, which `see` doesn't see, is free; any other fault is that of the reading.
 abbrev pub IsStop : {X Y : Type 0} → Option (Stop X) → Result Y (Stop X) → Type 0

@@ -8,7 +8,7 @@ use Rattle.st_reading.specs.declared.sign.Sign.{Sign}
 use Rattle.st_reading.specs.declared.sign.Sign.TheVariants as signs
 use Rattle.st_reading.specs.Sign.{sign_of, is}
 use Rattle.st_reading.specs.Faults.{Passed, passed}
-use Rattle.st_reading.specs.Reading.{Stop, other, Read, ◌>>=◌, Label, ahead, place_of, name_of, label_of, is_name, refusal, named, expected, gives, then_reads, Turn, leaves, goes, turned, on_operator, chain, size, only, Counted, counting, linked}
+use Rattle.st_reading.specs.Reading.{Stop, other, Read, ◌>>=◌, Label, ahead, place_of, name_of, label_of, is_name, refusal, expected, gives, then_reads, Turn, leaves, goes, turned, on_operator, chain, size, Carried, Counted}
 use Rattle.st_reading.specs.Spelling.{Cut, Sound, Both, behind_it, Is, IsName, OneName, one_name, Items, no_items, item_more, Row, row}
 use Rattle.st_reading.proofs.Streams.{append_stream}
 use Rattle.st_reading.proofs.Soundness.{split, values, taken, sound_bind}
@@ -17,7 +17,7 @@ use Rattle.spl_parser.specs.Signs.{mode, kind}
 use Rattle.spl_parser.specs.ExpressionTree.{Expr}
 use Rattle.spl_parser.specs.ProgramTree.{Statement, stated, assign, Body, Declaration, Process, Program}
 use Rattle.spl_parser.specs.Begun.{Begun, fresh, after_name, after_label}
-use Rattle.spl_parser.specs.Reading.{Reader, Level, formula}
+use Rattle.spl_parser.specs.Reading.{Reader, below}
 use Rattle.spl_parser.specs.Statements.{Lower, goes_on, front_place, statement_of, limited, body_of, inside}
 use Rattle.spl_parser.specs.Programs.{Limits, value_of, lower_of, variable_of, names_of, type_of, initial_of, declaration_of, declarations_of, Totals, totals, process_name, process, process_of, processes_of}
 use Rattle.spl_parser.specs.Grammar.{Inside, SpellsWithin, IsStatement, Low, IsBody, IsInitial, free, given as an_initial, IsDeclaration, declaration, Declarations, no_declarations, declaration_more, IsProcess, process as a_process, IsProgram, program}
@@ -65,3 +65,137 @@ module _ (value : Reader Expr) (V : List Lexeme → Expr → Type 0) (sv : Sound
     named = λ t ts x e l. assigned_from V (Low V (suc room)) t e ts x l;
     labels = λ t u ts x e f l. labelled_from V (Low V (suc room)) t u e f ts x l;
   }
+
+  -- a body, whatever the number of levels
+  pub body_in : (room n : ℕ) → Sound (body_of value (inside value may room) n) (λ ts y. IsBody V (Low V room) ts y.0)
+  body_in zero n = body_sound value V sv (inside value may zero) (Lowered V zero) (inside_sound zero) n
+  body_in (suc room) n = body_sound value V sv (inside value may (suc room)) (Lowered V (suc room)) (inside_sound (suc room)) n
+
+-- WHOLE PROGRAMS
+module _ (limit : Limits) where
+  abbrev pub Value : List Lexeme → Expr → Type 0
+  Value = SpellsWithin false limit.opened
+
+  abbrev pub Lows : Bool → List Lexeme → Statement → Type 0
+  Lows = Low Value (limit.round + 1)
+
+  pub value_sound : Sound (value_of limit) Value
+  unfolding value_of
+  value_sound s x rest h = expression_sound false (below false limit.opened) (Inside false limit.opened) (below_sound false limit.opened) s x rest h
+
+  -- DECLARATIONS
+  variable_at : (n : ℕ) (s : Stream) (x : Counted Label) (rest : Stream) (b : Bool) → b ≡ is_name (ahead s) → (c : Bool) → cond b (cond c (gives {X = Passed} (name_of s, n + 1) (behind s)) (Err (other (passed limits.Variables (place_of s))))) (Err (refusal s)) ≡ Ok (x, rest) → Cut (λ ts x. OneName ts x.0) s x rest
+  variable_at n s x rest false e c h = cc
+  variable_at n s x rest true e false h = cc
+  variable_at n (ends p) x rest true e true h = cc
+  variable_at n (breaks f) x rest true e true h = cc
+  variable_at n (more t s) x rest true e true h = taken {X = Passed} (λ ts (x : Counted Label). OneName ts x.0) (t ∷ []) (gives (label_of t, n + 1) s) (label_of t, n + 1) x s rest refl h (one_name t (sym e))
+
+  variable_sound : (n : ℕ) → Sound (variable_of limit n) (λ ts x. OneName ts x.0)
+  unfolding variable_of
+  variable_sound n s x rest h = variable_at n s x rest (is_name (ahead s)) refl (limit.variables n) h
+
+  names_sound : (n : ℕ) → Sound (names_of limit n) (λ ts xs. Row marks.Comma OneName ts xs.0)
+  unfolding names_of
+  names_sound n s xs rest h = row_sound marks.Comma (variable_of limit) OneName variable_sound n s xs rest h
+
+  data OneType : List Lexeme → Bool → Type 0 where
+    one_type : (t : Lexeme) (truth : Bool) → kind (sign_of t) ≡ Some truth → OneType (t ∷ []) truth
+
+  type_at : (s : Stream) (x : Bool) (rest : Stream) (c : Option Bool) → c ≡ kind (ahead s) → on_operator c (Err (refusal s)) (λ truth. gives {X = Passed} truth (behind s)) ≡ Ok (x, rest) → Cut OneType s x rest
+  type_at s x rest None e h = cc
+  type_at (ends p) x rest (Some truth) e h = cc
+  type_at (breaks f) x rest (Some truth) e h = cc
+  type_at (more t s) x rest (Some truth) e h = taken {X = Passed} OneType (t ∷ []) (gives truth s) truth x s rest refl h (one_type t truth (sym e))
+
+  type_sound : Sound (type_of limit) OneType
+  unfolding type_of
+  type_sound s x rest h = type_at s x rest (kind (ahead s)) refl h
+
+  from_where : (t : Lexeme) → Is marks.Where t → (ts : List Lexeme) (y : Option Expr) → Both Value (λ e. Given (Some e)) ts y → IsInitial Value Lows (t ∷ ts) y
+  from_where t e ts y (behind_it a b x z l given) = rw append-nil (an_initial t a x e l)
+
+  initial_at : (s : Stream) (y : Option Expr) (rest : Stream) (b : Bool) → b ≡ is (ahead s) marks.Where → cond b (then_reads (value_of limit) (λ e. gives (Some e)) (behind s)) (gives {X = Passed} None s) ≡ Ok (y, rest) → Cut (IsInitial Value Lows) s y rest
+  initial_at s y rest false e h = taken {X = Passed} (IsInitial Value Lows) [] (gives None s) None y s rest refl h free
+  initial_at (ends p) y rest true e h = cc
+  initial_at (breaks f) y rest true e h = cc
+  initial_at (more t s) y rest true e h =
+      let c = sound_bind (value_of limit) (λ e. gives (Some e)) Value (λ e. Given (Some e)) value_sound (λ e. sound_gives (Some e)) s y rest h in
+      record { text = t ∷ c.text; is = ap (more t) c.is; spells = from_where t (sym e) c.text y c.spells }
+
+  initial_sound : Sound (initial_of limit) (IsInitial Value Lows)
+  unfolding initial_of
+  initial_sound s y rest h = initial_at s y rest (is (ahead s) marks.Where) refl h
+
+  abbrev made : Bool → Counted (List Label) → Bool → Option Expr → Counted Declaration
+  made input names truth initial = (record { input = input; names = names.0; truth = truth; initial = initial }, names.1)
+
+  abbrev Declared : Bool → List Lexeme → Counted Declaration → Type 0
+  Declared input = Both (λ ts (names : Counted (List Label)). Row marks.Comma OneName ts names.0) (λ names. Both (OneMark marks.Colon) (λ m. Both OneType (λ truth. Both (IsInitial Value Lows) (λ initial. Both (OneMark marks.Semicolon) (λ z. Given (made input names truth initial))))))
+
+  declared_sound : (input : Bool) (n : ℕ) → Sound (declaration_of limit input n) (Declared input)
+  unfolding declaration_of
+  declared_sound input n =
+      sound_bind (names_of limit n) (λ names. then_reads (expected marks.Colon) (λ m. then_reads (type_of limit) (λ truth. then_reads (initial_of limit) (λ initial. then_reads (expected marks.Semicolon) (λ z. gives (made input names truth initial)))))) (λ ts names. Row marks.Comma OneName ts names.0) (λ names. Both (OneMark marks.Colon) (λ m. Both OneType (λ truth. Both (IsInitial Value Lows) (λ initial. Both (OneMark marks.Semicolon) (λ z. Given (made input names truth initial)))))) (names_sound n)
+      (λ names. sound_bind (expected marks.Colon) (λ m. then_reads (type_of limit) (λ truth. then_reads (initial_of limit) (λ initial. then_reads (expected marks.Semicolon) (λ z. gives (made input names truth initial))))) (OneMark marks.Colon) (λ m. Both OneType (λ truth. Both (IsInitial Value Lows) (λ initial. Both (OneMark marks.Semicolon) (λ z. Given (made input names truth initial))))) (sound_expected marks.Colon)
+      (λ m. sound_bind (type_of limit) (λ truth. then_reads (initial_of limit) (λ initial. then_reads (expected marks.Semicolon) (λ z. gives (made input names truth initial)))) OneType (λ truth. Both (IsInitial Value Lows) (λ initial. Both (OneMark marks.Semicolon) (λ z. Given (made input names truth initial)))) type_sound
+      (λ truth. sound_bind (initial_of limit) (λ initial. then_reads (expected marks.Semicolon) (λ z. gives (made input names truth initial))) (IsInitial Value Lows) (λ initial. Both (OneMark marks.Semicolon) (λ z. Given (made input names truth initial))) initial_sound
+      (λ initial. sound_bind (expected marks.Semicolon) (λ z. gives (made input names truth initial)) (OneMark marks.Semicolon) (λ z. Given (made input names truth initial)) (sound_expected marks.Semicolon) (λ z. sound_gives (made input names truth initial))))))
+
+  from_declared : (t : Lexeme) (input : Bool) → mode (sign_of t) ≡ Some input → (ts : List Lexeme) (y : Counted Declaration) → Declared input ts y → IsDeclaration Value Lows (t ∷ ts) y.0
+  from_declared t input e ts y (behind_it a1 b1 names z1 rows (behind_it a2 b2 m2 z2 (one_mark u h2) (behind_it a3 b3 truth3 z3 (one_type v truth h3) (behind_it a4 b4 initial z4 first (behind_it a5 b5 m5 z5 (one_mark w h5) given))))) =
+      declaration t u v w a1 a4 input truth names.0 initial e rows h2 h3 first h5
+
+  -- a declaration with its mode, of which that is the first token
+  Behind_mode : Bool → Lexeme → List Lexeme → Declaration → Type 0
+  Behind_mode input t ts d = mode (sign_of t) ≡ Some input → IsDeclaration Value Lows (t ∷ ts) d
+
+  behind_mode : (input : Bool) (n : ℕ) (t : Lexeme) → Sound (declaration_of limit input n) (λ ts d. Behind_mode input t ts d.0)
+  unfolding Behind_mode
+  behind_mode input n t = sound_as (declaration_of limit input n) (Declared input) (λ ts d. Behind_mode input t ts d.0) (λ ts y l e. from_declared t input e ts y l) (declared_sound input n)
+
+  from_steps : (ts : List Lexeme) (ds : List Declaration) → Steps mode Behind_mode ts ds → Declarations Value Lows ts ds
+  unfolding Behind_mode
+  from_steps ts ds no_steps = no_declarations
+  from_steps ts ds (a_step t input a b d es e l rest) = declaration_more (t ∷ a) b d es (l e) (from_steps b es rest)
+
+  pub declarations_sound : (n : ℕ) → Sound (declarations_of limit n) (λ ts ds. Declarations Value Lows ts ds.0)
+  unfolding declarations_of
+  declarations_sound n s ds rest h =
+      let c = counting_sound mode refl (declaration_of limit) Behind_mode (λ input n t. behind_mode input n t) (size s) ([], n) s ds rest h in
+      record { text = c.text; is = c.is; spells = subst (Declarations Value Lows c.text) (sym c.spells.joined) (from_steps c.text c.spells.more_items c.spells.spells) }
+
+  -- PROCESSES
+  process_name_at : (n : ℕ) (s : Stream) (x : Label) (rest : Stream) (b : Bool) → b ≡ is_name (ahead s) → (c : Bool) → cond b (cond c (gives {X = Passed} (name_of s) (behind s)) (Err (other (passed limits.Processes (place_of s))))) (Err (refusal s)) ≡ Ok (x, rest) → Cut OneName s x rest
+  process_name_at n s x rest false e c h = cc
+  process_name_at n s x rest true e false h = cc
+  process_name_at n (ends p) x rest true e true h = cc
+  process_name_at n (breaks f) x rest true e true h = cc
+  process_name_at n (more t s) x rest true e true h = taken {X = Passed} OneName (t ∷ []) (gives (label_of t) s) (label_of t) x s rest refl h (one_name t (sym e))
+
+  process_name_sound : (n : ℕ) → Sound (process_name limit n) OneName
+  unfolding process_name
+  process_name_sound n s x rest h = process_name_at n s x rest (is_name (ahead s)) refl (limit.processes n) h
+
+  abbrev Headed : Totals → List Lexeme → Carried Totals Process → Type 0
+  Headed t = Both OneName (λ name. Both (OneMark marks.Colons) (λ m. Both (OneMark marks.OpenBlock) (λ k. Both (λ ts (ds : Counted (List Declaration)). Declarations Value Lows ts ds.0) (λ ds. Both (λ ts (b : Counted Body). IsBody Value Lows ts b.0) (λ b. Given (process t name ds b))))))
+
+  headed_sound : (t : Totals) → Sound (process_of limit t) (Headed t)
+  unfolding process_of
+  headed_sound t =
+      sound_bind (process_name limit t.processes) (λ name. then_reads (expected marks.Colons) (λ m. then_reads (expected marks.OpenBlock) (λ m. then_reads (declarations_of limit t.variables) (λ ds. then_reads (body_of (value_of limit) (lower_of limit (limit.round + 1)) t.statements) (λ b. gives (process t name ds b)))))) OneName (λ name. Both (OneMark marks.Colons) (λ m. Both (OneMark marks.OpenBlock) (λ k. Both (λ ts ds. Declarations Value Lows ts ds.0) (λ ds. Both (λ ts b. IsBody Value Lows ts b.0) (λ b. Given (process t name ds b)))))) (process_name_sound t.processes)
+      (λ name. sound_bind (expected marks.Colons) (λ m. then_reads (expected marks.OpenBlock) (λ m. then_reads (declarations_of limit t.variables) (λ ds. then_reads (body_of (value_of limit) (lower_of limit (limit.round + 1)) t.statements) (λ b. gives (process t name ds b))))) (OneMark marks.Colons) (λ m. Both (OneMark marks.OpenBlock) (λ k. Both (λ ts ds. Declarations Value Lows ts ds.0) (λ ds. Both (λ ts b. IsBody Value Lows ts b.0) (λ b. Given (process t name ds b))))) (sound_expected marks.Colons)
+      (λ m. sound_bind (expected marks.OpenBlock) (λ m. then_reads (declarations_of limit t.variables) (λ ds. then_reads (body_of (value_of limit) (lower_of limit (limit.round + 1)) t.statements) (λ b. gives (process t name ds b)))) (OneMark marks.OpenBlock) (λ k. Both (λ ts ds. Declarations Value Lows ts ds.0) (λ ds. Both (λ ts b. IsBody Value Lows ts b.0) (λ b. Given (process t name ds b)))) (sound_expected marks.OpenBlock)
+      (λ k. sound_bind (declarations_of limit t.variables) (λ ds. then_reads (body_of (value_of limit) (lower_of limit (limit.round + 1)) t.statements) (λ b. gives (process t name ds b))) (λ ts ds. Declarations Value Lows ts ds.0) (λ ds. Both (λ ts b. IsBody Value Lows ts b.0) (λ b. Given (process t name ds b))) (declarations_sound t.variables)
+      (λ ds. sound_bind (body_of (value_of limit) (lower_of limit (limit.round + 1)) t.statements) (λ b. gives (process t name ds b)) (λ ts b. IsBody Value Lows ts b.0) (λ b. Given (process t name ds b)) (body_in (value_of limit) Value value_sound limit.statements (limit.round + 1) t.statements) (λ b. sound_gives (process t name ds b))))))
+
+  from_headed : (t : Totals) (ts : List Lexeme) (y : Carried Totals Process) → Headed t ts y → IsProcess Value Lows ts y.0
+  from_headed t ts y (behind_it a1 b1 name z1 (one_name n h1) (behind_it a2 b2 m2 z2 (one_mark u h2) (behind_it a3 b3 m3 z3 (one_mark v h3) (behind_it a4 b4 ds z4 heads (behind_it a5 b5 x z5 l given))))) =
+      rw append-nil (a_process n u v a4 a5 ds.0 x.0 h1 h2 h3 heads l)
+
+  pub process_sound : (t : Totals) → Sound (process_of limit t) (λ ts p. IsProcess Value Lows ts p.0)
+  process_sound t = sound_as (process_of limit t) (Headed t) (λ ts p. IsProcess Value Lows ts p.0) (from_headed t) (headed_sound t)
+
+  pub processes_sound : (t : Totals) → Sound (processes_of limit t) (λ ts ps. Row marks.Bars (IsProcess Value Lows) ts ps.0)
+  unfolding processes_of
+  processes_sound t s ps rest h = row_sound marks.Bars (process_of limit) (IsProcess Value Lows) process_sound t s ps rest h

@@ -16,3 +16,4 @@ pub mod BodyLaw
 pub mod WholeLaw
 pub mod Completing
 pub mod InsideLaw
+pub mod LevelLaw

@@ -77,7 +77,7 @@ module _ (limit : Limits) where
   Value = SpellsWithin false limit.opened
 
   abbrev pub Lows : Bool → List Lexeme → Statement → Type 0
-  Lows = Low Value (limit.round + 1)
+  Lows = Low Value (suc limit.round)
 
   pub value_sound : Sound (value_of limit) Value
   unfolding value_of
@@ -183,11 +183,11 @@ module _ (limit : Limits) where
   headed_sound : (t : Totals) → Sound (process_of limit t) (Headed t)
   unfolding process_of
   headed_sound t =
-      sound_bind (process_name limit t.processes) (λ name. then_reads (expected marks.Colons) (λ m. then_reads (expected marks.OpenBlock) (λ m. then_reads (declarations_of limit t.variables) (λ ds. then_reads (body_of (value_of limit) (lower_of limit (limit.round + 1)) t.statements) (λ b. gives (process t name ds b)))))) OneName (λ name. Both (OneMark marks.Colons) (λ m. Both (OneMark marks.OpenBlock) (λ k. Both (λ ts ds. Declarations Value Lows ts ds.0) (λ ds. Both (λ ts b. IsBody Value Lows ts b.0) (λ b. Given (process t name ds b)))))) (process_name_sound t.processes)
-      (λ name. sound_bind (expected marks.Colons) (λ m. then_reads (expected marks.OpenBlock) (λ m. then_reads (declarations_of limit t.variables) (λ ds. then_reads (body_of (value_of limit) (lower_of limit (limit.round + 1)) t.statements) (λ b. gives (process t name ds b))))) (OneMark marks.Colons) (λ m. Both (OneMark marks.OpenBlock) (λ k. Both (λ ts ds. Declarations Value Lows ts ds.0) (λ ds. Both (λ ts b. IsBody Value Lows ts b.0) (λ b. Given (process t name ds b))))) (sound_expected marks.Colons)
-      (λ m. sound_bind (expected marks.OpenBlock) (λ m. then_reads (declarations_of limit t.variables) (λ ds. then_reads (body_of (value_of limit) (lower_of limit (limit.round + 1)) t.statements) (λ b. gives (process t name ds b)))) (OneMark marks.OpenBlock) (λ k. Both (λ ts ds. Declarations Value Lows ts ds.0) (λ ds. Both (λ ts b. IsBody Value Lows ts b.0) (λ b. Given (process t name ds b)))) (sound_expected marks.OpenBlock)
-      (λ k. sound_bind (declarations_of limit t.variables) (λ ds. then_reads (body_of (value_of limit) (lower_of limit (limit.round + 1)) t.statements) (λ b. gives (process t name ds b))) (λ ts ds. Declarations Value Lows ts ds.0) (λ ds. Both (λ ts b. IsBody Value Lows ts b.0) (λ b. Given (process t name ds b))) (declarations_sound t.variables)
-      (λ ds. sound_bind (body_of (value_of limit) (lower_of limit (limit.round + 1)) t.statements) (λ b. gives (process t name ds b)) (λ ts b. IsBody Value Lows ts b.0) (λ b. Given (process t name ds b)) (body_in (value_of limit) Value value_sound limit.statements (limit.round + 1) t.statements) (λ b. sound_gives (process t name ds b))))))
+      sound_bind (process_name limit t.processes) (λ name. then_reads (expected marks.Colons) (λ m. then_reads (expected marks.OpenBlock) (λ m. then_reads (declarations_of limit t.variables) (λ ds. then_reads (body_of (value_of limit) (lower_of limit (suc limit.round)) t.statements) (λ b. gives (process t name ds b)))))) OneName (λ name. Both (OneMark marks.Colons) (λ m. Both (OneMark marks.OpenBlock) (λ k. Both (λ ts ds. Declarations Value Lows ts ds.0) (λ ds. Both (λ ts b. IsBody Value Lows ts b.0) (λ b. Given (process t name ds b)))))) (process_name_sound t.processes)
+      (λ name. sound_bind (expected marks.Colons) (λ m. then_reads (expected marks.OpenBlock) (λ m. then_reads (declarations_of limit t.variables) (λ ds. then_reads (body_of (value_of limit) (lower_of limit (suc limit.round)) t.statements) (λ b. gives (process t name ds b))))) (OneMark marks.Colons) (λ m. Both (OneMark marks.OpenBlock) (λ k. Both (λ ts ds. Declarations Value Lows ts ds.0) (λ ds. Both (λ ts b. IsBody Value Lows ts b.0) (λ b. Given (process t name ds b))))) (sound_expected marks.Colons)
+      (λ m. sound_bind (expected marks.OpenBlock) (λ m. then_reads (declarations_of limit t.variables) (λ ds. then_reads (body_of (value_of limit) (lower_of limit (suc limit.round)) t.statements) (λ b. gives (process t name ds b)))) (OneMark marks.OpenBlock) (λ k. Both (λ ts ds. Declarations Value Lows ts ds.0) (λ ds. Both (λ ts b. IsBody Value Lows ts b.0) (λ b. Given (process t name ds b)))) (sound_expected marks.OpenBlock)
+      (λ k. sound_bind (declarations_of limit t.variables) (λ ds. then_reads (body_of (value_of limit) (lower_of limit (suc limit.round)) t.statements) (λ b. gives (process t name ds b))) (λ ts ds. Declarations Value Lows ts ds.0) (λ ds. Both (λ ts b. IsBody Value Lows ts b.0) (λ b. Given (process t name ds b))) (declarations_sound t.variables)
+      (λ ds. sound_bind (body_of (value_of limit) (lower_of limit (suc limit.round)) t.statements) (λ b. gives (process t name ds b)) (λ ts b. IsBody Value Lows ts b.0) (λ b. Given (process t name ds b)) (body_in (value_of limit) Value value_sound limit.statements (suc limit.round) t.statements) (λ b. sound_gives (process t name ds b))))))
 
   from_headed : (t : Totals) (ts : List Lexeme) (y : Carried Totals Process) → Headed t ts y → IsProcess Value Lows ts y.0
   from_headed t ts y (behind_it a1 b1 name z1 (one_name n h1) (behind_it a2 b2 m2 z2 (one_mark u h2) (behind_it a3 b3 m3 z3 (one_mark v h3) (behind_it a4 b4 ds z4 heads (behind_it a5 b5 x z5 l given))))) =

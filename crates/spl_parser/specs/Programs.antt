@@ -1,11 +1,11 @@
 -- How a whole program is read.
-use Rattle.std.specs.Prelude.{ℕ, ◌+◌, Bool, true, false, cond, List, [], ◌∷◌, ◌++◌, length, Option, Some, None, Ok, Err, nat_lt}
+use Rattle.std.specs.Prelude.{ℕ, suc, ◌+◌, Bool, true, false, cond, List, [], ◌∷◌, ◌++◌, length, Option, Some, None, Ok, Err, nat_lt}
 use Rattle.st_tokens.specs.declared.limit.LimitKind.TheVariants as limits
 use Rattle.st_tokens.specs.Stream.{Stream, ends, breaks, more, behind, text_stream}
 use Rattle.st_reading.specs.declared.mark.Mark.TheVariants as marks
 use Rattle.st_reading.specs.Sign.{is}
 use Rattle.st_reading.specs.Faults.{Passed, passed}
-use Rattle.st_reading.specs.Reading.{other, Read, Label, ahead, place_of, name_of, is_name, refusal, expected, gives, then_reads, Turn, leaves, goes, on_operator, chain, size, only, Counted, counting, linked, Carried}
+use Rattle.st_reading.specs.Reading.{other, Read, Label, ahead, place_of, name_of, is_name, refusal, expected, gives, then_reads, Turn, leaves, goes, on_operator, chain, size, only, Counted, counting, linked, Carried, whole}
 use Rattle.spl_parser.specs.Signs.{mode, kind}
 use Rattle.spl_parser.specs.ExpressionTree.{Expr}
 use Rattle.spl_parser.specs.ProgramTree.{Body, Declaration, Process, Program}
@@ -75,22 +75,20 @@ module _ (limit : Limits) where
   -- name "::" "[" { decl } sequence [ ";" name ":" ] "]"
   unfoldable pub process_of : Totals → Reader (Carried Totals Process)
   process_of t s =
-      then_reads (process_name t.processes) (λ name. then_reads (expected marks.Colons) (λ m. then_reads (expected marks.OpenBlock) (λ m. then_reads (declarations_of t.variables) (λ ds. then_reads (body_of value_of (lower_of (limit.round + 1)) t.statements)
+      then_reads (process_name t.processes) (λ name. then_reads (expected marks.Colons) (λ m. then_reads (expected marks.OpenBlock) (λ m. then_reads (declarations_of t.variables) (λ ds. then_reads (body_of value_of (lower_of (suc limit.round)) t.statements)
       (λ b. gives (process t name ds b)))))) s
 
   -- process { "||" process }
   unfoldable pub processes_of : Totals → Reader (Carried Totals (List Process))
   processes_of t s = then_reads (process_of t) (λ x. linked marks.Bars process_of (x.0 ∷ [], x.1)) s
 
-  -- the text ends
-  unfoldable pub at_end : Reader (Unit {0})
-  at_end (ends place) = Ok (tt, ends place)
-  at_end (breaks f) = Err (refusal (breaks f))
-  at_end (more t s) = Err (refusal (more t s))
+  -- { decl } process { "||" process }
+  unfoldable pub spelled_of : Reader Program
+  spelled_of s = then_reads (declarations_of 0) (λ ds. then_reads (processes_of (totals 0 ds.1 0)) (λ ps. gives (record { declarations = ds.0; processes = ps.0 }))) s
 
-  -- { decl } process { "||" process }, and nothing behind it
+  -- and nothing behind it
   unfoldable pub program_of : Reader Program
-  program_of s = then_reads (declarations_of 0) (λ ds. then_reads (processes_of (totals 0 ds.1 0)) (λ ps. then_reads at_end (λ e. gives (record { declarations = ds.0; processes = ps.0 })))) s
+  program_of s = whole spelled_of s
 
 -- the limits of programs
 abbrev pub usual : Limits

@@ -6,7 +6,7 @@ ghost use Rattle.st_reading.specs.declared.mark.Mark.TheVariants as marks;
 ghost use Rattle.st_reading.specs.Reading.{Reads, size, linked};
 ghost use Rattle.st_reading.specs.Faults.{see, name_view};
 ghost use Rattle.spl_parser.specs.ProgramTree.{process_view, process_views, program_view};
-ghost use Rattle.spl_parser.specs.Programs.{totals, process_name, process_of, processes_of, at_end, program_of, usual};
+ghost use Rattle.spl_parser.specs.Programs.{totals, process_name, process_of, processes_of, program_of, usual};
 ghost use Rattle.spl_parser.specs.Parsing.{Parses, parsed};
 
 use crate::declaration::declarations;
@@ -14,7 +14,7 @@ use crate::limits::{PROCESSES, ROUND};
 use crate::raw::{RawProcess, RawProgram};
 use crate::statement::body;
 use st_reading::{
-    Mark, ParseFault, RawName, advance, ahead, expect, is, is_name, name_ahead, place_of, refusal,
+    Mark, ParseFault, RawName, advance, ahead, at_end, expect, is, is_name, name_ahead, place_of, refusal,
 };
 use st_tokens::{LimitKind, Tokens};
 use std::alloc::Global;
@@ -96,21 +96,9 @@ fn processes<'a>(
     further_processes(alloc, processes, variables, statements, tokens)
 }
 
-/// The end of the text.
-#[tactic(auto, unfolding(crate::specs::Programs::at_end))]
-fn at_end(tokens: &mut Tokens) -> Result<(), ParseFault>
-    ensures reads { Reads see (λ x. x) result (stream tokens.new) (at_end usual (stream tokens.old)) }
-    ensures shrinks { size (stream tokens.new) ≤ size (stream tokens.old) }
-{
-    match tokens.peek() {
-        Ok(None) => Ok(()),
-        _ => Err(refusal(tokens)),
-    }
-}
-
 /// Reads a program. The first fault in the order of the text is answered; at one place a token fault comes before
 /// `Syntax`, and that before `Limit`.
-#[tactic(auto, unfolding(crate::specs::Programs::program_of))]
+#[tactic(auto, unfolding(crate::specs::Programs::program_of, crate::specs::Programs::spelled_of))]
 pub fn parse_program<'a>(alloc: Global, text: &'a [u8]) -> Result<RawProgram<'a>, ParseFault>
     ensures reads { Parses program_view result (parsed text.now) }
 {

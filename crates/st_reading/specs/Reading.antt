@@ -130,6 +130,16 @@ linked mark r xs s = chain (only mark) (counting (λ o. r)) gives (size s) xs s
 abbrev pub Counted : Type 0 → Type 0
 Counted A = Carried ℕ A
 
+-- the text ends
+unfoldable pub at_end : {X : Type 0} → Stream → Read X (Unit {0})
+at_end (ends place) = Ok (tt, ends place)
+at_end (breaks f) = Err (refusal (breaks f))
+at_end (more t s) = Err (refusal (more t s))
+
+-- a reader, and nothing behind it
+abbrev pub whole : {X A : Type 0} → (Stream → Read X A) → Stream → Read X A
+whole r = then_reads r (λ x. then_reads at_end (λ e. gives x))
+
 -- Want of memory, which `see` doesn't see, is free; any other fault is that of the reading.
 abbrev pub IsStop : {X Y : Type 0} → Option (Stop X) → Result Y (Stop X) → Type 0
 IsStop None read = Unit {0}

@@ -7,6 +7,6 @@ mod mark;
 mod sign;
 
 pub use fault::ParseFault;
-pub use looking::{RawName, advance, ahead, expect, name, name_ahead, place_of, refusal};
+pub use looking::{RawName, advance, ahead, at_end, expect, name, name_ahead, place_of, refusal};
 pub use mark::{Mark, same};
 pub use sign::{Sign, is, is_name, sign_of};

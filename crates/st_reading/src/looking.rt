@@ -2,7 +2,7 @@
 
 ghost use Rattle.std.specs.Prelude.{◌≡◌, ◌≤◌};
 ghost use Rattle.st_tokens.specs.Stream.{stream, behind};
-ghost use Rattle.st_reading.specs.Reading.{ahead, place_of, refusal, name_of, expected, named, size, Reads};
+ghost use Rattle.st_reading.specs.Reading.{ahead, place_of, refusal, name_of, expected, named, at_end, size, Reads};
 ghost use Rattle.st_reading.specs.Faults.{see, name_view, IsRefusal};
 
 use crate::fault::ParseFault;
@@ -97,6 +97,18 @@ pub fn name<'a>(tokens: &mut Tokens<'a>) -> Result<RawName<'a>, ParseFault>
             advance(tokens);
             Ok(name)
         }
+        _ => Err(refusal(tokens)),
+    }
+}
+
+/// The end of the text.
+#[tactic(auto, unfolding(crate::specs::Reading::at_end))]
+pub fn at_end(tokens: &mut Tokens) -> Result<(), ParseFault>
+    ensures reads { Reads see (λ x. x) result (stream tokens.new) (at_end (stream tokens.old)) }
+    ensures shrinks { size (stream tokens.new) ≤ size (stream tokens.old) }
+{
+    match tokens.peek() {
+        Ok(None) => Ok(()),
         _ => Err(refusal(tokens)),
     }
 }

@@ -117,7 +117,7 @@ module _ {I : Type 0} (value : Reader Expr) (values : I → Reader Expr)
       lawful_bind in_body anything in_body in_body (any_of in_body) (expected marks.CloseBlock) (λ i. expected marks.CloseBlock) (λ m. gives (body (statements xs.0) None, xs.1)) (λ i m. gives (body (statements xs.0) None, xs.1))
       (λ m. wider (same in_body)) (wider (same in_body)) (calmer (any_of in_body)) (lawful_mark marks.CloseBlock close_block_mark in_body refl) (λ m. lawful_gives in_body in_body (body (statements xs.0) None, xs.1))
 
-  lawful_rest_of_body : (xs : Counted (List Statement)) → Lawful in_body in_body (rest_of_body value lower xs) (λ i. rest_of_body (values i) (lowers i) xs)
+  pub lawful_rest_of_body : (xs : Counted (List Statement)) → Lawful in_body in_body (rest_of_body value lower xs) (λ i. rest_of_body (values i) (lowers i) xs)
   lawful_rest_of_body xs =
       lawful_chain in_body in_body calm (same in_body) (but_calm marks.Semicolon) (only marks.Semicolon) (but_none marks.Semicolon) refl (continuing value lower) (λ i. continuing (values i) (lowers i)) closed_body (λ i. closed_body)
       lawful_continuing lawful_closed_body xs

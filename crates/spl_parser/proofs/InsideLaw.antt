@@ -72,12 +72,16 @@ module _ (value : Reader Expr) (vv : Viable calm calm value []) where
   unfolding assigned_of right_side_of
   assigned_on l n t after h = rw h refl
 
-  pub inside_completes : (room : ℕ) (b : Begun) (n : ℕ) → Viable calm calm (inside value unlimited (suc room) b n) []
-  unfolding statement_of assigned_of
-  inside_completes room (fresh inner) n =
-      completes_behind calm calm calm (inside value unlimited (suc room) (fresh inner) n) (gives (stated None skip_mark.token.start skip, n + 1)) skip_mark.token skip_calm
+  -- the "skip" is all that is asked of what may begin
+  pub fresh_completes : (set : Sign → Bool) → set (sign_of skip_mark.token) ≡ true → (room : ℕ) (inner : Bool) (n : ℕ) → Viable set calm (inside value unlimited (suc room) (fresh inner) n) []
+  fresh_completes set h room inner n =
+      completes_behind set calm calm (inside value unlimited (suc room) (fresh inner) n) (gives (stated None skip_mark.token.start skip, n + 1)) skip_mark.token h
       (λ after. on_token room (fresh inner) n skip_mark.token after (ap (begins inner) skip_starts ∙ begins_skip inner) ∙ statement_skip (inside value unlimited room) inner (n + 1) after)
       (completes_gives calm calm (same calm) (stated None skip_mark.token.start skip, n + 1))
+
+  pub inside_completes : (room : ℕ) (b : Begun) (n : ℕ) → Viable calm calm (inside value unlimited (suc room) b n) []
+  unfolding statement_of assigned_of
+  inside_completes room (fresh inner) n = fresh_completes calm skip_calm room inner n
   inside_completes room (after_label l) n =
       completes_behind calm calm calm (inside value unlimited (suc room) (after_label l) n) (gives (stated (Some l) skip_mark.token.start skip, n + 1)) skip_mark.token skip_calm
       (λ after. on_token room (after_label l) n skip_mark.token after (ap (begins false) skip_starts) ∙ bare_skip (inside value unlimited room) false (Some l) (n + 1) after)

@@ -17,3 +17,4 @@ pub mod WholeLaw
 pub mod Completing
 pub mod InsideLaw
 pub mod LevelLaw
+pub mod ProgramLaw

@@ -84,7 +84,7 @@ pub zero_calm : calm (sign_of zero_token) ≡ true
 unfolding zero_token calm
 zero_calm = refl
 
-and_parts : (a b : Bool) → a && b ≡ true → (a ≡ true) × (b ≡ true)
+pub and_parts : (a b : Bool) → a && b ≡ true → (a ≡ true) × (b ≡ true)
 and_parts true b h = (refl, h)
 and_parts false b h = cc
 

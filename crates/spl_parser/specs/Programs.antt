@@ -1,5 +1,6 @@
 -- How a whole program is read.
 use Rattle.std.specs.Prelude.{ℕ, suc, ◌+◌, Bool, true, false, cond, List, [], ◌∷◌, ◌++◌, length, Option, Some, None, Ok, Err, nat_lt}
+use Rattle.st_tokens.specs.declared.limit.LimitKind.{LimitKind}
 use Rattle.st_tokens.specs.declared.limit.LimitKind.TheVariants as limits
 use Rattle.st_tokens.specs.Stream.{Stream, ends, breaks, more, behind, text_stream}
 use Rattle.st_reading.specs.declared.mark.Mark.TheVariants as marks
@@ -34,6 +35,10 @@ totals p v n = record { processes = p; variables = v; statements = n }
 abbrev pub process : Totals → Label → Counted (List Declaration) → Counted Body → Carried Totals Process
 process t name ds b = (record { name = name; declarations = ds.0; body = b.0 }, totals (t.processes + 1) ds.1 b.1)
 
+-- a name, seen by f, if one more may be named
+abbrev pub limited_name : {A : Type 0} → LimitKind → Bool → (Label → A) → Reader A
+limited_name limited may f s = cond (is_name (ahead s)) (cond may (Ok (f (name_of s), behind s)) (Err (other (passed limited (place_of s))))) (Err (refusal s))
+
 module _ (limit : Limits) where
   unfoldable pub value_of : Reader Expr
   value_of s = expression_of false (below false limit.opened) s
@@ -44,7 +49,7 @@ module _ (limit : Limits) where
 
   -- a declared name, where n were declared before
   unfoldable pub variable_of : ℕ → Reader (Counted Label)
-  variable_of n s = cond (is_name (ahead s)) (cond (limit.variables n) (Ok ((name_of s, n + 1), behind s)) (Err (other (passed limits.Variables (place_of s))))) (Err (refusal s))
+  variable_of n s = limited_name limits.Variables (limit.variables n) (λ l. (l, n + 1)) s
 
   -- name { "," name }
   unfoldable pub names_of : ℕ → Reader (Counted (List Label))
@@ -70,7 +75,7 @@ module _ (limit : Limits) where
 
   -- a process's name, where n processes were read before
   unfoldable pub process_name : ℕ → Reader Label
-  process_name n s = cond (is_name (ahead s)) (cond (limit.processes n) (Ok (name_of s, behind s)) (Err (other (passed limits.Processes (place_of s))))) (Err (refusal s))
+  process_name n s = limited_name limits.Processes (limit.processes n) (λ l. l) s
 
   -- name "::" "[" { decl } sequence [ ";" name ":" ] "]"
   unfoldable pub process_of : Totals → Reader (Carried Totals Process)

@@ -117,6 +117,9 @@ unfolding number
 integer_is = ap kind integer_mark.sign
 
 -- THE READERS OF PROGRAMS, BESIDE THOSE WITHIN LARGER LIMITS
+abbrev made_of : Counted (List Declaration) → Carried Totals (List Process) → Program
+made_of ds ps = record { declarations = ds.0; processes = ps.0 }
+
 module _ (limit : Limits) where
   lawful_value : Lawful calm calm (value_of limit) (λ i. value_of (beyond limit i))
   unfolding value_of
@@ -218,3 +221,135 @@ module _ (limit : Limits) where
           lawful_weak calm anything anything (any_of calm) (counting (declaration_of limit) input place ds) (λ i. counting (declaration_of (beyond limit i)) input place ds)
           (lawful_bind calm anything anything anything (same anything) (declaration_of limit input ds.1) (λ i. declaration_of (beyond limit i) input ds.1) (λ d. gives (goes (ds.0 ++ d.0 ∷ [], d.1))) (λ i d. gives (goes (ds.0 ++ d.0 ∷ [], d.1)))
           (λ d. wider (same anything)) (moves refl (syntax 0) (declaration_ends input ds.1)) (calmer (same anything)) (lawful_declaration input ds.1) (λ d. lawful_gives anything anything (goes (ds.0 ++ d.0 ∷ [], d.1))))
+
+  -- PROCESSES
+  abbrev room : ℕ
+  room = suc limit.round
+
+  lawful_lower : (b : Begun) (n : ℕ) → Lawful calm calm (lower_of limit room b n) (λ i. lower_of (beyond limit i) (suc (deeper limit.round i)) b n)
+  lawful_lower b n = lawful_inside (value_of limit) (λ i. value_of (beyond limit i)) lawful_value value_ends (Value limit) (value_sound limit) (λ i. Value (beyond limit i)) (λ i. value_sound (beyond limit i)) limit.statements room b n
+
+  lower_ends : (b : Begun) (n : ℕ) → lower_of limit room b n (ends 0) ≡ Err (syntax 0)
+  lower_ends b n = inside_ends (value_of limit) limit.statements room b n
+
+  abbrev lower : ℕ → Reader (Counted Statement)
+  lower n = lower_of limit room (fresh false) n
+
+  abbrev lowers : ℕ → ℕ → Reader (Counted Statement)
+  lowers i n = lower_of (beyond limit i) (suc (deeper limit.round i)) (fresh false) n
+
+  -- the first statement, which no declaration begins
+  lawful_first : (n : ℕ) → Lawful no_mode calm (lower n) (λ i. lowers i n)
+  lawful_first n = record {
+    law = λ s. at_head no_mode calm calm quiet (lower n) (lower n) (λ i. lowers i n) (λ i. lowers i n) s (λ after h. refl) (λ i after h. refl) (syntax 0) (lower_ends (fresh false) n)
+        (λ i. fresh_completes (value_of (beyond limit i)) (viable_of calm calm (value_of limit) (wider (same calm)) (λ i. value_of (beyond limit i)) lawful_value i) no_mode skip_in (deeper limit.round i) false n) ((lawful_lower (fresh false) n).law s);
+    one = (lawful_lower (fresh false) n).one;
+    each = (lawful_lower (fresh false) n).each;
+  }
+
+  abbrev body : ℕ → Reader (Counted Body)
+  body n = body_of (value_of limit) (lower_of limit room) n
+
+  abbrev bodys : ℕ → ℕ → Reader (Counted Body)
+  bodys i n = body_of (value_of (beyond limit i)) (lower_of (beyond limit i) (suc (deeper limit.round i))) n
+
+  lawful_process_body : (n : ℕ) → Lawful no_mode in_body (body n) (λ i. bodys i n)
+  unfolding body_of
+  lawful_process_body n =
+      lawful_bind no_mode calm in_body in_body (but_calm marks.Semicolon) (lower n) (λ i. lowers i n) (λ x. rest_of_body (value_of limit) (lower_of limit room) (x.0 ∷ [], x.1)) (λ i x. rest_of_body (value_of (beyond limit i)) (lower_of (beyond limit i) (suc (deeper limit.round i))) (x.0 ∷ [], x.1))
+      (λ x. wider (same in_body)) (moves quiet (syntax 0) (lower_ends (fresh false) n)) (calmer (but_calm marks.Semicolon)) (lawful_first n)
+      (λ x. lawful_rest_of_body (value_of limit) (λ i. value_of (beyond limit i)) (lower_of limit room) (λ i. lower_of (beyond limit i) (suc (deeper limit.round i))) lawful_lower lower_ends (x.0 ∷ [], x.1))
+
+  body_ends : (n : ℕ) → body n (ends 0) ≡ Err (syntax 0)
+  unfolding body_of
+  body_ends n = rw (lower_ends (fresh false) n) refl
+
+  quiet_body : in_body signs.Nothing ≡ true
+  unfolding calm calm_but
+  quiet_body = refl
+
+  abbrev bodied : Totals → Label → Counted (List Declaration) → Reader (Carried Totals Process)
+  bodied t name ds = then_reads (body t.statements) (λ b. gives (process t name ds b))
+
+  abbrev bodieds : ℕ → Totals → Label → Counted (List Declaration) → Reader (Carried Totals Process)
+  bodieds i t name ds = then_reads (bodys i t.statements) (λ b. gives (process t name ds b))
+
+  bodied_ends : (t : Totals) (name : Label) (ds : Counted (List Declaration)) → bodied t name ds (ends 0) ≡ Err (syntax 0)
+  bodied_ends t name ds = rw (body_ends t.statements) refl
+
+  lawful_bodied : (t : Totals) (name : Label) (ds : Counted (List Declaration)) → Lawful no_mode in_body (bodied t name ds) (λ i. bodieds i t name ds)
+  lawful_bodied t name ds =
+      lawful_bind no_mode in_body in_body in_body (same in_body) (body t.statements) (λ i. bodys i t.statements) (λ b. gives (process t name ds b)) (λ i b. gives (process t name ds b)) (λ b. wider (same in_body)) (moves quiet_body (syntax 0) (body_ends t.statements)) (calmer (same in_body)) (lawful_process_body t.statements)
+      (λ b. lawful_gives in_body in_body (process t name ds b))
+
+  abbrev headed : Totals → Label → Reader (Carried Totals Process)
+  headed t name = then_reads (declarations_of limit t.variables) (bodied t name)
+
+  abbrev headeds : ℕ → Totals → Label → Reader (Carried Totals Process)
+  headeds i t name = then_reads (declarations_of (beyond limit i) t.variables) (bodieds i t name)
+
+  no_declarations : (n : ℕ) → declarations_of limit n (ends 0) ≡ Ok (([], n), ends 0)
+  unfolding declarations_of chain
+  no_declarations n = refl
+
+  headed_ends : (t : Totals) (name : Label) → headed t name (ends 0) ≡ Err (syntax 0)
+  headed_ends t name = rw (no_declarations t.variables) (bodied_ends t name ([], t.variables))
+
+  lawful_headed : (t : Totals) (name : Label) → Lawful no_mode in_body (headed t name) (λ i. headeds i t name)
+  lawful_headed t name =
+      lawful_bind no_mode no_mode no_mode in_body (same no_mode) (declarations_of limit t.variables) (λ i. declarations_of (beyond limit i) t.variables) (bodied t name) (λ i. bodieds i t name)
+      (λ ds. moves quiet_body (syntax 0) (bodied_ends t name ds)) (wider (same no_mode)) (takes quiet_body (λ ds. syntax 0) (bodied_ends t name)) (lawful_declarations t.variables) (lawful_bodied t name)
+
+  opened : (t : Totals) (name : Label) → Lawful anything in_body (then_reads (expected marks.OpenBlock) (λ m. headed t name)) (λ i. then_reads (expected marks.OpenBlock) (λ m. headeds i t name))
+  opened t name =
+      lawful_bind anything anything no_mode in_body (any_of no_mode) (expected marks.OpenBlock) (λ i. expected marks.OpenBlock) (λ m. headed t name) (λ i m. headeds i t name)
+      (λ m. moves quiet_body (syntax 0) (headed_ends t name)) (wider (any_of no_mode)) (calmer (any_of in_body)) (lawful_mark marks.OpenBlock open_block_mark anything refl) (λ m. lawful_headed t name)
+
+  lawful_process_name : (n : ℕ) → Lawful {I = ℕ} no_mode anything (process_name limit n) (λ i. process_name (beyond limit i) n)
+  unfolding process_name
+  lawful_process_name n = lawful_limited_name no_mode name_in limits.Processes (limit.processes n) (λ l. l)
+
+  name_ends : (n : ℕ) → process_name limit n (ends 0) ≡ Err (syntax 0)
+  unfolding process_name
+  name_ends n = refl
+
+  pub lawful_process : (t : Totals) → Lawful no_mode in_body (process_of limit t) (λ i. process_of (beyond limit i) t)
+  unfolding process_of
+  lawful_process t =
+      lawful_bind no_mode anything anything in_body (same anything) (process_name limit t.processes) (λ i. process_name (beyond limit i) t.processes)
+      (λ name. then_reads (expected marks.Colons) (λ m. then_reads (expected marks.OpenBlock) (λ m. headed t name))) (λ i name. then_reads (expected marks.Colons) (λ m. then_reads (expected marks.OpenBlock) (λ m. headeds i t name)))
+      (λ name. wider (any_of in_body)) (moves refl (syntax 0) (name_ends t.processes)) (calmer (any_of in_body)) (lawful_process_name t.processes)
+      (λ name. lawful_bind anything anything anything in_body (same anything) (expected marks.Colons) (λ i. expected marks.Colons) (λ m. then_reads (expected marks.OpenBlock) (λ m. headed t name)) (λ i m. then_reads (expected marks.OpenBlock) (λ m. headeds i t name))
+      (λ m. wider (any_of in_body)) (wider (same anything)) (calmer (any_of in_body)) (lawful_mark marks.Colons colons_mark anything refl) (λ m. opened t name))
+
+  process_ends : (t : Totals) → process_of limit t (ends 0) ≡ Err (syntax 0)
+  unfolding process_of
+  process_ends t = rw (name_ends t.processes) refl
+
+  pub lawful_processes : (t : Totals) → Lawful no_mode apart (processes_of limit t) (λ i. processes_of (beyond limit i) t)
+  unfolding processes_of
+  lawful_processes t =
+      lawful_bind no_mode in_body apart apart (but2_other marks.Bars marks.Semicolon) (process_of limit t) (λ i. process_of (beyond limit i) t) (λ x. linked marks.Bars (process_of limit) (x.0 ∷ [], x.1)) (λ i x. linked marks.Bars (process_of (beyond limit i)) (x.0 ∷ [], x.1))
+      (λ x. wider (same apart)) (moves quiet_body (syntax 0) (process_ends t)) (calmer (but2_other marks.Bars marks.Semicolon)) (lawful_process t)
+      (λ x. lawful_link apart in_body no_mode marks.Bars (but2_other marks.Bars marks.Semicolon) (but2_none marks.Bars marks.Semicolon) refl (process_of limit) (λ i. process_of (beyond limit i)) lawful_process (x.0 ∷ [], x.1))
+
+  processes_ends : (t : Totals) → processes_of limit t (ends 0) ≡ Err (syntax 0)
+  unfolding processes_of
+  processes_ends t = rw (process_ends t) refl
+
+  pub quiet_apart : apart signs.Nothing ≡ true
+  unfolding calm calm_but calm_but2
+  quiet_apart = refl
+
+  -- a whole program, but for the end of its text
+  pub lawful_program : Lawful no_mode apart (spelled_of limit) (λ i. spelled_of (beyond limit i))
+  unfolding spelled_of
+  lawful_program =
+      lawful_bind no_mode no_mode no_mode apart (same no_mode) (declarations_of limit 0) (λ i. declarations_of (beyond limit i) 0)
+      (λ ds. then_reads (processes_of limit (totals 0 ds.1 0)) (λ ps. gives (made_of ds ps))) (λ i ds. then_reads (processes_of (beyond limit i) (totals 0 ds.1 0)) (λ ps. gives (made_of ds ps)))
+      (λ ds. moves quiet_apart (syntax 0) (whole_ends ds)) (wider (same no_mode)) (takes quiet_apart (λ ds. syntax 0) whole_ends) (lawful_declarations 0)
+      (λ ds. lawful_bind no_mode apart apart apart (same apart) (processes_of limit (totals 0 ds.1 0)) (λ i. processes_of (beyond limit i) (totals 0 ds.1 0)) (λ ps. gives (made_of ds ps)) (λ i ps. gives (made_of ds ps))
+      (λ ps. wider (same apart)) (moves quiet_apart (syntax 0) (processes_ends (totals 0 ds.1 0))) (calmer (same apart)) (lawful_processes (totals 0 ds.1 0)) (λ ps. lawful_gives apart apart (made_of ds ps)))
+    where
+      whole_ends : (ds : Counted (List Declaration)) → then_reads (processes_of limit (totals 0 ds.1 0)) (λ ps. gives (made_of ds ps)) (ends 0) ≡ Err (syntax 0)
+      whole_ends ds = rw (processes_ends (totals 0 ds.1 0)) refl

@@ -8,6 +8,7 @@ pub mod Quiet
 pub mod ExpressionLaw
 pub mod Witnesses
 pub mod ExpressionSoundness
+pub mod ExpressionCompleteness
 pub mod StatementSoundness
 pub mod ProgramSoundness
 pub mod ListLaw

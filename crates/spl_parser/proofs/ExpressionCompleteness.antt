@@ -179,3 +179,149 @@ module _ (wrap : Exprs → Kind) (mark : Mark) (nothing : None ≡ only mark sig
       ap (then_reads item (chained wrap mark item)) (append_stream p q after)
       ∙ bind_ok item (chained wrap mark item) (p ++> (q ++> after)) u (q ++> after) (complete p u l (q ++> after) (list_between mark item shrinks L (above j) (above k) marks_above (lower_above j k (omega arith)) no_more complete q (v ∷ zs) items after h))
       ∙ listed u q v zs items after h
+
+-- what binds less than what stands at a level
+abbrev pub least : Level → ℕ
+least formula = 6
+least negated = 3
+least signed = 0
+
+module _ (places : Bool) (down : Down) (D E : Level → List Lexeme → Expr → Type 0) (sound : (level : Level) (place : ℕ) → Sound (down level place) (E level)) (deeper : (level : Level) (place : ℕ) → Complete (above (least level)) (down level place) (D level)) where
+  group_complete : (t u : Lexeme) (ts : List Lexeme) (x : Expr) → D formula ts x → Is marks.Close u → (after : Stream) → then_reads (down formula t.start) (closing t.start) ((ts ++ u ∷ []) ++> after) ≡ Ok (node t.start (kind_of x), after)
+  unfolding rank
+  group_complete t u ts x l e after =
+      let stops : above 6 (sign_of u) ≡ true = above_is 6 (sign_of u) (omega (arith, marked_rank (sign_of u) marks.Close 7 e refl)) in
+      ap (then_reads (down formula t.start) (closing t.start)) (append_stream ts (u ∷ []) after)
+      ∙ bind_ok (down formula t.start) (closing t.start) (ts ++> more u after) x (more u after) (deeper formula t.start ts x l (more u after) stops)
+      ∙ bind_ok (expected marks.Close) (λ m. gives (node t.start (kind_of x))) (more u after) u.start after (expected_is marks.Close u after e)
+
+  pub atom_complete : Complete (above 0) (atom_of places down) (IsAtom places D)
+  unfolding atom_of
+  atom_complete ts x (a_numeral t n e) after h = rw e refl
+  atom_complete ts x (a_truth t b e) after h = rw e refl
+  atom_complete ts x (a_name t e) after h = rw e refl
+  atom_complete ts x (a_place t u e f) after h = rw (e, f) refl
+  atom_complete ts x (a_group t u text y e l f) after h = rw e (group_complete t u text y l f after)
+
+  -- an atom doesn't begin with an operator
+  unary_plain : (ts : List Lexeme) (x : Expr) → IsAtom places D ts x → (after : Stream) → unary_of places down (ts ++> after) ≡ atom_of places down (ts ++> after)
+  unfolding unary_of
+  unary_plain ts x (a_numeral t n e) after = rw e refl
+  unary_plain ts x (a_truth t b e) after = rw e refl
+  unary_plain ts x (a_name t e) after = rw e refl
+  unary_plain ts x (a_place t u e f) after = rw e refl
+  unary_plain ts x (a_group t u text y e l f) after = rw e refl
+
+  pub unary_complete : Complete (above 0) (unary_of places down) (IsUnary places D)
+  unfolding unary_of
+  unary_complete ts x (minus t text y e l) after h = let read = deeper signed t.start text y l after h in rw (e, read) refl
+  unary_complete ts x (plain text y l) after h = unary_plain text y l after ∙ atom_complete text y l after h
+
+  pub product_complete : Complete (above 1) (product_of places down) (IsProduct places D)
+  unfolding product_of
+  product_complete = grouped_complete product_sign refl (unary_of places down) (sound_shrinks (unary_of places down) (IsUnary places E) (unary_sound places down E sound)) (IsUnary places D) 0 1 (omega arith) product_rank unary_complete
+
+  pub sum_complete : Complete (above 2) (sum_of places down) (IsSum places D)
+  unfolding sum_of
+  sum_complete = grouped_complete sum_sign refl (product_of places down) (sound_shrinks (product_of places down) (IsProduct places E) (product_sound places down E sound)) (IsProduct places D) 1 2 (omega arith) sum_rank product_complete
+
+  pub comparison_complete : Complete (above 3) (comparison_of places down) (IsComparison places D)
+  unfolding comparison_of
+  comparison_complete ts x (sum text y l) after h =
+      let e = no_operator comparison_sign 3 comparison_rank (ahead after) (is_above 3 (ahead after) h) in
+      bind_ok (sum_of places down) (compared (sum_of places down)) (text ++> after) y after (sum_complete text y l after (lower_above 2 3 (omega arith) (ahead after) h)) ∙ rw e refl
+  comparison_complete ts x (compare a b t o y z l e m) after h =
+      let left : sum_of places down (a ++> more t (b ++> after)) ≡ Ok (y, more t (b ++> after)) = sum_complete a y l (more t (b ++> after)) (above_is 2 (sign_of t) (omega (arith, comparison_rank (sign_of t) o e))) in
+      let right = sum_complete b z m after (lower_above 2 3 (omega arith) (ahead after) h) in
+      ap (then_reads (sum_of places down) (compared (sum_of places down))) (append_stream a (t ∷ b) after)
+      ∙ bind_ok (sum_of places down) (compared (sum_of places down)) (a ++> more t (b ++> after)) y (more t (b ++> after)) left
+      ∙ rw (e, right) refl
+
+  -- what begins with an atom or a "-" doesn't begin with "~"
+  abbrev no_tilde : Front → Bool
+  no_tilde fronts.Not = false
+  no_tilde _ = true
+
+  abbrev Straight : (List Lexeme → Expr → Type 0) → Type 0
+  Straight L = (ts : List Lexeme) (x : Expr) → L ts x → (after : Stream) → no_tilde (front places (ahead (ts ++> after))) ≡ true
+
+  atom_straight : Straight (IsAtom places D)
+  atom_straight ts x (a_numeral t n e) after = rw e refl
+  atom_straight ts x (a_truth t b e) after = rw e refl
+  atom_straight ts x (a_name t e) after = rw e refl
+  atom_straight ts x (a_place t u e f) after = rw e refl
+  atom_straight ts x (a_group t u text y e l f) after = rw e refl
+
+  unary_straight : Straight (IsUnary places D)
+  unary_straight ts x (minus t text y e l) after = rw e refl
+  unary_straight ts x (plain text y l) after = atom_straight text y l after
+
+  grouped_straight : (op : Sign → Option Operator) (L : List Lexeme → Expr → Type 0) → Straight L → Straight (IsGrouped op L)
+  grouped_straight op L begins ts x (a_grouping a b y z l rest) after = ap (λ s. no_tilde (front places (ahead s))) (append_stream a b after) ∙ begins a y l (b ++> after)
+
+  sum_straight : Straight (IsSum places D)
+  sum_straight = grouped_straight sum_sign (IsProduct places D) (grouped_straight product_sign (IsUnary places D) unary_straight)
+
+  comparison_straight : Straight (IsComparison places D)
+  comparison_straight ts x (sum text y l) after = sum_straight text y l after
+  comparison_straight ts x (compare a b t o y z l e m) after = ap (λ s. no_tilde (front places (ahead s))) (append_stream a (t ∷ b) after) ∙ sum_straight a y l (more t (b ++> after))
+
+  negation_plain : (f : Front) (s : Stream) → no_tilde f ≡ true → negation_at places down s f ≡ comparison_of places down s
+  negation_plain fronts.Not s h = cc
+  negation_plain _ s h = refl
+
+  pub negation_complete : Complete (above 3) (negation_of places down) (IsNegation places D)
+  unfolding negation_of
+  negation_complete ts x (tilde t text y e l) after h = let read = deeper negated t.start text y l after h in rw (e, read) refl
+  negation_complete ts x (straight text y l) after h = negation_plain (front places (ahead (text ++> after))) (text ++> after) (comparison_straight text y l after) ∙ comparison_complete text y l after h
+
+  pub conjunction_complete : Complete (above 4) (conjunction_of places down) (IsConjunction places D)
+  unfolding conjunction_of
+  conjunction_complete = chained_complete all marks.And refl (negation_of places down) (sound_shrinks (negation_of places down) (IsNegation places E) (negation_sound places down E sound)) (IsNegation places D) 3 4 (omega arith) and_rank negation_complete
+
+  pub disjunction_complete : Complete (above 5) (disjunction_of places down) (IsDisjunction places D)
+  unfolding disjunction_of
+  disjunction_complete = chained_complete any marks.Or refl (conjunction_of places down) (sound_shrinks (conjunction_of places down) (IsConjunction places E) (conjunction_sound places down E sound)) (IsConjunction places D) 4 5 (omega arith) or_rank conjunction_complete
+
+  pub expression_complete : Complete (above 6) (expression_of places down) (IsExpression places D)
+  unfolding expression_of
+  expression_complete ts x (disjunction text y l) after h =
+      let e = no_mark marks.Implies 6 implies_rank (ahead after) (is_above 6 (ahead after) h) in
+      bind_ok (disjunction_of places down) (implied down) (text ++> after) y after (disjunction_complete text y l after (lower_above 5 6 (omega arith) (ahead after) h)) ∙ rw e refl
+  expression_complete ts x (implication a b t y z l e m) after h =
+      let left : disjunction_of places down (a ++> more t (b ++> after)) ≡ Ok (y, more t (b ++> after)) = disjunction_complete a y l (more t (b ++> after)) (above_is 5 (sign_of t) (omega (arith, implies_rank (sign_of t) e))) in
+      let right = deeper formula t.start b z m after h in
+      ap (then_reads (disjunction_of places down) (implied down)) (append_stream a (t ∷ b) after)
+      ∙ bind_ok (disjunction_of places down) (implied down) (a ++> more t (b ++> after)) y (more t (b ++> after)) left
+      ∙ rw (e, right) refl
+
+-- with at least as many levels
+pub below_complete : (places : Bool) (n m : ℕ) → n ≤ m → (level : Level) (place : ℕ) → Complete (above (least level)) (below places m level place) (Inside places n level)
+unfolding below
+below_complete places zero m le level place ts x l after h = absurd l
+below_complete places (suc n) zero le level place ts x l after h = absurd (omega arith)
+below_complete places (suc n) (suc m) le formula place ts x l after h = expression_complete places (below places m) (Inside places n) (Inside places m) (below_sound places m) (below_complete places n m (omega arith)) ts x l after h
+below_complete places (suc n) (suc m) le negated place ts x l after h = negation_complete places (below places m) (Inside places n) (Inside places m) (below_sound places m) (below_complete places n m (omega arith)) ts x l after h
+below_complete places (suc n) (suc m) le signed place ts x l after h = unary_complete places (below places m) (Inside places n) (Inside places m) (below_sound places m) (below_complete places n m (omega arith)) ts x l after h
+
+-- A calm token binds less tightly than any operator.
+pub calm_above : Within calm (above 6)
+unfolding rank calm number
+calm_above (signs.Marked marks.Times) h = cc
+calm_above (signs.Marked marks.Plus) h = cc
+calm_above (signs.Marked marks.Minus) h = cc
+calm_above (signs.Marked marks.Equal) h = cc
+calm_above (signs.Marked marks.Unequal) h = cc
+calm_above (signs.Marked marks.Less) h = cc
+calm_above (signs.Marked marks.AtMost) h = cc
+calm_above (signs.Marked marks.Greater) h = cc
+calm_above (signs.Marked marks.AtLeast) h = cc
+calm_above (signs.Marked marks.And) h = cc
+calm_above (signs.Marked marks.Or) h = cc
+calm_above (signs.Marked marks.Implies) h = cc
+calm_above _ h = refl
+
+-- an expression, before a token that continues none
+pub formula_complete : (places : Bool) (n m : ℕ) → n ≤ m → Complete calm (λ s. expression_of places (below places m) s) (SpellsWithin places n)
+formula_complete places n m le ts x l after h =
+    expression_complete places (below places m) (Inside places n) (Inside places m) (below_sound places m) (below_complete places n m le) ts x l after (calm_above (ahead after) h)

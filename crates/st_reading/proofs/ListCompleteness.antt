@@ -14,7 +14,7 @@ use Rattle.st_reading.proofs.Soundness.{Shrinks}
 use Rattle.st_reading.proofs.Shrinking.{shrinks_map}
 use Rattle.st_reading.proofs.Chains.{chain_none, chain_of, chain_step}
 use Rattle.st_reading.proofs.Loops.{only_some}
-use Rattle.st_reading.proofs.ListSoundness.{Steps, no_steps, a_step, counted_on, listed_on}
+use Rattle.st_reading.proofs.ListSoundness.{Steps, no_steps, a_step, only_is, counted_on, listed_on}
 
 -- what is spelled is read, before a token of the set
 abbrev pub Complete : {X A : Type 0} → (Sign → Bool) → (Stream → Read X A) → (List Lexeme → A → Type 0) → Type 0
@@ -108,3 +108,56 @@ module _ {X O N A : Type 0} (op : Sign → Option O) (nothing : None ≡ op sign
 pub items_steps : {A : Type 0} (m : Mark) (L : List Lexeme → A → Type 0) (ts : List Lexeme) (ys : List A) → Items m L ts ys → Steps (only m) (λ o t. L) ts ys
 items_steps m L ts ys no_items = no_steps
 items_steps m L ts ys (item_more t a b y zs e l rest) = a_step t tt a b y zs (sym (only_some (sign_of t) m (sym e))) l (items_steps m L b zs rest)
+
+-- COUNTED ROWS
+module _ {X N A : Type 0} (mark : Mark) (r : N → Stream → Read X (Carried N A)) (shrinks : (n : N) → Shrinks (r n)) (L : List Lexeme → A → Type 0) (inner outer : Sign → Bool)
+    (marked : (g : Sign) → is g mark ≡ true → inner g ≡ true) (within : Within outer inner) (stops : (g : Sign) → outer g ≡ true → only mark g ≡ None) (complete : Counts inner r L) where
+  known : (g : Sign) (o : Unit {0}) → only mark g ≡ Some o → inner g ≡ true
+  known g o e = marked g (only_is mark g o e)
+
+  pub row_between : (b : List Lexeme) (ys : List A) → Items mark L b ys → (after : Stream) → outer (ahead after) ≡ true → inner (ahead (b ++> after)) ≡ true
+  row_between b ys items after h = steps_between (only mark) refl (λ o. r) (λ o. shrinks) (λ o t. L) inner outer known within stops (λ o t. complete) b ys (items_steps mark L b ys items) after h
+
+  -- further items, behind those that were read before
+  pub further_counts : (b : List Lexeme) (ys : List A) → Items mark L b ys → (xs : List A) (n : N) (after : Stream) → outer (ahead after) ≡ true → Read_as (linked mark r (xs, n) (b ++> after)) (xs ++ ys) after
+  further_counts b ys items xs n after h = steps_complete (only mark) refl (λ o. r) (λ o. shrinks) (λ o t. L) inner outer known within stops (λ o t. complete) b ys (items_steps mark L b ys items) xs n after h
+
+  pub row_counts : (n : N) (ts : List Lexeme) (xs : List A) → Row mark L ts xs → (after : Stream) → outer (ahead after) ≡ true → Read_as (then_reads (r n) (λ x. linked mark r (x.0 ∷ [], x.1)) (ts ++> after)) xs after
+  row_counts n ts zs (row a b x xs l items) after h =
+      let first = complete n a x l (b ++> after) (row_between b xs items after h) in
+      let others = further_counts b xs items (x ∷ []) first.count after h in
+      record {
+        count = others.count;
+        reads =
+          ap (then_reads (r n) (λ y. linked mark r (y.0 ∷ [], y.1))) (append_stream a b after)
+          ∙ bind_ok (r n) (λ y. linked mark r (y.0 ∷ [], y.1)) (a ++> (b ++> after)) (x, first.count) (b ++> after) first.reads
+          ∙ others.reads;
+      }
+
+  abbrev second : Carried N A → Stream → Read X (Carried N (List A))
+  second x = then_reads (expected mark) (λ m. then_reads (r x.1) (λ y. linked mark r (x.0 ∷ y.0 ∷ [], y.1)))
+
+  two_counts : (x : A) (n : N) (b : List Lexeme) (zs : List A) → Items mark L b zs → (y : A) (ys : List A) → zs ≡ y ∷ ys → (after : Stream) → outer (ahead after) ≡ true → Read_as (second (x, n) (b ++> after)) (x ∷ y ∷ ys) after
+  two_counts x n b zs no_items y ys is after h = cc
+  two_counts x n b zs (item_more t a c u us e l rest) y ys is after h =
+      let item = complete n a u l (c ++> after) (row_between c us rest after h) in
+      let others = further_counts c us rest (x ∷ u ∷ []) item.count after h in
+      let same : u ∷ us ≡ y ∷ ys = is in
+      record {
+        count = others.count;
+        reads =
+          bind_ok (expected mark) (λ m. then_reads (r n) (λ y. linked mark r (x ∷ y.0 ∷ [], y.1))) (more t ((a ++ c) ++> after)) t.start ((a ++ c) ++> after) (expected_is mark t ((a ++ c) ++> after) e)
+          ∙ ap (then_reads (r n) (λ y. linked mark r (x ∷ y.0 ∷ [], y.1))) (append_stream a c after)
+          ∙ bind_ok (r n) (λ y. linked mark r (x ∷ y.0 ∷ [], y.1)) (a ++> (c ++> after)) (u, item.count) (c ++> after) item.reads
+          ∙ others.reads
+          ∙ ap (λ z. Ok ((x ∷ z, others.count), after)) same;
+      }
+
+  pub row2_counts : (n : N) (ts : List Lexeme) (xs : List A) → Row2 mark L ts xs → (after : Stream) → outer (ahead after) ≡ true → Read_as (then_reads (r n) second (ts ++> after)) xs after
+  row2_counts n ts zs (row2 a b x y xs l items) after h =
+      let first = complete n a x l (b ++> after) (row_between b (y ∷ xs) items after h) in
+      let others = two_counts x first.count b (y ∷ xs) items y xs refl after h in
+      record {
+        count = others.count;
+        reads = ap (then_reads (r n) second) (append_stream a b after) ∙ bind_ok (r n) second (a ++> (b ++> after)) (x, first.count) (b ++> after) first.reads ∙ others.reads;
+      }

@@ -11,6 +11,7 @@ pub mod ExpressionSoundness
 pub mod ExpressionCompleteness
 pub mod StatementSoundness
 pub mod ProgramSoundness
+pub mod StatementCompleteness
 pub mod ListLaw
 pub mod StatementLaw
 pub mod BodyLaw

@@ -59,25 +59,27 @@ module _ {X A : Type 0} (mark : Mark) (r : Stream → Read X A) (shrinks : Shrin
       ∙ bind_ok r (λ x. further mark r (x ∷ [])) (a ++> (b ++> after)) x (b ++> after) (complete a x l (b ++> after) (list_between b xs items after h))
       ∙ items_complete b xs items (x ∷ []) after h
 
-  -- at least two items
-  two : (x : A) (b : List Lexeme) (zs : List A) → Items mark L b zs → (y : A) (ys : List A) → zs ≡ y ∷ ys → (after : Stream) → outer (ahead after) ≡ true
-      → then_reads (expected mark) (λ m. then_reads r (λ y. further mark r (x ∷ y ∷ []))) (b ++> after) ≡ Ok (x ∷ y ∷ ys, after)
-  two x b zs no_items y ys is after h = cc
-  two x b zs (item_more t a c u us e l rest) y ys is after h =
-      let item : r (a ++> (c ++> after)) ≡ Ok (u, c ++> after) = complete a u l (c ++> after) (list_between c us rest after h) in
-      let same : u ∷ us ≡ y ∷ ys = is in
-      bind_ok (expected mark) (λ m. then_reads r (λ y. further mark r (x ∷ y ∷ []))) (more t ((a ++ c) ++> after)) t.start ((a ++ c) ++> after) (expected_is mark t ((a ++ c) ++> after) e)
-      ∙ ap (then_reads r (λ y. further mark r (x ∷ y ∷ []))) (append_stream a c after)
-      ∙ bind_ok r (λ y. further mark r (x ∷ y ∷ [])) (a ++> (c ++> after)) u (c ++> after) item
-      ∙ items_complete c us rest (x ∷ u ∷ []) after h
-      ∙ ap (λ z. Ok (x ∷ z, after)) same
+  -- at least two items, and what is read behind them
+  module _ {B : Type 0} (k : List A → Stream → Read X B) where
+    abbrev second_then : A → Stream → Read X B
+    second_then x = then_reads (expected mark) (λ m. then_reads r (λ y. then_reads (further mark r (x ∷ y ∷ [])) k))
 
-  pub row2_complete : (ts : List Lexeme) (xs : List A) → Row2 mark L ts xs → (after : Stream) → outer (ahead after) ≡ true
-      → then_reads r (λ x. then_reads (expected mark) (λ m. then_reads r (λ y. further mark r (x ∷ y ∷ [])))) (ts ++> after) ≡ Ok (xs, after)
-  row2_complete ts zs (row2 a b x y xs l items) after h =
-      ap (then_reads r (λ x. then_reads (expected mark) (λ m. then_reads r (λ y. further mark r (x ∷ y ∷ []))))) (append_stream a b after)
-      ∙ bind_ok r (λ x. then_reads (expected mark) (λ m. then_reads r (λ y. further mark r (x ∷ y ∷ [])))) (a ++> (b ++> after)) x (b ++> after) (complete a x l (b ++> after) (list_between b (y ∷ xs) items after h))
-      ∙ two x b (y ∷ xs) items y xs refl after h
+    two_then : (x : A) (b : List Lexeme) (zs : List A) → Items mark L b zs → (y : A) (ys : List A) → zs ≡ y ∷ ys → (after : Stream) → outer (ahead after) ≡ true → second_then x (b ++> after) ≡ k (x ∷ y ∷ ys) after
+    two_then x b zs no_items y ys is after h = cc
+    two_then x b zs (item_more t a c u us e l rest) y ys is after h =
+        let item : r (a ++> (c ++> after)) ≡ Ok (u, c ++> after) = complete a u l (c ++> after) (list_between c us rest after h) in
+        let same : u ∷ us ≡ y ∷ ys = is in
+        bind_ok (expected mark) (λ m. then_reads r (λ y. then_reads (further mark r (x ∷ y ∷ [])) k)) (more t ((a ++ c) ++> after)) t.start ((a ++ c) ++> after) (expected_is mark t ((a ++ c) ++> after) e)
+        ∙ ap (then_reads r (λ y. then_reads (further mark r (x ∷ y ∷ [])) k)) (append_stream a c after)
+        ∙ bind_ok r (λ y. then_reads (further mark r (x ∷ y ∷ [])) k) (a ++> (c ++> after)) u (c ++> after) item
+        ∙ bind_ok (further mark r (x ∷ u ∷ [])) k (c ++> after) (x ∷ u ∷ us) after (items_complete c us rest (x ∷ u ∷ []) after h)
+        ∙ ap (λ z. k (x ∷ z) after) same
+
+    pub row2_then_complete : (ts : List Lexeme) (xs : List A) → Row2 mark L ts xs → (after : Stream) → outer (ahead after) ≡ true → then_reads r second_then (ts ++> after) ≡ k xs after
+    row2_then_complete ts zs (row2 a b x y xs l items) after h =
+        ap (then_reads r second_then) (append_stream a b after)
+        ∙ bind_ok r second_then (a ++> (b ++> after)) x (b ++> after) (complete a x l (b ++> after) (list_between b (y ∷ xs) items after h))
+        ∙ two_then x b (y ∷ xs) items y xs refl after h
 
 -- COUNTED LISTS
 module _ {X O N A : Type 0} (op : Sign → Option O) (nothing : None ≡ op signs.Nothing) (r : O → N → Stream → Read X (Carried N A)) (shrinks : (o : O) (n : N) → Shrinks (r o n)) (L : O → Lexeme → List Lexeme → A → Type 0) (inner outer : Sign → Bool)

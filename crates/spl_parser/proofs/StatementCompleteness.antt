@@ -10,7 +10,7 @@ use Rattle.st_reading.specs.Sign.{sign_of, is}
 use Rattle.st_reading.specs.Faults.{Passed}
 use Rattle.st_reading.specs.Reading.{Read, ◌>>=◌, Label, ahead, place_of, name_of, label_of, is_name, refusal, named, expected, gives, then_reads, Turn, leaves, goes, turned, on_operator, chain, size, only, Carried, Counted, counting, linked, further}
 use Rattle.st_reading.specs.Spelling.{Sound, Is, IsName, OneName, one_name, Items, no_items, item_more, Row, row, Row2, row2}
-use Rattle.st_reading.specs.Steady.{Within}
+use Rattle.st_reading.specs.Steady.{Within, anything}
 use Rattle.st_reading.proofs.Streams.{append_stream}
 use Rattle.st_reading.proofs.Steadiness.{bind_ok}
 use Rattle.st_reading.proofs.Numbers.{is_marked}
@@ -32,7 +32,7 @@ use Rattle.spl_parser.specs.Statements.{Lower, goes_on, counted, listed_of, righ
 use Rattle.spl_parser.specs.Grammar.{IsRightSide, right_side, IsBranch, without, with_else, IsBody, unnamed, ended, IsChild, child, IsBare, s_assign, s_assign_all, s_skip, s_critical, s_noncritical, s_await, s_request, s_release, s_if, s_while, s_loop, s_block, s_select, s_cooperate, s_group, IsStatement, unlabelled, labelled}
 use Rattle.spl_parser.proofs.Quiet.{but_calm, but_none, but2_other, but2_none}
 use Rattle.spl_parser.proofs.BodyLaw.{in_body, apart, apart_calm}
-use Rattle.spl_parser.proofs.StatementSoundness.{Inner, item_sound, child_sound}
+use Rattle.spl_parser.proofs.StatementSoundness.{Inner, IsItem, item_sound, child_sound}
 
 -- what is known of the sign of a mark is known of the mark's tokens
 known : (set : Sign → Bool) (m : Mark) → set (signs.Marked m) ≡ true → (g : Sign) → is g m ≡ true → set g ≡ true
@@ -70,19 +70,28 @@ module _ (value : Reader Expr) (V : List Lexeme → Expr → Type 0) (vc : Compl
       ∙ bind_ok (expected marks.Open) (λ list. then_reads (listed_of value) (λ vs. gives (assign_all targets list vs))) (more w ((b ++ z ∷ []) ++> after)) w.start ((b ++ z ∷ []) ++> after) (expected_is marks.Open w ((b ++ z ∷ []) ++> after) e3)
       ∙ bind_ok (listed_of value) (λ vs. gives (assign_all targets w.start vs)) ((b ++ z ∷ []) ++> after) values after values_read
 
--- How a statement's text begins, as it concerns what is read behind a ";" of a body: with no name; with a name and no
--- colon; or with a label and no "]" behind it.
+-- How a statement's text begins, as it concerns what is read behind a ";" of a body: with no name; as an assignment; or
+-- with a label.
 pub data Opening : Stream → Type 0 where
   plainly : (s : Stream) → is_name (ahead s) ≡ false → Opening s
-  by_name : (t : Lexeme) (s : Stream) → IsName t → is (ahead s) marks.Colon ≡ false → Opening (more t s)
-  by_label : (t u : Lexeme) (s : Stream) → IsName t → Is marks.Colon u → is (ahead s) marks.CloseBlock ≡ false → Opening (more t (more u s))
+  by_name : (t u : Lexeme) (s : Stream) → IsName t → Is marks.Becomes u → Opening (more t (more u s))
+  by_label : (t u : Lexeme) (s : Stream) → IsName t → Is marks.Colon u → begins false (start (ahead s)) ≡ true → Opening (more t (more u s))
+
+-- no statement begins with "]"
+begins_no_close : (g : Sign) → begins false (start g) ≡ true → is g marks.CloseBlock ≡ false
+unfolding number
+begins_no_close g h = at_close (is g marks.CloseBlock) refl
+  where
+    at_close : (b : Bool) → b ≡ is g marks.CloseBlock → is g marks.CloseBlock ≡ false
+    at_close false e = sym e
+    at_close true e = let k : false ≡ true = sym (ap (λ g. begins false (start g)) (is_marked g marks.CloseBlock (sym e))) ∙ h in cc
 
 -- What is said of the readers of inner statements: all statements of the grammar are read, also if a name or a label was
 -- read before; and how their texts begin.
 pub record Reads_all (lower : Lower) (low : Bool → List Lexeme → Statement → Type 0) : Type 0 where
   pub complete : (inner : Bool) → Counts calm (lower (fresh inner)) (low inner)
-  pub named : (t : Lexeme) (s : Stream) (n : ℕ) → IsName t → is (ahead s) marks.Colon ≡ false → lower (after_name (label_of t)) n s ≡ lower (fresh false) n (more t s)
-  pub labels : (t u : Lexeme) (s : Stream) (n : ℕ) → IsName t → Is marks.Colon u → lower (after_label (label_of t)) n s ≡ lower (fresh false) n (more t (more u s))
+  pub named : (t u : Lexeme) (s : Stream) (n : ℕ) → IsName t → Is marks.Becomes u → lower (after_name (label_of t)) n (more u s) ≡ lower (fresh false) n (more t (more u s))
+  pub labels : (t u : Lexeme) (s : Stream) (n : ℕ) → IsName t → Is marks.Colon u → begins false (start (ahead s)) ≡ true → lower (after_label (label_of t)) n s ≡ lower (fresh false) n (more t (more u s))
   pub opens : (ts : List Lexeme) (x : Statement) → low false ts x → (after : Stream) → Opening (ts ++> after)
 
 module _ (value : Reader Expr) (V VS : List Lexeme → Expr → Type 0) (vc : Complete calm value V) (sv : Sound value VS) (lower : Lower) (LL : Begun → List Lexeme → Statement → Type 0) (sl : Inner VS lower LL) (low : Bool → List Lexeme → Statement → Type 0) (cl : Reads_all lower low) where
@@ -108,10 +117,14 @@ module _ (value : Reader Expr) (V VS : List Lexeme → Expr → Type 0) (vc : Co
 
   -- a statement that opens so is read as an item
   item_as : (n : ℕ) (s : Stream) → Opening s → item_of value lower n s ≡ then_reads (lower (fresh false) n) (λ x. gives (an_item x)) s
-  unfolding item_of
+  unfolding item_of number
   item_as n s (plainly r e) = rw e refl
-  item_as n s (by_name t r e f) = rw (e, f) (ap (λ (o : Read Passed (Counted Statement)). o >>= λ x. gives (an_item x.0) x.1) (cl.named t r n e f))
-  item_as n s (by_label t u r e f g) = rw (e, f, g) (ap (λ (o : Read Passed (Counted Statement)). o >>= λ x. gives (an_item x.0) x.1) (cl.labels t u r n e f))
+  item_as n s (by_name t u r e f) =
+      let no_colon : is (sign_of u) marks.Colon ≡ false = unlike marks.Becomes marks.Colon refl u f in
+      rw (e, no_colon) (ap (λ (o : Read Passed (Counted Statement)). o >>= λ x. gives (an_item x.0) x.1) (cl.named t u r n e f))
+  item_as n s (by_label t u r e f g) =
+      let no_end : is (ahead r) marks.CloseBlock ≡ false = begins_no_close (ahead r) g in
+      rw (e, f, no_end) (ap (λ (o : Read Passed (Counted Statement)). o >>= λ x. gives (an_item x.0) x.1) (cl.labels t u r n e f g))
 
   item_complete : (n : ℕ) (ts : List Lexeme) (x : Statement) → low false ts x → (after : Stream) → calm (ahead after) ≡ true → Read_as (item_of value lower n (ts ++> after)) (item x) after
   item_complete n ts x l after h =
@@ -121,3 +134,206 @@ module _ (value : Reader Expr) (V VS : List Lexeme → Expr → Type 0) (vc : Co
   last_complete : (n : ℕ) (l c u : Lexeme) (after : Stream) → IsName l → Is marks.Colon c → Is marks.CloseBlock u → item_of value lower n (more l (more c (more u after))) ≡ Ok ((last (label_of l), n), after)
   unfolding item_of
   last_complete n l c u after e f g = rw (e, f, g) refl
+
+  -- BODIES
+  item_shrinks : (n : ℕ) → Shrinks (item_of value lower n)
+  item_shrinks n = sound_shrinks (item_of value lower n) (λ ts y. IsItem value VS sv lower LL sl ts y.0) (item_sound value VS sv lower LL sl n)
+
+  grows : (o : Unit {0}) (place : ℕ) (xs : Counted (List Statement)) → Shrinks {A = Turn (Counted Body) (Counted (List Statement))} (continuing value lower o place xs)
+  grows o place xs = shrinks_map (turned_by xs.0) (item_of value lower xs.1) (item_shrinks xs.1)
+
+  between : (b : List Lexeme) (ys : List Statement) → Items marks.Semicolon (low false) b ys → (s : Stream) → calm (ahead s) ≡ true → calm (ahead (b ++> s)) ≡ true
+  unfolding number calm
+  between b ys no_items s h = h
+  between b ys (item_more t a c y zs e l rest) s h = known calm marks.Semicolon refl (sign_of t) e
+
+  -- how a body ends, whatever stands in it
+  abbrev Ends : Stream → Option Label → Stream → Type 0
+  Ends s label after = (xs : List Statement) (n : ℕ) → rest_of_body value lower (xs, n) s ≡ Ok ((body (statements xs) label, n), after)
+
+  -- one turn of the loop
+  at_semicolon : (t : Lexeme) → Is marks.Semicolon t → (xs : Counted (List Statement)) (s after : Stream) (y : Turn (Counted Body) (Counted (List Statement))) → continuing value lower tt t.start xs s ≡ Ok (y, after)
+      → rest_of_body value lower xs (more t s) ≡ turned (rest_of_body value lower) y after
+  at_semicolon t e xs s after y turn =
+      chain_step (only marks.Semicolon) refl (continuing value lower) closed_body grows t tt xs s (sym (only_some (sign_of t) marks.Semicolon (sym e)))
+      ∙ bind_ok (continuing value lower tt t.start xs) (turned (rest_of_body value lower)) s y after turn
+
+  further_items : (b : List Lexeme) (ys : List Statement) → Items marks.Semicolon (low false) b ys → (s : Stream) → calm (ahead s) ≡ true → (label : Option Label) (after : Stream) → Ends s label after
+      → (xs : List Statement) (n : ℕ) → Read_as (rest_of_body value lower (xs, n) (b ++> s)) (body (statements (xs ++ ys)) label) after
+  further_items b ys no_items s h label after done xs n = record { count = n; reads = done xs n ∙ ap (λ zs. Ok ((body (statements zs) label, n), after)) (sym (append-nil xs)) }
+  further_items b ys (item_more t a c y zs e l rest) s h label after done xs n =
+      let one = item_complete n a y l (c ++> s) (between c zs rest s h) in
+      let turn : continuing value lower tt t.start (xs, n) (a ++> (c ++> s)) ≡ Ok (goes (xs ++ y ∷ [], one.count), c ++> s) = rw one.reads refl in
+      let others = further_items c zs rest s h label after done (xs ++ y ∷ []) one.count in
+      record {
+        count = others.count;
+        reads =
+          ap (λ m. rest_of_body value lower (xs, n) (more t m)) (append_stream a c s)
+          ∙ at_semicolon t e (xs, n) (a ++> (c ++> s)) (c ++> s) (goes (xs ++ y ∷ [], one.count)) turn
+          ∙ others.reads
+          ∙ ap (λ z. Ok ((body (statements z) label, others.count), after)) (append_assoc xs (y ∷ []) zs);
+      }
+
+  ends_at_close : (u : Lexeme) → Is marks.CloseBlock u → (after : Stream) → Ends (more u after) None after
+  unfolding number
+  ends_at_close u e after xs n =
+      let no_more : is (sign_of u) marks.Semicolon ≡ false = unlike marks.CloseBlock marks.Semicolon refl u e in
+      chain_none (only marks.Semicolon) (continuing value lower) closed_body (size (more u after)) (xs, n) (more u after) (rw no_more refl)
+      ∙ bind_ok (expected marks.CloseBlock) (λ m. gives (body (statements xs) None, n)) (more u after) u.start after (expected_is marks.CloseBlock u after e)
+
+  ends_with_label : (s l c u : Lexeme) → Is marks.Semicolon s → IsName l → Is marks.Colon c → Is marks.CloseBlock u → (after : Stream) → Ends (more s (more l (more c (more u after)))) (Some (label_of l)) after
+  ends_with_label s l c u e f g h after xs n =
+      let turn : continuing value lower tt s.start (xs, n) (more l (more c (more u after))) ≡ Ok (leaves (body (statements xs) (Some (label_of l)), n), after) = rw (last_complete n l c u after f g h) refl in
+      at_semicolon s e (xs, n) (more l (more c (more u after))) after (leaves (body (statements xs) (Some (label_of l)), n)) turn
+
+  rows_complete : (n : ℕ) (a : List Lexeme) (xs : List Statement) → Row marks.Semicolon (low false) a xs → (s : Stream) → calm (ahead s) ≡ true → (label : Option Label) (after : Stream) → Ends s label after
+      → Read_as (body_of value lower n (a ++> s)) (body (statements xs) label) after
+  unfolding body_of
+  rows_complete n a zs (row p q x xs l items) s h label after done =
+      let first = cl.complete false n p x l (q ++> s) (between q xs items s h) in
+      let others = further_items q xs items s h label after done (x ∷ []) first.count in
+      record {
+        count = others.count;
+        reads =
+          ap (then_reads (lower (fresh false) n) (λ y. rest_of_body value lower (y.0 ∷ [], y.1))) (append_stream p q s)
+          ∙ bind_ok (lower (fresh false) n) (λ y. rest_of_body value lower (y.0 ∷ [], y.1)) (p ++> (q ++> s)) (x, first.count) (q ++> s) first.reads
+          ∙ others.reads;
+      }
+
+  read_from : {A : Type 0} (r : Reader (Counted A)) (s t : Stream) (x : A) (after : Stream) → s ≡ t → Read_as (r t) x after → Read_as (r s) x after
+  read_from r s t x after e c = record { count = c.count; reads = ap r e ∙ c.reads }
+
+  pub body_complete : (n : ℕ) (ts : List Lexeme) (y : Body) → IsBody V low ts y → (after : Stream) → Read_as (body_of value lower n (ts ++> after)) y after
+  unfolding number calm
+  body_complete n ts y (unnamed a u xs rows e) after =
+      read_from (body_of value lower n) ((a ++ u ∷ []) ++> after) (a ++> more u after) (body (statements xs) None) after (append_stream a (u ∷ []) after)
+      (rows_complete n a xs rows (more u after) (known calm marks.CloseBlock refl (sign_of u) e) None after (ends_at_close u e after))
+  body_complete n ts y (ended a s l c u xs rows e f g h) after =
+      read_from (body_of value lower n) ((a ++ s ∷ l ∷ c ∷ u ∷ []) ++> after) (a ++> more s (more l (more c (more u after)))) (body (statements xs) (Some (label_of l))) after (append_stream a (s ∷ l ∷ c ∷ u ∷ []) after)
+      (rows_complete n a xs rows (more s (more l (more c (more u after)))) (known calm marks.Semicolon refl (sign_of s) e) (Some (label_of l)) after (ends_with_label s l c u e f g h after))
+
+  child_complete : (n : ℕ) (ts : List Lexeme) (y : Body) → IsChild V low ts y → (after : Stream) → Read_as (child_of value lower n (ts ++> after)) y after
+  unfolding child_of
+  child_complete n ts y (child t b z e l) after =
+      let r = body_complete n b z l after in
+      record { count = r.count; reads = bind_ok (expected marks.OpenBlock) (λ m. body_of value lower n) (more t (b ++> after)) t.start (b ++> after) (expected_is marks.OpenBlock t (b ++> after) e) ∙ r.reads }
+
+  child_shrinks : (n : ℕ) → Shrinks (child_of value lower n)
+  child_shrinks n = sound_shrinks (child_of value lower n) (λ ts y. IsChild VS (λ inner. LL (fresh inner)) ts y.0) (child_sound value VS sv lower LL sl n)
+
+  children_complete : (n : ℕ) (ts : List Lexeme) (xs : List Body) → Row2 marks.Bars (IsChild V low) ts xs → (after : Stream) → calm_but marks.Bars (ahead after) ≡ true → Read_as (children_of value lower n (ts ++> after)) xs after
+  unfolding children_of
+  children_complete n ts xs rows after h =
+      row2_counts marks.Bars (child_of value lower) child_shrinks (IsChild V low) anything (calm_but marks.Bars) (λ g e. refl) (λ g e. refl) (but_none marks.Bars) (λ n ts y l after h. child_complete n ts y l after) n ts xs rows after h
+
+  -- A STATEMENT BEHIND ITS FIRST TOKEN
+  value_read : (f : Expr → Action) (n : ℕ) (ts : List Lexeme) (e : Expr) → V ts e → (after : Stream) → calm (ahead after) ≡ true → Read_as (then_reads value (λ e. gives (f e, n)) (ts ++> after)) (f e) after
+  value_read f n ts e l after h = record { count = n; reads = bind_ok value (λ e. gives (f e, n)) (ts ++> after) e after (vc ts e l after h) }
+
+  name_read : (f : Label → Action) (n : ℕ) (u : Lexeme) → IsName u → (after : Stream) → Read_as {X = Passed} (then_reads named (λ m. gives (f m, n)) (more u after)) (f (label_of u)) after
+  name_read f n u e after = record { count = n; reads = rw e refl }
+
+  enclosed_complete : {A : Type 0} (action : List A → Action) (mark : Mark) (r : Reader (Counted (List A))) (a : List Lexeme) (xs : List A) (u : Lexeme) → Is mark u → (after : Stream) → Read_as (r (a ++> more u after)) xs (more u after)
+      → Read_as (enclosed action mark r ((a ++ u ∷ []) ++> after)) (action xs) after
+  enclosed_complete action mark r a xs u e after c = record {
+    count = c.count;
+    reads =
+      ap (enclosed action mark r) (append_stream a (u ∷ []) after)
+      ∙ bind_ok r (λ xs. then_reads (expected mark) (λ m. gives (action xs.0, xs.1))) (a ++> more u after) (xs, c.count) (more u after) c.reads
+      ∙ bind_ok (expected mark) (λ m. gives (action xs, c.count)) (more u after) u.start after (expected_is mark u after e);
+  }
+
+  doing_complete : (action : Statement → Action) (n : ℕ) (u : Lexeme) (b : List Lexeme) (x : Statement) → Is marks.Do u → low false b x → (after : Stream) → calm (ahead after) ≡ true → Read_as (doing value lower action n (more u (b ++> after))) (action x) after
+  doing_complete action n u b x e l after h =
+      let c = cl.complete false n b x l after h in
+      record {
+        count = c.count;
+        reads =
+          bind_ok (expected marks.Do) (λ m. then_reads (lower (fresh false) n) (λ x. gives (action x.0, x.1))) (more u (b ++> after)) u.start (b ++> after) (expected_is marks.Do u (b ++> after) e)
+          ∙ bind_ok (lower (fresh false) n) (λ x. gives (action x.0, x.1)) (b ++> after) (x, c.count) after c.reads;
+      }
+
+  -- "else" and a statement, or nothing, before "fi"
+  branch_complete : (inner : Bool) (n : ℕ) (ts : List Lexeme) (y : Branch) → IsBranch V low inner ts y → (v : Lexeme) → Is marks.Fi v → (after : Stream) → Read_as (branch_of value lower inner n (ts ++> more v after)) y (more v after)
+  unfolding branch_of number calm
+  branch_complete inner n ts y without v f after = let no_else : is (sign_of v) marks.Else ≡ false = unlike marks.Fi marks.Else refl v f in record { count = n; reads = rw no_else refl }
+  branch_complete inner n ts y (with_else t b x e l) v f after =
+      let c = cl.complete inner n b x l (more v after) (known calm marks.Fi refl (sign_of v) f) in
+      record { count = c.count; reads = rw e (bind_ok (lower (fresh inner) n) (λ x. gives (branch x.0, x.1)) (b ++> more v after) (x, c.count) (more v after) c.reads) }
+
+  branch_begins : (inner : Bool) (ts : List Lexeme) (y : Branch) → IsBranch V low inner ts y → (v : Lexeme) → Is marks.Fi v → (after : Stream) → calm (ahead (ts ++> more v after)) ≡ true
+  unfolding number calm
+  branch_begins inner ts y without v f after = known calm marks.Fi refl (sign_of v) f
+  branch_begins inner ts y (with_else t b x e l) v f after = known calm marks.Else refl (sign_of t) e
+
+  conditional_complete : (inner : Bool) (n : ℕ) (u v : Lexeme) (a b c : List Lexeme) (e : Expr) (x : Statement) (y : Branch) → V a e → Is marks.Then u → low inner b x → IsBranch V low inner c y → Is marks.Fi v
+      → (after : Stream) → Read_as (conditional_of value lower inner n ((a ++ (u ∷ b ++ (c ++ v ∷ []))) ++> after)) (conditional e x y) after
+  unfolding conditional_of number calm
+  conditional_complete inner n u v a b c e x y lv f lx ly g after =
+      let last = more v after in
+      let third = cl.complete inner n b x lx (c ++> last) (branch_begins inner c y ly v g after) in
+      let fourth = branch_complete inner third.count c y ly v g after in
+      let texts : (a ++ (u ∷ b ++ (c ++ v ∷ []))) ++> after ≡ a ++> more u (b ++> (c ++> last)) = simp append_stream in
+      record {
+        count = fourth.count;
+        reads =
+          ap (then_reads value (λ e. then_reads (expected marks.Then) (λ m. then_reads (lower (fresh inner) n) (λ x. then_reads (branch_of value lower inner x.1) (λ y. then_reads (expected marks.Fi) (λ z. gives (conditional e x.0 y.0, y.1))))))) texts
+          ∙ bind_ok value (λ e. then_reads (expected marks.Then) (λ m. then_reads (lower (fresh inner) n) (λ x. then_reads (branch_of value lower inner x.1) (λ y. then_reads (expected marks.Fi) (λ z. gives (conditional e x.0 y.0, y.1)))))) (a ++> more u (b ++> (c ++> last))) e (more u (b ++> (c ++> last))) (vc a e lv (more u (b ++> (c ++> last))) (known calm marks.Then refl (sign_of u) f))
+          ∙ bind_ok (expected marks.Then) (λ m. then_reads (lower (fresh inner) n) (λ x. then_reads (branch_of value lower inner x.1) (λ y. then_reads (expected marks.Fi) (λ z. gives (conditional e x.0 y.0, y.1))))) (more u (b ++> (c ++> last))) u.start (b ++> (c ++> last)) (expected_is marks.Then u (b ++> (c ++> last)) f)
+          ∙ bind_ok (lower (fresh inner) n) (λ x. then_reads (branch_of value lower inner x.1) (λ y. then_reads (expected marks.Fi) (λ z. gives (conditional e x.0 y.0, y.1)))) (b ++> (c ++> last)) (x, third.count) (c ++> last) third.reads
+          ∙ bind_ok (branch_of value lower inner third.count) (λ y. then_reads (expected marks.Fi) (λ z. gives (conditional e x y.0, y.1))) (c ++> last) (y, fourth.count) last fourth.reads
+          ∙ bind_ok (expected marks.Fi) (λ z. gives (conditional e x y, fourth.count)) last v.start after (expected_is marks.Fi v after g);
+      }
+
+  -- WHOLE STATEMENTS
+  from_start : (inner : Bool) (label : Option Label) (n : ℕ) (t : Lexeme) (x : Start) → start (sign_of t) ≡ Some x → (s : Stream) (a : Action) (after : Stream) → Read_as (action_of value lower inner n (label_of t) x s) a after
+      → Read_as (bare_of value lower inner label n (more t s)) (stated label t.start a) after
+  unfolding bare_of
+  from_start inner label n t x e s a after c = record { count = c.count; reads = rw (e, c.reads) refl }
+
+  pub bare_complete : (inner : Bool) (place : ℕ) (ts : List Lexeme) (a : Action) → IsBare V low inner place ts a → (label : Option Label) (n : ℕ) (after : Stream) → calm (ahead after) ≡ true
+      → Read_as (bare_of value lower inner label n (ts ++> after)) (stated label place a) after
+  unfolding action_of number calm calm_but
+  bare_complete inner place ts a (s_assign i t b e f r) label n after h =
+      from_start inner label n t starts.Named f (b ++> after) (assign (label_of t) e) after (record { count = n; reads = bind_ok (right_side_of value) (λ e. gives (assign (label_of t) e, n)) (b ++> after) e after (right_side_complete value V vc value_shrinks b e r after h) })
+  bare_complete inner place ts a (s_assign_all i t u v w z c d targets values f rows1 e1 e2 e3 rows2 e4) label n after h =
+      from_start inner label n t starts.Listed f ((c ++ (u ∷ v ∷ w ∷ d ++ z ∷ [])) ++> after) (assign_all targets w.start values) after
+      (record { count = n; reads = bind_ok (all_assigned_of value) (λ a. gives (a, n)) ((c ++ (u ∷ v ∷ w ∷ d ++ z ∷ [])) ++> after) (assign_all targets w.start values) after (all_assigned_complete value V vc value_shrinks u v w z c d targets values rows1 e1 e2 e3 rows2 e4 after) })
+  bare_complete inner place ts a (s_skip i t f) label n after h = from_start inner label n t starts.Skip f after skip after (record { count = n; reads = refl })
+  bare_complete inner place ts a (s_critical t f) label n after h = from_start false label n t starts.Critical f after critical after (record { count = n; reads = refl })
+  bare_complete inner place ts a (s_noncritical t f) label n after h = from_start false label n t starts.Noncritical f after noncritical after (record { count = n; reads = refl })
+  bare_complete inner place ts a (s_await i t b e f l) label n after h = from_start inner label n t starts.Await f (b ++> after) (await e) after (value_read await n b e l after h)
+  bare_complete inner place ts a (s_request t u f e) label n after h = from_start false label n t starts.Request f (more u after) (request (label_of u)) after (name_read request n u e after)
+  bare_complete inner place ts a (s_release t u f e) label n after h = from_start false label n t starts.Release f (more u after) (release (label_of u)) after (name_read release n u e after)
+  bare_complete inner place ts a (s_if i t u v b c d e x y f lv g lx ly k) label n after h =
+      from_start inner label n t starts.If f ((b ++ (u ∷ c ++ (d ++ v ∷ []))) ++> after) (conditional e x y) after (conditional_complete inner n u v b c d e x y lv g lx ly k after)
+  bare_complete inner place ts a (s_while t u b c e x f lv g lx) label n after h =
+      let d = doing_complete (while_do e) n u c x g lx after h in
+      from_start false label n t starts.While f ((b ++ u ∷ c) ++> after) (while_do e x) after (record {
+        count = d.count;
+        reads =
+          ap (then_reads value (λ e. doing value lower (while_do e) n)) (append_stream b (u ∷ c) after)
+          ∙ bind_ok value (λ e. doing value lower (while_do e) n) (b ++> more u (c ++> after)) e (more u (c ++> after)) (vc b e lv (more u (c ++> after)) (known calm marks.Do refl (sign_of u) g))
+          ∙ d.reads;
+      })
+  bare_complete inner place ts a (s_loop t u v c x f g k lx) label n after h =
+      let d = doing_complete forever n v c x k lx after h in
+      from_start false label n t starts.Loop f (more u (more v (c ++> after))) (forever x) after (record {
+        count = d.count;
+        reads = bind_ok (expected marks.Forever) (λ m. doing value lower forever n) (more u (more v (c ++> after))) u.start (more v (c ++> after)) (expected_is marks.Forever u (more v (c ++> after)) g) ∙ d.reads;
+      })
+  bare_complete inner place ts a (s_block i t u b xs f rows e) label n after h =
+      from_start inner label n t starts.Block f ((b ++ u ∷ []) ++> after) (block (statements xs)) after
+      (enclosed_complete (λ xs. block (statements xs)) marks.CloseBlock (sequence_of value lower inner n) b xs u e after (sequence_complete inner n b xs rows (more u after) (known (calm_but marks.Semicolon) marks.CloseBlock refl (sign_of u) e)))
+  bare_complete inner place ts a (s_select t u v b xs f g rows e) label n after h =
+      let c = enclosed_complete (λ xs. select (statements xs)) marks.CloseBlock (selection_of value lower n) b xs v e after (selection_complete n b xs rows (more v after) (known (calm_but marks.Either) marks.CloseBlock refl (sign_of v) e)) in
+      from_start false label n t starts.Select f (more u ((b ++ v ∷ []) ++> after)) (select (statements xs)) after (record {
+        count = c.count;
+        reads = bind_ok (expected marks.OpenBlock) (λ m. enclosed (λ xs. select (statements xs)) marks.CloseBlock (selection_of value lower n)) (more u ((b ++ v ∷ []) ++> after)) u.start ((b ++ v ∷ []) ++> after) (expected_is marks.OpenBlock u ((b ++ v ∷ []) ++> after) g) ∙ c.reads;
+      })
+  bare_complete inner place ts a (s_cooperate t u b xs f rows e) label n after h =
+      from_start false label n t starts.Cooperate f ((b ++ u ∷ []) ++> after) (cooperate (bodies xs)) after
+      (enclosed_complete (λ xs. cooperate (bodies xs)) marks.Coend (children_of value lower n) b xs u e after (children_complete n b xs rows (more u after) (known (calm_but marks.Bars) marks.Coend refl (sign_of u) e)))
+  bare_complete inner place ts a (s_group t u b xs f rows e) label n after h =
+      from_start false label n t starts.Group f ((b ++ u ∷ []) ++> after) (group (statements xs)) after
+      (enclosed_complete (λ xs. group (statements xs)) marks.CloseGroup (sequence_of value lower true n) b xs u e after (sequence_complete true n b xs rows (more u after) (known (calm_but marks.Semicolon) marks.CloseGroup refl (sign_of u) e)))

@@ -61,7 +61,8 @@ pub fn signed_row(alloc: Global, f: &Lin, plus: bool) -> Result<Form, Memory>
     if plus {
         simple_row(alloc, f)
     } else {
-        simple_row(alloc, &f.complement(alloc)?)
+        let denied = f.complement(alloc)?;
+        simple_row(alloc, &denied)
     }
 }
 

@@ -59,3 +59,6 @@ fn copy_all(alloc: Global, ts: &[Certificate]) -> Result<Vec<Certificate>, Memor
     }
     Ok(out)
 }
+
+#[cfg(test)]
+mod tests;

@@ -1,0 +1,5 @@
+pub mod Heads
+pub mod Onces
+pub mod Own
+pub mod Strands
+pub mod Walked

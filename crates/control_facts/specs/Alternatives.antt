@@ -2,7 +2,8 @@
 --
 -- The alternatives of a component are, in text order, its own locations, the end included, and directly behind the
 -- location of a cooperation in it "inside that cooperation". Where several cooperations have one location, their insides
--- stand behind it in text order.
+-- stand behind it in text order. Locations are those of Manna and Pnueli, *Temporal Verification of Reactive Systems:
+-- Safety*, section 0.2, where a block's location is that of its first statement.
 use Rattle.std.specs.Prelude.{ℕ, suc, ◌+◌, not, ◌==◌, if◌then◌else◌, List, [], ◌∷◌, ◌++◌, map, flat_map, filter, length, Option, Some, None}
 use Rattle.st_program.specs.Tree.{Statement, stated, Action, skip, if_then, if_else, while_do, block, select, cooperate, Statements, no_statement, statement, process, Processes, no_process, beside, location}
 use Rattle.st_program.specs.Spots.{bodies, bodies_in}

@@ -4,4 +4,8 @@
 //! the definition `control_of` of `specs/Alternatives.antt`.
 #![tactic(auto)]
 
+mod choices;
+mod walking;
+
 pub use control_states::{Alternative, Component, Components, alternatives_at, around_at};
+pub use walking::components;

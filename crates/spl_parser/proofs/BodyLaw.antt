@@ -1,19 +1,18 @@
 -- The law of the readers of bodies and of whole statements, for any readers of values and of inner statements that have it.
-use Rattle.std.proofs.Common.{◌≡◌, ℕ, ◌+◌, Bool, true, false, cond, List, [], ◌∷◌, ◌++◌, Option, Some, None, Ok, Err, refl, sym, ap, ◌∙◌}
-use Rattle.st_tokens.specs.Stream.{Lexeme, Stream, ends, breaks, more, behind}
-use Rattle.st_reading.specs.declared.mark.Mark.{Mark}
+use Rattle.std.proofs.Common.{◌≡◌, ℕ, Bool, true, false, List, [], ◌∷◌, ◌++◌, Some, None, Err, refl}
+use Rattle.st_tokens.specs.Stream.{ends}
 use Rattle.st_reading.specs.declared.mark.Mark.TheVariants as marks
 use Rattle.st_reading.specs.declared.sign.Sign.{Sign}
 use Rattle.st_reading.specs.declared.sign.Sign.TheVariants as signs
 use Rattle.st_reading.specs.Mark.{number}
 use Rattle.st_reading.specs.Sign.{sign_of, is}
 use Rattle.st_reading.specs.Faults.{Passed}
-use Rattle.st_reading.specs.Reading.{Label, label_of, Turn, leaves, goes, expected, named, is_name, gives, then_reads, chain, size, syntax, only, Counted, counting, linked}
-use Rattle.st_reading.specs.Steady.{Viable, Within, Parts, calmer, takes, Wide, wider, moves, anything}
-use Rattle.st_reading.proofs.Lawful.{Lawful, branching, lawful_bind, lawful_gives, lawful_map, lawful_chain, lawful_weak, viable_of}
-use Rattle.st_reading.proofs.Branches.{lawful_calmer, completes_gives, lawful_fork, fork_completes, lawful_pick, pick_completes}
+use Rattle.st_reading.specs.Reading.{Label, label_of, leaves, goes, expected, is_name, gives, then_reads, syntax, only, Counted, counting, linked}
+use Rattle.st_reading.specs.Steady.{Viable, Within, calmer, wider, moves, anything}
+use Rattle.st_reading.proofs.Lawful.{Lawful, lawful_bind, lawful_gives, lawful_map, lawful_chain, lawful_weak}
+use Rattle.st_reading.proofs.Branches.{completes_gives, lawful_fork, fork_completes}
 use Rattle.spl_parser.specs.ExpressionTree.{Expr}
-use Rattle.spl_parser.specs.ProgramTree.{Statement, statements, Body, body, bodies}
+use Rattle.spl_parser.specs.ProgramTree.{Statement, statements, Body, body}
 use Rattle.spl_parser.specs.Item.{Item, last, item}
 use Rattle.spl_parser.specs.Begun.{Begun, fresh, after_name, after_label}
 use Rattle.spl_parser.specs.Calm.{calm, calm_but, calm_but2}

@@ -1,32 +1,29 @@
 -- What completes a statement, where inner statements can be completed.
-use Rattle.std.proofs.Common.{◌≡◌, ℕ, zero, suc, ◌+◌, Bool, true, false, cond, List, [], ◌∷◌, ◌++◌, Option, Some, None, Ok, Err, refl, sym, ap, ◌∙◌}
-use Rattle.st_tokens.specs.Stream.{◌++>◌, Lexeme, Stream, ends, breaks, more, behind}
+use Rattle.std.proofs.Common.{◌≡◌, ℕ, Bool, true, false, List, [], ◌∷◌, None, refl, sym, ◌∙◌}
+use Rattle.st_tokens.specs.Stream.{◌++>◌}
 use Rattle.st_reading.specs.declared.mark.Mark.{Mark}
 use Rattle.st_reading.specs.declared.mark.Mark.TheVariants as marks
 use Rattle.st_reading.specs.declared.sign.Sign.{Sign}
 use Rattle.st_reading.specs.declared.sign.Sign.TheVariants as signs
 use Rattle.st_reading.specs.Mark.{number}
-use Rattle.st_reading.specs.Sign.{sign_of, is}
 use Rattle.st_reading.specs.Faults.{Passed}
-use Rattle.st_reading.specs.Reading.{Label, label_of, ahead, Turn, expected, named, is_name, gives, then_reads, chain, size, on_operator, only, listing, Counted, counting, further, linked}
-use Rattle.st_reading.specs.Steady.{Viable, Within, anything}
+use Rattle.st_reading.specs.Reading.{Label, ahead, expected, named, gives, then_reads, size, only, listing, Counted, counting, further, linked}
+use Rattle.st_reading.specs.Steady.{Viable, anything}
 use Rattle.st_reading.proofs.Steadiness.{viable_named}
 use Rattle.st_reading.proofs.Chains.{chain_none}
-use Rattle.st_reading.proofs.Branches.{completes_calmer, completes_gives, completes_bind, completes_map, completes_behind, completes_over}
+use Rattle.st_reading.proofs.Branches.{completes_calmer, completes_gives, completes_bind, completes_map}
 use Rattle.spl_parser.specs.declared.sign.Start.{Start}
 use Rattle.spl_parser.specs.declared.sign.Start.TheVariants as starts
-use Rattle.spl_parser.specs.Signs.{start, begins}
 use Rattle.spl_parser.specs.ExpressionTree.{Expr}
-use Rattle.spl_parser.specs.ProgramTree.{Statement, stated, statements, Branch, no_branch, conditional, Action, skip, critical, noncritical, assign, assign_all, await, request, release, while_do, forever, block, select, cooperate, group, Body, body, bodies}
-use Rattle.spl_parser.specs.Begun.{Begun, fresh, after_name, after_label}
+use Rattle.spl_parser.specs.ProgramTree.{Statement, statements, no_branch, conditional, Action, skip, critical, noncritical, assign, assign_all, await, request, release, while_do, forever, block, select, cooperate, group, Body, body, bodies}
+use Rattle.spl_parser.specs.Begun.{Begun, fresh}
 use Rattle.spl_parser.specs.Calm.{calm, calm_but, calm_but2}
 use Rattle.spl_parser.specs.Reading.{Reader}
-use Rattle.spl_parser.specs.Statements.{Lower, goes_on, counted, listed_of, right_side_of, all_assigned_of, assigned_of, sequence_of, selection_of, continuing, closed_body, rest_of_body, body_of, child_of, children_of, branch_of, conditional_of, doing, enclosed, action_of, standing, bare_of, named_of, statement_of, inside}
+use Rattle.spl_parser.specs.Statements.{Lower, listed_of, right_side_of, all_assigned_of, sequence_of, selection_of, continuing, closed_body, rest_of_body, body_of, child_of, children_of, branch_of, conditional_of, doing, enclosed, action_of}
 use Rattle.spl_parser.proofs.Quiet.{but_calm, but_none, but_false, but2_other, but2_none, name_token}
-use Rattle.spl_parser.proofs.Witnesses.{Witness, witness_is, witness_in, completes_mark, becomes_mark, comma_mark, open_mark, close_mark, close_block_mark, close_group_mark, open_block_mark, colon_mark, then_mark, fi_mark, do_mark, forever_mark, either_mark, bars_mark, coend_mark, skip_mark}
+use Rattle.spl_parser.proofs.Witnesses.{Witness, completes_mark, becomes_mark, comma_mark, open_mark, close_mark, close_block_mark, close_group_mark, open_block_mark, then_mark, fi_mark, do_mark, forever_mark, either_mark, bars_mark, coend_mark}
 use Rattle.spl_parser.proofs.ListLaw.{any_of, same}
-use Rattle.spl_parser.proofs.BodyLaw.{in_body, apart, apart_calm, name_is, name_calm, colon_calm}
-use Rattle.spl_parser.proofs.WholeLaw.{skip_starts, skip_calm}
+use Rattle.spl_parser.proofs.BodyLaw.{in_body, apart, name_is, name_calm}
 
 name_completes : Viable {X = Passed} calm calm named []
 name_completes = viable_named calm calm name_token name_is name_calm

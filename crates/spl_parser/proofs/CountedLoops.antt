@@ -1,18 +1,15 @@
 -- Loops over lists whose items are counted.
-use Rattle.std.proofs.Common.{◌≡◌, ℕ, ◌≤◌, List, [], ◌∷◌, ◌++◌, length, Option, Some, None, Result, Ok, Err, true, false, refl, sym, ap, ◌∙◌}
+use Rattle.std.proofs.Common.{◌≡◌, ℕ, ◌≤◌, List, [], ◌∷◌, ◌++◌, Option, Some, None, Ok, true, false, refl, sym, ap, ◌∙◌}
 use Rattle.st_tokens.specs.Stream.{Stream, behind}
-use Rattle.st_reading.specs.declared.mark.Mark.{Mark}
 use Rattle.st_reading.specs.declared.mark.Mark.TheVariants as marks
-use Rattle.st_reading.specs.declared.sign.Sign.{Sign}
-use Rattle.st_reading.specs.declared.sign.Sign.TheVariants as signs
 use Rattle.st_reading.specs.Sign.{is}
 use Rattle.st_reading.specs.Faults.{Passed}
-use Rattle.st_reading.specs.Reading.{Stop, Read, Label, ahead, place_of, size, gives, leaves, goes, expected, IsStop, only, Counted, counting}
+use Rattle.st_reading.specs.Reading.{Stop, Read, Label, ahead, size, goes, expected, IsStop, only, Counted}
 use Rattle.st_reading.proofs.Chains.{Running, running_next, running_leaves, running_ends, running_fails}
 use Rattle.st_reading.proofs.Loops.{stop_as, only_some, only_none, mapped, map_fails}
 use Rattle.spl_parser.specs.ExpressionTree.{Expr}
-use Rattle.spl_parser.specs.ProgramTree.{Statement, Process, Body, body, statements}
-use Rattle.spl_parser.specs.Item.{Item, last, item}
+use Rattle.spl_parser.specs.ProgramTree.{Statement, Body, body, statements}
+use Rattle.spl_parser.specs.Item.{last, item}
 use Rattle.spl_parser.specs.Reading.{Reader}
 use Rattle.spl_parser.specs.Statements.{Lower, item_of, turned_by, continuing, closed_body}
 

@@ -1,16 +1,15 @@
 -- What is an expression by the grammar is read, where no token follows that continues it.
-use Rattle.std.proofs.Common.{◌≡◌, ℕ, zero, suc, ◌<◌, ◌≤◌, nat_lt, Bool, true, false, cond, List, [], ◌∷◌, ◌++◌, Option, Some, None, Result, Ok, Err, refl, sym, ap, subst, ◌∙◌, arith}
+use Rattle.std.proofs.Common.{◌≡◌, ℕ, zero, suc, ◌<◌, ◌≤◌, nat_lt, Bool, true, false, cond, List, [], ◌∷◌, ◌++◌, Option, Some, None, Ok, refl, sym, ap, ◌∙◌, arith}
 use Rattle.std.proofs.lemmas.Bool.Decides.{nat_tests}
-use Rattle.st_tokens.specs.Stream.{◌++>◌, Lexeme, Stream, ends, breaks, more, behind}
+use Rattle.st_tokens.specs.Stream.{◌++>◌, Lexeme, Stream, more}
 use Rattle.st_reading.specs.declared.mark.Mark.{Mark}
 use Rattle.st_reading.specs.declared.mark.Mark.TheVariants as marks
 use Rattle.st_reading.specs.declared.sign.Sign.{Sign}
 use Rattle.st_reading.specs.declared.sign.Sign.TheVariants as signs
 use Rattle.st_reading.specs.Mark.{number}
 use Rattle.st_reading.specs.Sign.{sign_of, is}
-use Rattle.st_reading.specs.Faults.{Passed}
-use Rattle.st_reading.specs.Reading.{Read, ◌>>=◌, ahead, place_of, expected, gives, then_reads, Turn, leaves, goes, turned, on_operator, chain, size, only, listing, further}
-use Rattle.st_reading.specs.Spelling.{Sound, Is, IsName, Items, no_items, item_more, Row2, row2}
+use Rattle.st_reading.specs.Reading.{ahead, expected, gives, then_reads, Turn, goes, turned, chain, size, only, listing, further}
+use Rattle.st_reading.specs.Spelling.{Sound, Is, Items, no_items, item_more, row2}
 use Rattle.st_reading.specs.Steady.{Within}
 use Rattle.st_reading.proofs.Streams.{append_stream}
 use Rattle.st_reading.proofs.Steadiness.{bind_ok}
@@ -27,7 +26,7 @@ use Rattle.spl_parser.specs.declared.sign.Front.TheVariants as fronts
 use Rattle.spl_parser.specs.Signs.{front, product_sign, sum_sign, comparison_sign}
 use Rattle.spl_parser.specs.ExpressionTree.{Expr, Exprs, Kind, node, all, any, exprs, start_of, kind_of}
 use Rattle.spl_parser.specs.Calm.{calm}
-use Rattle.spl_parser.specs.Reading.{Reader, Down, Level, formula, negated, signed, joined, closing, seen, atom_at, atom_of, unary_at, unary_of, grouping, grouped, product_of, sum_of, compared, comparison_of, negation_at, negation_of, chained, conjunction_of, disjunction_of, implied, expression_of, level_of, below}
+use Rattle.spl_parser.specs.Reading.{Reader, Down, Level, formula, negated, signed, joined, closing, atom_of, unary_of, grouping, grouped, product_of, sum_of, compared, comparison_of, negation_at, negation_of, chained, conjunction_of, disjunction_of, implied, expression_of, below}
 use Rattle.spl_parser.specs.Grammar.{IsAtom, a_numeral, a_truth, a_name, a_place, a_group, IsUnary, minus, plain, Behind, stop, go, IsGrouped, grouping as a_grouping, IsChained, alone, chained as a_chain, IsProduct, IsSum, IsComparison, sum, compare, IsNegation, tilde, straight, IsConjunction, IsDisjunction, IsExpression, disjunction, implication, Inside, SpellsWithin}
 use Rattle.spl_parser.proofs.ExpressionSoundness.{unary_sound, product_sound, negation_sound, conjunction_sound, below_sound}
 

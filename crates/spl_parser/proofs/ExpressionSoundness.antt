@@ -1,5 +1,5 @@
 -- What the readers of expressions read is in the grammar.
-use Rattle.std.proofs.Common.{◌≡◌, ℕ, zero, suc, Bool, true, false, cond, List, [], ◌∷◌, ◌++◌, Option, Some, None, Result, Ok, Err, refl, sym, ap, subst, ◌∙◌, append-nil}
+use Rattle.std.proofs.Common.{◌≡◌, ℕ, zero, suc, Bool, true, false, cond, List, [], ◌∷◌, ◌++◌, Option, Some, None, Ok, Err, refl, sym, ap, subst, ◌∙◌, append-nil}
 use Rattle.st_tokens.specs.Stream.{◌++>◌, Lexeme, Stream, ends, breaks, more, behind}
 use Rattle.st_reading.specs.declared.mark.Mark.{Mark}
 use Rattle.st_reading.specs.declared.mark.Mark.TheVariants as marks
@@ -7,18 +7,18 @@ use Rattle.st_reading.specs.declared.sign.Sign.{Sign}
 use Rattle.st_reading.specs.declared.sign.Sign.TheVariants as signs
 use Rattle.st_reading.specs.Sign.{sign_of, is}
 use Rattle.st_reading.specs.Faults.{Passed}
-use Rattle.st_reading.specs.Reading.{Stop, Read, ◌>>=◌, Label, ahead, place_of, name_of, label_of, named, expected, gives, then_reads, Turn, leaves, goes, turned, on_operator, chain, size, only, listing}
-use Rattle.st_reading.specs.Spelling.{Cut, Sound, Both, behind_it, Is, IsName, OneName, one_name, Items, no_items, item_more, Row2, row2}
+use Rattle.st_reading.specs.Reading.{Read, ◌>>=◌, ahead, place_of, label_of, named, expected, gives, then_reads, Turn, goes, turned, on_operator, chain, size, only, listing}
+use Rattle.st_reading.specs.Spelling.{Cut, Sound, Both, behind_it, Is, OneName, one_name, Items, row2}
 use Rattle.st_reading.proofs.Streams.{append_stream}
 use Rattle.st_reading.proofs.Soundness.{split, values, taken, sound_bind}
-use Rattle.st_reading.proofs.ListSoundness.{OneMark, one_mark, Given, given, sound_as, sound_gives, sound_expected, sound_named, Extends, Continues, listing_continues, listing_mapped}
+use Rattle.st_reading.proofs.ListSoundness.{OneMark, one_mark, Given, given, sound_gives, sound_expected, sound_named, Continues, listing_continues, listing_mapped}
 use Rattle.spl_parser.specs.declared.raw.Operator.{Operator}
 use Rattle.spl_parser.specs.declared.raw.Operator.TheVariants as operators
 use Rattle.spl_parser.specs.declared.sign.Front.{Front}
 use Rattle.spl_parser.specs.declared.sign.Front.TheVariants as fronts
 use Rattle.spl_parser.specs.Signs.{front, product_sign, sum_sign, comparison_sign}
 use Rattle.spl_parser.specs.ExpressionTree.{Expr, Exprs, Kind, node, numeral, truth, name, at, negation, negative, all, any, exprs, kind_of, start_of}
-use Rattle.spl_parser.specs.Reading.{Reader, Down, Level, formula, negated, signed, joined, closing, seen, atom_at, atom_of, unary_at, unary_of, grouping, grouped, product_of, sum_of, compared, comparison_of, negation_at, negation_of, chained, conjunction_of, disjunction_of, implied, expression_of, level_of, below}
+use Rattle.spl_parser.specs.Reading.{Reader, Down, Level, formula, negated, signed, joined, closing, seen, atom_at, atom_of, unary_at, unary_of, grouping, grouped, product_of, sum_of, compared, comparison_of, negation_at, negation_of, chained, conjunction_of, disjunction_of, implied, expression_of, below}
 use Rattle.spl_parser.specs.Grammar.{IsAtom, a_numeral, a_truth, a_name, a_place, a_group, IsUnary, minus, plain, Behind, stop, go, IsGrouped, grouping as a_grouping, IsChained, alone, chained as a_chain, IsProduct, IsSum, IsComparison, sum, compare, IsNegation, tilde, straight, IsConjunction, IsDisjunction, IsExpression, disjunction, implication, Inside}
 
 -- OPERATORS, GROUPED FROM THE LEFT

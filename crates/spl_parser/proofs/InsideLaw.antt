@@ -1,34 +1,26 @@
 -- The law of statements inside others, with any number of levels beside any larger number.
-use Rattle.std.proofs.Common.{◌≡◌, ℕ, zero, suc, ◌+◌, Bool, true, false, cond, List, [], ◌∷◌, ◌++◌, Option, Some, None, Ok, Err, ◌≤◌, refl, sym, ap, subst, ◌∙◌}
-use Rattle.st_tokens.specs.declared.limit.LimitKind.{LimitKind}
-use Rattle.st_tokens.specs.declared.limit.LimitKind.TheVariants as limits
-use Rattle.st_tokens.specs.Stream.{◌++>◌, Lexeme, Stream, ends, breaks, more, behind}
+use Rattle.std.proofs.Common.{◌≡◌, ℕ, zero, suc, ◌+◌, Bool, true, false, [], ◌∷◌, Option, Some, None, Ok, refl, ap, ◌∙◌}
+use Rattle.st_tokens.specs.Stream.{◌++>◌, Lexeme, Stream, more}
 use Rattle.st_reading.specs.declared.mark.Mark.TheVariants as marks
 use Rattle.st_reading.specs.declared.sign.Sign.{Sign}
-use Rattle.st_reading.specs.declared.sign.Sign.TheVariants as signs
 use Rattle.st_reading.specs.Mark.{number}
 use Rattle.st_reading.specs.Sign.{sign_of, is}
-use Rattle.st_reading.specs.Faults.{Passed, passed}
-use Rattle.st_reading.specs.Reading.{Stop, other, Read, Label, label_of, name_of, ahead, place_of, size, is_name, gives, then_reads, on_operator, refusal, syntax, Counted}
-use Rattle.st_reading.specs.Steady.{head, Viable, SteadyAt, Within, Wide, wider, anything}
-use Rattle.st_reading.proofs.Streams.{ahead_same}
-use Rattle.st_reading.proofs.Steadiness.{at_stuck, at_over}
-use Rattle.st_reading.proofs.Soundness.{Shrinks}
-use Rattle.st_reading.proofs.Lawful.{Lawful, at_head, viable_of}
+use Rattle.st_reading.specs.Reading.{Label, label_of, is_name, gives, then_reads, Counted}
+use Rattle.st_reading.specs.Steady.{Viable}
 use Rattle.st_reading.proofs.Branches.{completes_map, completes_behind, completes_over, completes_gives}
 use Rattle.spl_parser.specs.declared.sign.Start.{Start}
 use Rattle.spl_parser.specs.declared.sign.Start.TheVariants as starts
-use Rattle.spl_parser.specs.Signs.{start, begins, is_inner}
+use Rattle.spl_parser.specs.Signs.{start, begins}
 use Rattle.spl_parser.specs.ExpressionTree.{Expr}
-use Rattle.spl_parser.specs.ProgramTree.{Statement, stated, Action, skip, assign}
+use Rattle.spl_parser.specs.ProgramTree.{stated, Action, skip, assign}
 use Rattle.spl_parser.specs.Begun.{Begun, fresh, after_name, after_label}
 use Rattle.spl_parser.specs.Calm.{calm}
 use Rattle.spl_parser.specs.Reading.{Reader}
-use Rattle.spl_parser.specs.Statements.{Lower, goes_on, front_place, right_side_of, action_of, standing, bare_of, named_of, assigned_of, statement_of, limited, admitted, inside}
+use Rattle.spl_parser.specs.Statements.{Lower, goes_on, right_side_of, action_of, standing, bare_of, named_of, assigned_of, statement_of, inside}
 use Rattle.spl_parser.proofs.Witnesses.{witness_is, witness_in, becomes_mark, colon_mark, skip_mark}
-use Rattle.spl_parser.proofs.ListLaw.{any_of, same}
-use Rattle.spl_parser.proofs.BodyLaw.{colon_calm, quiet}
-use Rattle.spl_parser.proofs.WholeLaw.{skip_starts, skip_calm, lawful_statement, statement_ends}
+use Rattle.spl_parser.proofs.ListLaw.{same}
+use Rattle.spl_parser.proofs.BodyLaw.{colon_calm}
+use Rattle.spl_parser.proofs.WholeLaw.{skip_starts, skip_calm}
 use Rattle.spl_parser.proofs.Completing.{action_completes}
 
 -- there is no limit on their number

@@ -1,21 +1,19 @@
 -- The law of statements inside others, for any number of levels beside any larger one: by induction on the levels.
-use Rattle.std.proofs.Common.{◌≡◌, ℕ, zero, suc, ◌+◌, Bool, true, false, cond, List, [], ◌∷◌, Option, Some, None, Ok, Err, refl, sym, ap, ◌∙◌}
+use Rattle.std.proofs.Common.{◌≡◌, ℕ, zero, suc, ◌+◌, Bool, true, false, List, [], ◌∷◌, Err, refl, sym, ap, ◌∙◌}
 use Rattle.st_tokens.specs.declared.limit.LimitKind.{LimitKind}
 use Rattle.st_tokens.specs.declared.limit.LimitKind.TheVariants as limits
 use Rattle.st_tokens.specs.Stream.{Lexeme, Stream, ends, breaks, more}
-use Rattle.st_reading.specs.declared.sign.Sign.{Sign}
 use Rattle.st_reading.specs.declared.sign.Sign.TheVariants as signs
 use Rattle.st_reading.specs.Sign.{sign_of}
-use Rattle.st_reading.specs.Faults.{Passed, passed}
-use Rattle.st_reading.specs.Reading.{Stop, other, Read, ahead, size, refusal, syntax, Counted}
+use Rattle.st_reading.specs.Faults.{passed}
+use Rattle.st_reading.specs.Reading.{other, ahead, refusal, syntax}
 use Rattle.st_reading.specs.Spelling.{Sound}
-use Rattle.st_reading.specs.Steady.{head, token, Viable, SteadyAt, Within, wider}
-use Rattle.st_reading.proofs.Streams.{ahead_same, token_is}
+use Rattle.st_reading.specs.Steady.{Viable, SteadyAt, wider}
+use Rattle.st_reading.proofs.Streams.{token_is}
 use Rattle.st_reading.proofs.Steadiness.{at_stuck, at_over}
 use Rattle.st_reading.proofs.Soundness.{sound_shrinks}
 use Rattle.st_reading.proofs.Lawful.{Lawful, at_head, viable_of}
 use Rattle.spl_parser.specs.ExpressionTree.{Expr}
-use Rattle.spl_parser.specs.ProgramTree.{Statement}
 use Rattle.spl_parser.specs.Begun.{Begun, fresh, after_name, after_label}
 use Rattle.spl_parser.specs.Calm.{calm}
 use Rattle.spl_parser.specs.Reading.{Reader}

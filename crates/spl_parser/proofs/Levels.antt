@@ -1,10 +1,10 @@
 -- One level down.
-use Rattle.std.proofs.Common.{◌≡◌, ℕ, zero, suc, ◌-◌, ◌<◌, Bool, true, Option, Some, None, Result, Ok, Err, refl, sym, ap, subst, ◌∙◌, arith}
+use Rattle.std.proofs.Common.{◌≡◌, ℕ, zero, suc, ◌-◌, ◌<◌, Bool, true, Option, Ok, Err, refl, sym, ap, ◌∙◌, arith}
 use Rattle.st_tokens.specs.Stream.{Stream, behind}
 use Rattle.st_reading.specs.declared.mark.Mark.TheVariants as marks
 use Rattle.st_reading.specs.Sign.{is}
 use Rattle.st_reading.specs.Faults.{Passed}
-use Rattle.st_reading.specs.Reading.{Stop, Read, ◌>>=◌, ahead, place_of, expected, IsStop}
+use Rattle.st_reading.specs.Reading.{Stop, Read, ahead, place_of, expected, IsStop}
 use Rattle.st_reading.proofs.Loops.{stop_as}
 use Rattle.spl_parser.specs.declared.raw.Operator.TheVariants as operators
 use Rattle.spl_parser.specs.declared.sign.Front.TheVariants as fronts

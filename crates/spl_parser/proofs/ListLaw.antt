@@ -1,15 +1,12 @@
 -- The law of lists with commas, and of what stands behind the left side of an assignment.
-use Rattle.std.proofs.Common.{◌≡◌, ℕ, Bool, true, false, List, [], ◌∷◌, ◌++◌, Option, Some, None, Ok, Err, refl, sym, ap, ◌∙◌}
-use Rattle.st_tokens.specs.Stream.{Lexeme, Stream, ends}
-use Rattle.st_reading.specs.declared.mark.Mark.{Mark}
+use Rattle.std.proofs.Common.{◌≡◌, ℕ, Bool, List, [], ◌∷◌, ◌++◌, Err, refl}
+use Rattle.st_tokens.specs.Stream.{ends}
 use Rattle.st_reading.specs.declared.mark.Mark.TheVariants as marks
 use Rattle.st_reading.specs.declared.sign.Sign.{Sign}
-use Rattle.st_reading.specs.declared.sign.Sign.TheVariants as signs
 use Rattle.st_reading.specs.Mark.{number}
-use Rattle.st_reading.specs.Sign.{is}
 use Rattle.st_reading.specs.Faults.{Passed}
-use Rattle.st_reading.specs.Reading.{Label, Turn, leaves, goes, expected, named, gives, then_reads, chain, size, syntax, only, listing, further}
-use Rattle.st_reading.specs.Steady.{Within, Parts, calmer, takes, Wide, wider, moves, anything}
+use Rattle.st_reading.specs.Reading.{Label, goes, expected, named, gives, then_reads, chain, syntax, only, listing, further}
+use Rattle.st_reading.specs.Steady.{Within, calmer, takes, wider, moves, anything}
 use Rattle.st_reading.proofs.Lawful.{Lawful, lawful_bind, lawful_gives, lawful_map, lawful_named, lawful_chain, lawful_weak}
 use Rattle.spl_parser.specs.ExpressionTree.{Expr}
 use Rattle.spl_parser.specs.ProgramTree.{Action, assign_all}

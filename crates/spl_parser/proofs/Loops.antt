@@ -1,14 +1,12 @@
 -- Loops over chains of this grammar.
-use Rattle.std.proofs.Common.{◌≡◌, ℕ, ◌≤◌, Bool, true, false, cond, List, [], ◌∷◌, ◌++◌, Option, Some, None, Result, Ok, Err, refl, sym, ap, subst, ◌∙◌}
+use Rattle.std.proofs.Common.{◌≡◌, ◌≤◌, Option, Some, None, Ok, sym, ap, ◌∙◌}
 use Rattle.st_tokens.specs.Stream.{Stream, behind}
-use Rattle.st_reading.specs.declared.mark.Mark.{Mark}
 use Rattle.st_reading.specs.declared.sign.Sign.{Sign}
 use Rattle.st_reading.specs.declared.sign.Sign.TheVariants as signs
-use Rattle.st_reading.specs.Sign.{is}
 use Rattle.st_reading.specs.Faults.{Passed}
-use Rattle.st_reading.specs.Reading.{Stop, Read, ◌>>=◌, ahead, place_of, size, gives, then_reads, Turn, leaves, goes, IsStop, only, listing}
+use Rattle.st_reading.specs.Reading.{Stop, Read, ahead, place_of, size, gives, goes, IsStop}
 use Rattle.st_reading.proofs.Chains.{Running, running_next, running_ends, running_fails}
-use Rattle.st_reading.proofs.Loops.{stop_as, map_fails, mapped}
+use Rattle.st_reading.proofs.Loops.{map_fails, mapped}
 use Rattle.spl_parser.specs.declared.raw.Operator.{Operator}
 use Rattle.spl_parser.specs.ExpressionTree.{Expr}
 use Rattle.spl_parser.specs.Reading.{Reader, joined, grouping}

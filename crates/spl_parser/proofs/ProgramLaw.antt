@@ -1,8 +1,8 @@
 -- The law of whole programs, within limits and beside larger ones.
-use Rattle.std.proofs.Common.{◌≡◌, ℕ, zero, suc, ◌+◌, ◌≤◌, Bool, true, false, cond, not, ◌&&◌, List, [], ◌∷◌, ◌++◌, Option, Some, None, is_none, Ok, Err, refl, sym, ap, ◌∙◌, arith}
+use Rattle.std.proofs.Common.{◌≡◌, ℕ, suc, ◌+◌, ◌≤◌, Bool, true, false, cond, ◌&&◌, List, [], ◌∷◌, ◌++◌, Option, Some, None, is_none, Ok, Err, refl, sym, ap, ◌∙◌, arith}
 use Rattle.st_tokens.specs.declared.limit.LimitKind.{LimitKind}
 use Rattle.st_tokens.specs.declared.limit.LimitKind.TheVariants as limits
-use Rattle.st_tokens.specs.Stream.{◌++>◌, Lexeme, Stream, ends, breaks, more, behind}
+use Rattle.st_tokens.specs.Stream.{Lexeme, Stream, ends, breaks, more, behind}
 use Rattle.st_reading.specs.declared.mark.Mark.{Mark}
 use Rattle.st_reading.specs.declared.mark.Mark.TheVariants as marks
 use Rattle.st_reading.specs.declared.sign.Sign.{Sign}
@@ -10,30 +10,30 @@ use Rattle.st_reading.specs.declared.sign.Sign.TheVariants as signs
 use Rattle.st_reading.specs.Mark.{number}
 use Rattle.st_reading.specs.Sign.{sign_of, is}
 use Rattle.st_reading.specs.Faults.{Passed, passed}
-use Rattle.st_reading.specs.Reading.{Stop, other, Read, Label, label_of, name_of, ahead, place_of, size, is_name, refusal, expected, gives, then_reads, Turn, leaves, goes, on_operator, chain, only, Carried, Counted, counting, linked, syntax}
-use Rattle.st_reading.specs.Steady.{Viable, SteadyAt, Within, Parts, calmer, takes, Wide, wider, moves, anything}
+use Rattle.st_reading.specs.Reading.{other, Label, label_of, name_of, ahead, place_of, size, is_name, refusal, expected, gives, then_reads, Turn, goes, chain, only, Carried, Counted, counting, linked, syntax}
+use Rattle.st_reading.specs.Steady.{Viable, SteadyAt, Within, calmer, takes, wider, moves, anything}
 use Rattle.st_reading.proofs.Steadiness.{at_stuck, at_one, at_over}
-use Rattle.st_reading.proofs.Soundness.{sound_shrinks, Shrinks}
+use Rattle.st_reading.proofs.Soundness.{Shrinks}
 use Rattle.st_reading.proofs.Streams.{behind_size}
 use Rattle.st_reading.proofs.Shrinking.{left}
-use Rattle.st_reading.proofs.Lawful.{Lawful, branching, at_head, lawful_bind, lawful_gives, lawful_map, lawful_chain, lawful_weak, lawful_if, viable_of}
+use Rattle.st_reading.proofs.Lawful.{Lawful, at_head, lawful_bind, lawful_gives, lawful_map, lawful_chain, lawful_weak, lawful_if, viable_of}
 use Rattle.st_reading.proofs.Branches.{lawful_calmer, completes_gives, completes_behind, completes_over, lawful_pick}
 use Rattle.spl_parser.specs.Signs.{mode, kind}
 use Rattle.spl_parser.specs.ExpressionTree.{Expr}
-use Rattle.spl_parser.specs.ProgramTree.{Statement, stated, skip, Body, Declaration, Process, Program}
+use Rattle.spl_parser.specs.ProgramTree.{Statement, Body, Declaration, Process, Program}
 use Rattle.spl_parser.specs.Begun.{Begun, fresh}
 use Rattle.spl_parser.specs.Calm.{calm, calm_but, calm_but2}
-use Rattle.spl_parser.specs.Reading.{Reader, below, expression_of, disjunction_of, conjunction_of, negation_of, comparison_of, sum_of, product_of, unary_of, atom_of}
-use Rattle.spl_parser.specs.Statements.{rest_of_body, body_of, inside}
+use Rattle.spl_parser.specs.Reading.{Reader, expression_of, disjunction_of, conjunction_of, negation_of, comparison_of, sum_of, product_of, unary_of, atom_of}
+use Rattle.spl_parser.specs.Statements.{rest_of_body, body_of}
 use Rattle.spl_parser.specs.Programs.{Limits, Totals, totals, limited_name, value_of, lower_of, variable_of, names_of, type_of, initial_of, declaration_of, declarations_of, process_name, process, process_of, processes_of, spelled_of}
-use Rattle.spl_parser.proofs.Quiet.{and_parts, but_calm, but_none, but_false, but2_but, but2_other, but2_none, name_token}
+use Rattle.spl_parser.proofs.Quiet.{and_parts, but_calm, but_none, but_false, but2_other, but2_none, name_token}
 use Rattle.spl_parser.proofs.ExpressionLaw.{larger, lawful_formula}
-use Rattle.spl_parser.proofs.Witnesses.{Witness, witness_is, witness_in, lawful_mark, colon_mark, colons_mark, semicolon_mark, open_block_mark, integer_mark, skip_mark, bars_mark}
+use Rattle.spl_parser.proofs.Witnesses.{witness_in, lawful_mark, colon_mark, colons_mark, semicolon_mark, open_block_mark, integer_mark, skip_mark}
 use Rattle.spl_parser.proofs.ListLaw.{any_of, same}
-use Rattle.spl_parser.proofs.BodyLaw.{in_body, apart, apart_calm, quiet, name_is, name_calm, lawful_rest_of_body}
-use Rattle.spl_parser.proofs.ProgramSoundness.{Value, Lows, value_sound}
+use Rattle.spl_parser.proofs.BodyLaw.{in_body, apart, quiet, name_is, name_calm, lawful_rest_of_body}
+use Rattle.spl_parser.proofs.ProgramSoundness.{Value, value_sound}
 use Rattle.spl_parser.proofs.InsideLaw.{unlimited, deeper, fresh_completes}
-use Rattle.spl_parser.proofs.LevelLaw.{deepers, inside_ends, lawful_inside}
+use Rattle.spl_parser.proofs.LevelLaw.{inside_ends, lawful_inside}
 
 -- larger limits: on no number, and on levels that are more by i and some
 abbrev pub beyond : Limits → ℕ → Limits

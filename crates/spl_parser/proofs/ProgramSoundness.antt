@@ -1,26 +1,22 @@
 -- What is read with any number of levels, as a statement or as a whole program, is in the grammar.
-use Rattle.std.proofs.Common.{◌≡◌, ℕ, zero, suc, ◌+◌, Bool, true, false, cond, List, [], ◌∷◌, ◌++◌, length, Option, Some, None, Result, Ok, Err, refl, sym, ap, subst, ◌∙◌, append-nil, append_assoc}
+use Rattle.std.proofs.Common.{◌≡◌, ℕ, zero, suc, ◌+◌, Bool, true, false, cond, List, [], ◌∷◌, Option, Some, None, Ok, Err, refl, sym, ap, subst, append-nil}
 use Rattle.st_tokens.specs.declared.limit.LimitKind.TheVariants as limits
-use Rattle.st_tokens.specs.Stream.{◌++>◌, Lexeme, Stream, ends, breaks, more, behind}
-use Rattle.st_reading.specs.declared.mark.Mark.{Mark}
+use Rattle.st_tokens.specs.Stream.{Lexeme, Stream, ends, breaks, more, behind}
 use Rattle.st_reading.specs.declared.mark.Mark.TheVariants as marks
-use Rattle.st_reading.specs.declared.sign.Sign.{Sign}
-use Rattle.st_reading.specs.declared.sign.Sign.TheVariants as signs
 use Rattle.st_reading.specs.Sign.{sign_of, is}
 use Rattle.st_reading.specs.Faults.{Passed, passed}
-use Rattle.st_reading.specs.Reading.{Stop, other, Read, ◌>>=◌, Label, ahead, place_of, name_of, label_of, is_name, refusal, expected, gives, then_reads, Turn, leaves, goes, turned, on_operator, chain, size, Carried, Counted}
-use Rattle.st_reading.specs.Spelling.{Cut, Sound, Both, behind_it, Is, IsName, OneName, one_name, Items, no_items, item_more, Row, row}
-use Rattle.st_reading.proofs.Streams.{append_stream}
-use Rattle.st_reading.proofs.Soundness.{split, values, taken, sound_bind}
-use Rattle.st_reading.proofs.ListSoundness.{OneMark, one_mark, Given, given, sound_as, sound_gives, sound_expected, Extends, Steps, no_steps, a_step, counting_sound, row_sound, only_is}
+use Rattle.st_reading.specs.Reading.{other, Label, ahead, place_of, name_of, label_of, is_name, refusal, expected, gives, then_reads, on_operator, size, Carried, Counted}
+use Rattle.st_reading.specs.Spelling.{Cut, Sound, Both, behind_it, Is, OneName, one_name, Row}
+use Rattle.st_reading.proofs.Soundness.{taken, sound_bind}
+use Rattle.st_reading.proofs.ListSoundness.{OneMark, one_mark, Given, given, sound_as, sound_gives, sound_expected, Steps, no_steps, a_step, counting_sound, row_sound}
 use Rattle.spl_parser.specs.Signs.{mode, kind}
 use Rattle.spl_parser.specs.ExpressionTree.{Expr}
-use Rattle.spl_parser.specs.ProgramTree.{Statement, stated, assign, Body, Declaration, Process, Program}
-use Rattle.spl_parser.specs.Begun.{Begun, fresh, after_name, after_label}
+use Rattle.spl_parser.specs.ProgramTree.{Statement, Body, Declaration, Process, Program}
+use Rattle.spl_parser.specs.Begun.{Begun, fresh}
 use Rattle.spl_parser.specs.Reading.{Reader, below}
-use Rattle.spl_parser.specs.Statements.{Lower, goes_on, front_place, statement_of, limited, body_of, inside}
-use Rattle.spl_parser.specs.Programs.{Limits, value_of, lower_of, variable_of, names_of, type_of, initial_of, declaration_of, declarations_of, Totals, totals, process_name, process, process_of, processes_of}
-use Rattle.spl_parser.specs.Grammar.{Inside, SpellsWithin, IsStatement, Low, IsBody, IsInitial, free, given as an_initial, IsDeclaration, declaration, Declarations, no_declarations, declaration_more, IsProcess, process as a_process, IsProgram, program}
+use Rattle.spl_parser.specs.Statements.{Lower, goes_on, statement_of, limited, body_of, inside}
+use Rattle.spl_parser.specs.Programs.{Limits, value_of, lower_of, variable_of, names_of, type_of, initial_of, declaration_of, declarations_of, Totals, totals, process_name, process, process_of, processes_of, spelled_of}
+use Rattle.spl_parser.specs.Grammar.{Inside, SpellsWithin, Low, IsBody, IsInitial, free, given as an_initial, IsDeclaration, declaration, Declarations, no_declarations, declaration_more, IsProcess, process as a_process, IsProgram, program}
 use Rattle.spl_parser.proofs.ExpressionSoundness.{expression_sound, below_sound}
 use Rattle.spl_parser.proofs.StatementSoundness.{Inner, Rest, assigned_from, labelled_from, statement_sound, body_sound}
 
@@ -91,7 +87,7 @@ module _ (limit : Limits) where
   variable_at n (breaks f) x rest true e true h = cc
   variable_at n (more t s) x rest true e true h = taken {X = Passed} (λ ts (x : Counted Label). OneName ts x.0) (t ∷ []) (gives (label_of t, n + 1) s) (label_of t, n + 1) x s rest refl h (one_name t (sym e))
 
-  variable_sound : (n : ℕ) → Sound (variable_of limit n) (λ ts x. OneName ts x.0)
+  pub variable_sound : (n : ℕ) → Sound (variable_of limit n) (λ ts x. OneName ts x.0)
   unfolding variable_of
   variable_sound n s x rest h = variable_at n s x rest (is_name (ahead s)) refl (limit.variables n) h
 
@@ -199,3 +195,17 @@ module _ (limit : Limits) where
   pub processes_sound : (t : Totals) → Sound (processes_of limit t) (λ ts ps. Row marks.Bars (IsProcess Value Lows) ts ps.0)
   unfolding processes_of
   processes_sound t s ps rest h = row_sound marks.Bars (process_of limit) (IsProcess Value Lows) process_sound t s ps rest h
+
+  -- WHOLE PROGRAMS
+  abbrev Spelled : List Lexeme → Program → Type 0
+  Spelled = Both (λ ts (ds : Counted (List Declaration)). Declarations Value Lows ts ds.0) (λ ds. Both (λ ts (ps : Carried Totals (List Process)). Row marks.Bars (IsProcess Value Lows) ts ps.0) (λ ps. Given (record { declarations = ds.0; processes = ps.0 })))
+
+  from_spelled : (ts : List Lexeme) (x : Program) → Spelled ts x → IsProgram Value Lows ts x
+  from_spelled ts x (behind_it a1 b1 ds z1 heads (behind_it a2 b2 ps z2 rows given)) = rw append-nil (program a1 a2 ds.0 ps.0 heads rows)
+
+  pub spelled_sound : Sound (spelled_of limit) (IsProgram Value Lows)
+  unfolding spelled_of
+  spelled_sound =
+      sound_as (then_reads (declarations_of limit 0) (λ ds. then_reads (processes_of limit (totals 0 ds.1 0)) (λ ps. gives (record { declarations = ds.0; processes = ps.0 })))) Spelled (IsProgram Value Lows) from_spelled
+      (sound_bind (declarations_of limit 0) (λ ds. then_reads (processes_of limit (totals 0 ds.1 0)) (λ ps. gives (record { declarations = ds.0; processes = ps.0 }))) (λ ts ds. Declarations Value Lows ts ds.0) (λ ds. Both (λ ts ps. Row marks.Bars (IsProcess Value Lows) ts ps.0) (λ ps. Given (record { declarations = ds.0; processes = ps.0 }))) (declarations_sound 0)
+      (λ ds. sound_bind (processes_of limit (totals 0 ds.1 0)) (λ ps. gives (record { declarations = ds.0; processes = ps.0 })) (λ ts ps. Row marks.Bars (IsProcess Value Lows) ts ps.0) (λ ps. Given (record { declarations = ds.0; processes = ps.0 })) (processes_sound (totals 0 ds.1 0)) (λ ps. sound_gives (record { declarations = ds.0; processes = ps.0 }))))

@@ -1,5 +1,5 @@
 -- How an expression is seen that holds a list.
-use Rattle.std.proofs.Common.{◌≡◌, ℕ, List, [], ◌∷◌, Vec, Global, refl, ap, ◌∙◌}
+use Rattle.std.proofs.Common.{◌≡◌, Vec, Global, refl, ap, ◌∙◌}
 use Rattle.spl_parser.specs.declared.raw.RawExpr.{RawExpr}
 use Rattle.spl_parser.specs.declared.raw.RawExprKind as raw_kind
 use Rattle.spl_parser.specs.declared.raw.RawExprKind.TheBlock.{hidden-the_row-RawExpr-0, items-the_row-RawExpr, items_hidden-the_row-RawExpr-0}

@@ -1,30 +1,25 @@
 -- The law of the readers of statements, for any readers of values and of inner statements that have it.
-use Rattle.std.proofs.Common.{◌≡◌, ℕ, ◌+◌, Bool, true, false, cond, List, [], ◌∷◌, ◌++◌, Option, Some, None, Ok, Err, refl, sym, ap, ◌∙◌}
-use Rattle.st_tokens.specs.Stream.{Lexeme, Stream, ends, breaks, more, behind}
+use Rattle.std.proofs.Common.{◌≡◌, ℕ, Bool, true, false, List, [], ◌∷◌, ◌++◌, None, Err, refl}
+use Rattle.st_tokens.specs.Stream.{ends}
 use Rattle.st_reading.specs.declared.mark.Mark.{Mark}
 use Rattle.st_reading.specs.declared.mark.Mark.TheVariants as marks
 use Rattle.st_reading.specs.declared.sign.Sign.{Sign}
 use Rattle.st_reading.specs.declared.sign.Sign.TheVariants as signs
 use Rattle.st_reading.specs.Mark.{number}
-use Rattle.st_reading.specs.Sign.{sign_of, is}
+use Rattle.st_reading.specs.Sign.{is}
 use Rattle.st_reading.specs.Faults.{Passed}
-use Rattle.st_reading.specs.Reading.{Label, label_of, Turn, leaves, goes, expected, named, is_name, gives, then_reads, chain, size, syntax, only, Counted, counting, linked}
-use Rattle.st_reading.specs.Steady.{Viable, Within, Parts, calmer, takes, Wide, wider, moves, anything}
-use Rattle.st_reading.proofs.Lawful.{Lawful, lawful_bind, lawful_gives, lawful_map, lawful_chain, lawful_weak, lawful_if, viable_of}
-use Rattle.st_reading.proofs.Branches.{lawful_calmer, completes_gives, completes_behind, lawful_fork, fork_completes, lawful_pick, pick_completes}
-use Rattle.spl_parser.specs.declared.sign.Start.{Start}
-use Rattle.spl_parser.specs.declared.sign.Start.TheVariants as starts
-use Rattle.spl_parser.specs.Signs.{start}
+use Rattle.st_reading.specs.Reading.{goes, expected, gives, then_reads, syntax, only, Counted, counting, linked}
+use Rattle.st_reading.specs.Steady.{Within, calmer, takes, wider, moves, anything}
+use Rattle.st_reading.proofs.Lawful.{Lawful, lawful_bind, lawful_gives, lawful_map, lawful_chain, lawful_weak, lawful_if}
 use Rattle.spl_parser.specs.ExpressionTree.{Expr}
-use Rattle.spl_parser.specs.ProgramTree.{Branch, no_branch, branch, conditional, while_do, forever, block, select, cooperate, group, Statement, stated, statements, Action, skip, assign, await, request, release, Body, body, bodies}
-use Rattle.spl_parser.specs.Item.{Item, last, item}
-use Rattle.spl_parser.specs.Begun.{Begun, fresh, after_name, after_label}
-use Rattle.spl_parser.specs.Calm.{calm, calm_but, calm_but2}
+use Rattle.spl_parser.specs.ProgramTree.{Branch, no_branch, branch, conditional, Statement, Action}
+use Rattle.spl_parser.specs.Begun.{Begun, fresh}
+use Rattle.spl_parser.specs.Calm.{calm, calm_but}
 use Rattle.spl_parser.specs.Reading.{Reader}
-use Rattle.spl_parser.specs.Statements.{Lower, counted, right_side_of, all_assigned_of, assigned_of, sequence_of, selection_of, an_item, labelled_item, named_item, item_of, turned_by, continuing, closed_body, rest_of_body, body_of, child_of, children_of, branch_of, conditional_of, doing, enclosed, action_of, standing, bare_of, named_of, statement_of}
-use Rattle.spl_parser.proofs.Quiet.{but_calm, but_none, but_false, name_token}
-use Rattle.spl_parser.proofs.Witnesses.{Witness, witness_is, witness_in, lawful_mark, close_block_mark, close_group_mark, open_block_mark, colon_mark, then_mark, fi_mark, do_mark, forever_mark, either_mark, bars_mark, coend_mark, skip_mark}
-use Rattle.spl_parser.proofs.ListLaw.{any_of, same, lawful_name, lawful_right_side, lawful_all_assigned}
+use Rattle.spl_parser.specs.Statements.{Lower, sequence_of, selection_of, branch_of, conditional_of}
+use Rattle.spl_parser.proofs.Quiet.{but_calm, but_none, but_false}
+use Rattle.spl_parser.proofs.Witnesses.{Witness, lawful_mark, then_mark, fi_mark, either_mark}
+use Rattle.spl_parser.proofs.ListLaw.{any_of, same}
 
 no_else : Sign → Bool
 no_else = calm_but marks.Else

@@ -1,12 +1,12 @@
 -- How a statement or a body is seen that holds a list.
-use Rattle.std.proofs.Common.{◌≡◌, ℕ, List, [], ◌∷◌, Option, Vec, Global, refl, ap, sym, ◌∙◌}
+use Rattle.std.proofs.Common.{◌≡◌, Option, Vec, Global, refl, ap, sym, ◌∙◌}
 use Rattle.spl_parser.specs.declared.raw.RawStatement as raw_statement
 use Rattle.spl_parser.specs.declared.raw.RawKind as raw_kind
 use Rattle.spl_parser.specs.declared.raw.RawKind.TheBlock as rows
 use Rattle.spl_parser.specs.declared.raw.RawBody as raw_body
 use Rattle.spl_parser.specs.declared.raw.RawKind.TheViews as seen
 use Rattle.st_reading.specs.declared.looking.RawName.{RawName}
-use Rattle.spl_parser.specs.ProgramTree.{Action, Statements, stated, followed, block, select, cooperate, group, beside, label_view, action_view, row_view, body_row_view, body_view, body, statements, statement_views, bodies, body_views}
+use Rattle.spl_parser.specs.ProgramTree.{stated, followed, block, select, cooperate, group, beside, label_view, action_view, row_view, body_row_view, body_view, body, statements, statement_views, bodies, body_views}
 
 row_statements : {n : _} (row : raw_kind.Row_of-RawStatement n) → row_view row ≡ statements (statement_views (raw_kind.items-the_row-RawStatement n row))
 row_statements raw_kind.end_of-RawStatement = refl

@@ -1,5 +1,5 @@
 -- What the readers of statements read is in the grammar.
-use Rattle.std.proofs.Common.{◌≡◌, ℕ, zero, suc, ◌+◌, Bool, true, false, cond, List, [], ◌∷◌, ◌++◌, Option, Some, None, Result, Ok, Err, refl, sym, ap, subst, ◌∙◌, append-nil, append_assoc}
+use Rattle.std.proofs.Common.{◌≡◌, ℕ, zero, suc, Bool, true, false, cond, List, [], ◌∷◌, ◌++◌, Option, Some, None, Ok, Err, refl, sym, ap, subst, ◌∙◌, append-nil, append_assoc}
 use Rattle.st_tokens.specs.Stream.{◌++>◌, Lexeme, Stream, ends, breaks, more, behind}
 use Rattle.st_reading.specs.declared.mark.Mark.{Mark}
 use Rattle.st_reading.specs.declared.mark.Mark.TheVariants as marks
@@ -7,20 +7,20 @@ use Rattle.st_reading.specs.declared.sign.Sign.{Sign}
 use Rattle.st_reading.specs.declared.sign.Sign.TheVariants as signs
 use Rattle.st_reading.specs.Sign.{sign_of, is}
 use Rattle.st_reading.specs.Faults.{Passed}
-use Rattle.st_reading.specs.Reading.{Stop, Read, ◌>>=◌, Label, ahead, place_of, name_of, label_of, is_name, refusal, named, expected, gives, then_reads, Turn, leaves, goes, turned, on_operator, chain, size, only, listing, Counted, counting, linked, further}
-use Rattle.st_reading.specs.Spelling.{Cut, Sound, Both, behind_it, Is, IsName, OneName, one_name, Items, no_items, item_more, Row, row, Row2, row2}
+use Rattle.st_reading.specs.Reading.{Read, ◌>>=◌, Label, ahead, place_of, name_of, label_of, is_name, refusal, named, expected, gives, then_reads, turned, on_operator, chain, size, only, Counted}
+use Rattle.st_reading.specs.Spelling.{Cut, Sound, Both, behind_it, Is, IsName, OneName, one_name, Items, no_items, item_more, Row, row, Row2}
 use Rattle.st_reading.proofs.Streams.{append_stream}
-use Rattle.st_reading.proofs.Soundness.{split, values, taken, sound_bind}
-use Rattle.st_reading.proofs.ListSoundness.{OneMark, one_mark, Given, given, sound_as, sound_gives, sound_expected, sound_named, Extends, only_is, row_sound, row2_sound, row2_then_sound}
+use Rattle.st_reading.proofs.Soundness.{split, taken, sound_bind}
+use Rattle.st_reading.proofs.ListSoundness.{OneMark, one_mark, Given, given, sound_as, sound_gives, sound_expected, sound_named, only_is, row_sound, row2_sound, row2_then_sound}
 use Rattle.spl_parser.specs.declared.sign.Start.{Start}
 use Rattle.spl_parser.specs.declared.sign.Start.TheVariants as starts
-use Rattle.spl_parser.specs.Signs.{start, begins, is_inner}
+use Rattle.spl_parser.specs.Signs.{start, begins}
 use Rattle.spl_parser.specs.ExpressionTree.{Expr}
 use Rattle.spl_parser.specs.ProgramTree.{Statement, stated, statements, Branch, no_branch, branch, conditional, Action, skip, critical, noncritical, assign, assign_all, await, request, release, while_do, forever, block, select, cooperate, group, Body, body, bodies}
 use Rattle.spl_parser.specs.Item.{Item, last, item}
 use Rattle.spl_parser.specs.Begun.{Begun, fresh, after_name, after_label}
 use Rattle.spl_parser.specs.Reading.{Reader}
-use Rattle.spl_parser.specs.Statements.{Lower, goes_on, counted, listed_of, right_side_of, all_assigned_of, assigned_of, sequence_of, selection_of, an_item, labelled_item, named_item, item_of, turned_by, continuing, closed_body, rest_of_body, body_of, child_of, children_of, branch_of, conditional_of, doing, enclosed, action_of, standing, bare_of, named_of, statement_of}
+use Rattle.spl_parser.specs.Statements.{Lower, goes_on, listed_of, right_side_of, all_assigned_of, assigned_of, sequence_of, selection_of, an_item, labelled_item, named_item, item_of, turned_by, continuing, closed_body, rest_of_body, body_of, child_of, children_of, branch_of, conditional_of, doing, enclosed, action_of, standing, bare_of, named_of, statement_of}
 use Rattle.spl_parser.specs.Grammar.{IsRightSide, right_side, IsBranch, without, with_else, IsBody, unnamed, ended, IsChild, child, IsBare, s_assign, s_assign_all, s_skip, s_critical, s_noncritical, s_await, s_request, s_release, s_if, s_while, s_loop, s_block, s_select, s_cooperate, s_group, IsStatement, unlabelled, labelled}
 
 -- behind a token

@@ -1,6 +1,6 @@
 -- The law of whole statements, for any readers of values and of inner statements that have it.
-use Rattle.std.proofs.Common.{◌≡◌, ℕ, ◌+◌, Bool, true, false, cond, List, [], ◌∷◌, ◌++◌, Option, Some, None, Ok, Err, refl, sym, ap, ◌∙◌}
-use Rattle.st_tokens.specs.Stream.{Lexeme, Stream, ends, breaks, more, behind}
+use Rattle.std.proofs.Common.{◌≡◌, ℕ, Bool, true, false, List, [], Option, Some, None, Err, refl, ap}
+use Rattle.st_tokens.specs.Stream.{ends}
 use Rattle.st_reading.specs.declared.mark.Mark.{Mark}
 use Rattle.st_reading.specs.declared.mark.Mark.TheVariants as marks
 use Rattle.st_reading.specs.declared.sign.Sign.{Sign}
@@ -8,10 +8,10 @@ use Rattle.st_reading.specs.declared.sign.Sign.TheVariants as signs
 use Rattle.st_reading.specs.Mark.{number}
 use Rattle.st_reading.specs.Sign.{sign_of, is}
 use Rattle.st_reading.specs.Faults.{Passed}
-use Rattle.st_reading.specs.Reading.{Label, label_of, Turn, expected, named, is_name, gives, then_reads, on_operator, syntax, Counted}
-use Rattle.st_reading.specs.Steady.{Viable, Within, Parts, calmer, takes, Wide, wider, moves, anything}
-use Rattle.st_reading.proofs.Lawful.{Lawful, branching, lawful_bind, lawful_gives, lawful_map, lawful_weak}
-use Rattle.st_reading.proofs.Branches.{lawful_calmer, completes_gives, completes_map, lawful_fork, fork_completes, lawful_pick, pick_completes, picking}
+use Rattle.st_reading.specs.Reading.{Label, label_of, expected, named, is_name, gives, then_reads, syntax, Counted}
+use Rattle.st_reading.specs.Steady.{Viable, calmer, wider, anything}
+use Rattle.st_reading.proofs.Lawful.{Lawful, lawful_bind, lawful_gives, lawful_map, lawful_weak}
+use Rattle.st_reading.proofs.Branches.{lawful_calmer, completes_gives, completes_map, lawful_fork, fork_completes, lawful_pick, pick_completes}
 use Rattle.spl_parser.specs.declared.sign.Start.{Start}
 use Rattle.spl_parser.specs.declared.sign.Start.TheVariants as starts
 use Rattle.spl_parser.specs.Signs.{start}
@@ -20,7 +20,7 @@ use Rattle.spl_parser.specs.ProgramTree.{Statement, stated, statements, Action, 
 use Rattle.spl_parser.specs.Begun.{Begun, fresh, after_name, after_label}
 use Rattle.spl_parser.specs.Calm.{calm, calm_but, calm_but2}
 use Rattle.spl_parser.specs.Reading.{Reader}
-use Rattle.spl_parser.specs.Statements.{Lower, counted, right_side_of, all_assigned_of, assigned_of, sequence_of, selection_of, children_of, conditional_of, doing, enclosed, action_of, standing, bare_of, named_of, statement_of}
+use Rattle.spl_parser.specs.Statements.{Lower, right_side_of, all_assigned_of, assigned_of, sequence_of, selection_of, children_of, conditional_of, doing, enclosed, action_of, standing, bare_of, named_of, statement_of}
 use Rattle.spl_parser.proofs.Quiet.{but_calm, name_token}
 use Rattle.spl_parser.proofs.Witnesses.{Witness, witness_is, witness_in, lawful_mark, close_block_mark, close_group_mark, open_block_mark, colon_mark, do_mark, forever_mark, coend_mark, skip_mark}
 use Rattle.spl_parser.proofs.ListLaw.{any_of, same, lawful_name, lawful_right_side, lawful_all_assigned}

@@ -14,23 +14,30 @@ use Rattle.spl_parser.specs.declared.sign.Front.TheVariants as fronts
 use Rattle.spl_parser.specs.declared.sign.Start.{Start}
 use Rattle.spl_parser.specs.declared.sign.Start.TheVariants as starts
 use Rattle.spl_parser.specs.Signs.{front, product_sign, sum_sign, comparison_sign, start, mode, kind}
-use Rattle.spl_parser.specs.ExpressionTree.{Expr, Exprs, Kind, node, numeral, truth, name, at, negation, negative, all, any, pair, exprs, kind_of, start_of}
-use Rattle.spl_parser.specs.ProgramTree.{Statement, stated, Action, skip, critical, noncritical, assign, assign_all, await, request, release, conditional, while_do, forever, block, select, cooperate, group, Branch, no_branch, branch, Statements, statements, Body, body, Bodies, bodies, Declaration, Process, Program}
+use Rattle.spl_parser.specs.ExpressionTree.{Expr, Exprs, Kind, node, numeral, truth, name, at, negation, negative, all, any, exprs, kind_of, start_of}
+use Rattle.spl_parser.specs.ProgramTree.{Statement, stated, Action, skip, critical, noncritical, assign, assign_all, await, request, release, conditional, while_do, forever, block, select, cooperate, group, Branch, no_branch, branch, statements, Body, body, bodies, Declaration, Process, Program}
 use Rattle.spl_parser.specs.Reading.{Level, formula, negated, signed, joined}
+
+-- The token stands so at the front of an expression; it begins such a statement.
+abbrev pub Fronts : Bool → Front → Lexeme → Type 0
+Fronts places x t = front places (sign_of t) ≡ x
+
+abbrev pub Starts : Start → Lexeme → Type 0
+Starts x t = start (sign_of t) ≡ Some x
 
 -- EXPRESSIONS. `down` is what stands one level down; `at` stands where `places` are asked for.
 module _ (places : Bool) (down : Level → List Lexeme → Expr → Type 0) where
   -- atom = numeral | "true" | "false" | name | "at" name | "(" expr ")"
   pub data IsAtom : List Lexeme → Expr → Type 0 where
-    a_numeral : (t : Lexeme) (n : ℕ) → front places (sign_of t) ≡ fronts.Numeral n → IsAtom (t ∷ []) (node t.start (numeral n))
-    a_truth : (t : Lexeme) (b : Bool) → front places (sign_of t) ≡ fronts.Truth b → IsAtom (t ∷ []) (node t.start (truth b))
-    a_name : (t : Lexeme) → front places (sign_of t) ≡ fronts.Name → IsAtom (t ∷ []) (node t.start (name (label_of t)))
-    a_place : (t u : Lexeme) → front places (sign_of t) ≡ fronts.At → IsName u → IsAtom (t ∷ u ∷ []) (node t.start (at (label_of u)))
-    a_group : (t u : Lexeme) (ts : List Lexeme) (x : Expr) → front places (sign_of t) ≡ fronts.Open → down formula ts x → Is marks.Close u → IsAtom (t ∷ ts ++ u ∷ []) (node t.start (kind_of x))
+    a_numeral : (t : Lexeme) (n : ℕ) → Fronts places (fronts.Numeral n) t → IsAtom (t ∷ []) (node t.start (numeral n))
+    a_truth : (t : Lexeme) (b : Bool) → Fronts places (fronts.Truth b) t → IsAtom (t ∷ []) (node t.start (truth b))
+    a_name : (t : Lexeme) → Fronts places fronts.Name t → IsAtom (t ∷ []) (node t.start (name (label_of t)))
+    a_place : (t u : Lexeme) → Fronts places fronts.At t → IsName u → IsAtom (t ∷ u ∷ []) (node t.start (at (label_of u)))
+    a_group : (t u : Lexeme) (ts : List Lexeme) (x : Expr) → Fronts places fronts.Open t → down formula ts x → Is marks.Close u → IsAtom (t ∷ ts ++ u ∷ []) (node t.start (kind_of x))
 
   -- unary = "-" unary | atom
   pub data IsUnary : List Lexeme → Expr → Type 0 where
-    minus : (t : Lexeme) (ts : List Lexeme) (x : Expr) → front places (sign_of t) ≡ fronts.Minus → down signed ts x → IsUnary (t ∷ ts) (node t.start (negative t.start x))
+    minus : (t : Lexeme) (ts : List Lexeme) (x : Expr) → Fronts places fronts.Minus t → down signed ts x → IsUnary (t ∷ ts) (node t.start (negative t.start x))
     plain : (ts : List Lexeme) (x : Expr) → IsAtom ts x → IsUnary ts x
 
 -- { op item }, grouped from the left behind an expression
@@ -62,7 +69,7 @@ module _ (places : Bool) (down : Level → List Lexeme → Expr → Type 0) wher
 
   -- neg = "~" neg | cmp
   pub data IsNegation : List Lexeme → Expr → Type 0 where
-    tilde : (t : Lexeme) (ts : List Lexeme) (x : Expr) → front places (sign_of t) ≡ fronts.Not → down negated ts x → IsNegation (t ∷ ts) (node t.start (negation x))
+    tilde : (t : Lexeme) (ts : List Lexeme) (x : Expr) → Fronts places fronts.Not t → down negated ts x → IsNegation (t ∷ ts) (node t.start (negation x))
     straight : (ts : List Lexeme) (x : Expr) → IsComparison ts x → IsNegation ts x
 
   -- con = neg { "/\" neg } ; dis = con { "\/" con }
@@ -116,25 +123,25 @@ module _ (value : List Lexeme → Expr → Type 0) where
     -- A statement behind its label, and the place of its first token. What stands inside a group has `true`; it is one of
     -- fewer kinds, and so is what stands inside it.
     pub data IsBare : Bool → ℕ → List Lexeme → Action → Type 0 where
-      s_assign : (inner : Bool) (t : Lexeme) (ts : List Lexeme) (e : Expr) → start (sign_of t) ≡ Some starts.Named → IsRightSide ts e → IsBare inner t.start (t ∷ ts) (assign (label_of t) e)
+      s_assign : (inner : Bool) (t : Lexeme) (ts : List Lexeme) (e : Expr) → Starts starts.Named t → IsRightSide ts e → IsBare inner t.start (t ∷ ts) (assign (label_of t) e)
       s_assign_all : (inner : Bool) (t u v w z : Lexeme) (a b : List Lexeme) (targets : List Label) (values : List Expr)
-          → start (sign_of t) ≡ Some starts.Listed → Row2 marks.Comma OneName a targets → Is marks.Close u → Is marks.Becomes v → Is marks.Open w → Row2 marks.Comma value b values → Is marks.Close z
+          → Starts starts.Listed t → Row2 marks.Comma OneName a targets → Is marks.Close u → Is marks.Becomes v → Is marks.Open w → Row2 marks.Comma value b values → Is marks.Close z
           → IsBare inner t.start (t ∷ a ++ (u ∷ v ∷ w ∷ b ++ z ∷ [])) (assign_all targets w.start values)
-      s_skip : (inner : Bool) (t : Lexeme) → start (sign_of t) ≡ Some starts.Skip → IsBare inner t.start (t ∷ []) skip
-      s_critical : (t : Lexeme) → start (sign_of t) ≡ Some starts.Critical → IsBare false t.start (t ∷ []) critical
-      s_noncritical : (t : Lexeme) → start (sign_of t) ≡ Some starts.Noncritical → IsBare false t.start (t ∷ []) noncritical
-      s_await : (inner : Bool) (t : Lexeme) (ts : List Lexeme) (e : Expr) → start (sign_of t) ≡ Some starts.Await → value ts e → IsBare inner t.start (t ∷ ts) (await e)
-      s_request : (t u : Lexeme) → start (sign_of t) ≡ Some starts.Request → IsName u → IsBare false t.start (t ∷ u ∷ []) (request (label_of u))
-      s_release : (t u : Lexeme) → start (sign_of t) ≡ Some starts.Release → IsName u → IsBare false t.start (t ∷ u ∷ []) (release (label_of u))
-      s_if : (inner : Bool) (t u v : Lexeme) (a b c : List Lexeme) (e : Expr) (x : Statement) (y : Branch) → start (sign_of t) ≡ Some starts.If → value a e → Is marks.Then u → low inner b x → IsBranch inner c y → Is marks.Fi v
+      s_skip : (inner : Bool) (t : Lexeme) → Starts starts.Skip t → IsBare inner t.start (t ∷ []) skip
+      s_critical : (t : Lexeme) → Starts starts.Critical t → IsBare false t.start (t ∷ []) critical
+      s_noncritical : (t : Lexeme) → Starts starts.Noncritical t → IsBare false t.start (t ∷ []) noncritical
+      s_await : (inner : Bool) (t : Lexeme) (ts : List Lexeme) (e : Expr) → Starts starts.Await t → value ts e → IsBare inner t.start (t ∷ ts) (await e)
+      s_request : (t u : Lexeme) → Starts starts.Request t → IsName u → IsBare false t.start (t ∷ u ∷ []) (request (label_of u))
+      s_release : (t u : Lexeme) → Starts starts.Release t → IsName u → IsBare false t.start (t ∷ u ∷ []) (release (label_of u))
+      s_if : (inner : Bool) (t u v : Lexeme) (a b c : List Lexeme) (e : Expr) (x : Statement) (y : Branch) → Starts starts.If t → value a e → Is marks.Then u → low inner b x → IsBranch inner c y → Is marks.Fi v
           → IsBare inner t.start (t ∷ a ++ (u ∷ b ++ (c ++ v ∷ []))) (conditional e x y)
-      s_while : (t u : Lexeme) (a b : List Lexeme) (e : Expr) (x : Statement) → start (sign_of t) ≡ Some starts.While → value a e → Is marks.Do u → low false b x → IsBare false t.start (t ∷ a ++ u ∷ b) (while_do e x)
-      s_loop : (t u v : Lexeme) (b : List Lexeme) (x : Statement) → start (sign_of t) ≡ Some starts.Loop → Is marks.Forever u → Is marks.Do v → low false b x → IsBare false t.start (t ∷ u ∷ v ∷ b) (forever x)
-      s_block : (inner : Bool) (t u : Lexeme) (a : List Lexeme) (xs : List Statement) → start (sign_of t) ≡ Some starts.Block → Row marks.Semicolon (low inner) a xs → Is marks.CloseBlock u → IsBare inner t.start (t ∷ a ++ u ∷ []) (block (statements xs))
-      s_select : (t u v : Lexeme) (a : List Lexeme) (xs : List Statement) → start (sign_of t) ≡ Some starts.Select → Is marks.OpenBlock u → Row2 marks.Either (low false) a xs → Is marks.CloseBlock v
+      s_while : (t u : Lexeme) (a b : List Lexeme) (e : Expr) (x : Statement) → Starts starts.While t → value a e → Is marks.Do u → low false b x → IsBare false t.start (t ∷ a ++ u ∷ b) (while_do e x)
+      s_loop : (t u v : Lexeme) (b : List Lexeme) (x : Statement) → Starts starts.Loop t → Is marks.Forever u → Is marks.Do v → low false b x → IsBare false t.start (t ∷ u ∷ v ∷ b) (forever x)
+      s_block : (inner : Bool) (t u : Lexeme) (a : List Lexeme) (xs : List Statement) → Starts starts.Block t → Row marks.Semicolon (low inner) a xs → Is marks.CloseBlock u → IsBare inner t.start (t ∷ a ++ u ∷ []) (block (statements xs))
+      s_select : (t u v : Lexeme) (a : List Lexeme) (xs : List Statement) → Starts starts.Select t → Is marks.OpenBlock u → Row2 marks.Either (low false) a xs → Is marks.CloseBlock v
           → IsBare false t.start (t ∷ u ∷ a ++ v ∷ []) (select (statements xs))
-      s_cooperate : (t u : Lexeme) (a : List Lexeme) (xs : List Body) → start (sign_of t) ≡ Some starts.Cooperate → Row2 marks.Bars IsChild a xs → Is marks.Coend u → IsBare false t.start (t ∷ a ++ u ∷ []) (cooperate (bodies xs))
-      s_group : (t u : Lexeme) (a : List Lexeme) (xs : List Statement) → start (sign_of t) ≡ Some starts.Group → Row marks.Semicolon (low true) a xs → Is marks.CloseGroup u → IsBare false t.start (t ∷ a ++ u ∷ []) (group (statements xs))
+      s_cooperate : (t u : Lexeme) (a : List Lexeme) (xs : List Body) → Starts starts.Cooperate t → Row2 marks.Bars IsChild a xs → Is marks.Coend u → IsBare false t.start (t ∷ a ++ u ∷ []) (cooperate (bodies xs))
+      s_group : (t u : Lexeme) (a : List Lexeme) (xs : List Statement) → Starts starts.Group t → Row marks.Semicolon (low true) a xs → Is marks.CloseGroup u → IsBare false t.start (t ∷ a ++ u ∷ []) (group (statements xs))
 
     -- statement = [ name ":" ] bare; inside a group there is no label
     pub data IsStatement : Bool → List Lexeme → Statement → Type 0 where

@@ -9,3 +9,5 @@ pub mod Statements
 pub mod Programs
 pub mod Parsing
 pub mod Grammar
+pub mod Numbers
+pub mod Theorems

@@ -1,5 +1,5 @@
 -- What a text is read to.
-use Rattle.std.specs.Prelude.{◌≡◌, ℕ, List, Option, Some, None, Result, Ok, Err}
+use Rattle.std.specs.Prelude.{◌≡◌, ℕ, List, Result, Ok, Err}
 use Rattle.st_tokens.specs.Stream.{text_stream}
 use Rattle.st_reading.specs.declared.fault.ParseFault.{ParseFault}
 use Rattle.st_reading.specs.Reading.{Stop, IsStop, Read}

@@ -1,12 +1,12 @@
 -- How a whole program is read.
-use Rattle.std.specs.Prelude.{ℕ, suc, ◌+◌, Bool, true, false, cond, List, [], ◌∷◌, ◌++◌, length, Option, Some, None, Ok, Err, nat_lt}
+use Rattle.std.specs.Prelude.{ℕ, suc, ◌+◌, Bool, false, cond, List, [], ◌∷◌, Option, Some, None, Ok, Err, nat_lt}
 use Rattle.st_tokens.specs.declared.limit.LimitKind.{LimitKind}
 use Rattle.st_tokens.specs.declared.limit.LimitKind.TheVariants as limits
-use Rattle.st_tokens.specs.Stream.{Stream, ends, breaks, more, behind, text_stream}
+use Rattle.st_tokens.specs.Stream.{behind}
 use Rattle.st_reading.specs.declared.mark.Mark.TheVariants as marks
 use Rattle.st_reading.specs.Sign.{is}
-use Rattle.st_reading.specs.Faults.{Passed, passed}
-use Rattle.st_reading.specs.Reading.{other, Read, Label, ahead, place_of, name_of, is_name, refusal, expected, gives, then_reads, Turn, leaves, goes, on_operator, chain, size, only, Counted, counting, linked, Carried, whole}
+use Rattle.st_reading.specs.Faults.{passed}
+use Rattle.st_reading.specs.Reading.{other, Label, ahead, place_of, name_of, is_name, refusal, expected, gives, then_reads, on_operator, chain, size, Counted, counting, linked, Carried, whole}
 use Rattle.spl_parser.specs.Signs.{mode, kind}
 use Rattle.spl_parser.specs.ExpressionTree.{Expr}
 use Rattle.spl_parser.specs.ProgramTree.{Body, Declaration, Process, Program}

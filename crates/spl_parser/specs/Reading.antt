@@ -1,13 +1,13 @@
 -- How an expression is read.
-use Rattle.std.specs.Prelude.{◌≡◌, ℕ, zero, suc, Bool, true, false, cond, List, [], ◌∷◌, ◌++◌, Option, Some, None, Result, Ok, Err}
+use Rattle.std.specs.Prelude.{ℕ, zero, suc, Bool, cond, [], ◌∷◌, Option, Ok, Err}
 use Rattle.st_tokens.specs.declared.limit.LimitKind.TheVariants as limits
-use Rattle.st_tokens.specs.Stream.{Stream, ends, breaks, more, behind}
+use Rattle.st_tokens.specs.Stream.{Stream, behind}
 use Rattle.st_reading.specs.declared.mark.Mark.{Mark}
 use Rattle.st_reading.specs.declared.mark.Mark.TheVariants as marks
 use Rattle.st_reading.specs.declared.sign.Sign.{Sign}
 use Rattle.st_reading.specs.Sign.{is}
 use Rattle.st_reading.specs.Faults.{Passed, passed}
-use Rattle.st_reading.specs.Reading.{Stop, other, Read, ◌>>=◌, Label, ahead, place_of, name_of, refusal, expected, named, gives, then_reads, Turn, leaves, goes, on_operator, chain, size, only, listing}
+use Rattle.st_reading.specs.Reading.{other, Read, ahead, place_of, name_of, refusal, expected, named, gives, then_reads, Turn, goes, on_operator, chain, size, only, listing}
 use Rattle.spl_parser.specs.declared.raw.Operator.{Operator}
 use Rattle.spl_parser.specs.declared.raw.Operator.TheVariants as operators
 use Rattle.spl_parser.specs.declared.sign.Front.{Front}

@@ -149,9 +149,10 @@ fn product<'a>(
     Ok(left)
 }
 
+/// Reads the longest sum, at most `room` levels deep. `at` names stand where `places` are asked for.
 #[cycle(expr)]
 #[tactic(auto, unfolding(crate::specs::Reading::sum_of))]
-fn sum<'a>(
+pub fn sum<'a>(
     alloc: Global,
     places: bool,
     room: u32,
@@ -280,6 +281,8 @@ fn disjunction<'a>(
     })
 }
 
+/// Reads the longest formula, at most `room` levels deep: open parentheses, `~`, unary `-` and `->`. `at` names stand where
+/// `places` are asked for, as in proofs. What stands behind the formula is left.
 #[cycle(expr)]
 #[tactic(auto, unfolding(crate::specs::Reading::expression_of, crate::specs::Reading::below))]
 pub fn expression<'a>(

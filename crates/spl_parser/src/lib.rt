@@ -5,6 +5,7 @@ mod begun;
 mod declaration;
 mod expr;
 mod item;
+pub mod laws;
 mod limits;
 mod lists;
 mod program;
@@ -12,6 +13,8 @@ mod raw;
 mod sign;
 mod statement;
 
+pub use expr::{expression, sum};
+pub use limits::LEVELS;
 pub use program::parse_program;
 pub use raw::{
     Operator, RawBody, RawDeclaration, RawExpr, RawExprKind, RawKind, RawProcess, RawProgram,

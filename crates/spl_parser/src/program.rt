@@ -8,6 +8,7 @@ ghost use Rattle.st_reading.specs.Faults.{see, name_view};
 ghost use Rattle.spl_parser.specs.ProgramTree.{process_view, process_views, program_view};
 ghost use Rattle.spl_parser.specs.Programs.{totals, process_name, process_of, processes_of, program_of, usual};
 ghost use Rattle.spl_parser.specs.Parsing.{Parses, parsed};
+ghost use Rattle.spl_parser.specs.Theorems.{IsReading};
 
 use crate::declaration::declarations;
 use crate::limits::{PROCESSES, ROUND};
@@ -97,10 +98,9 @@ fn processes<'a>(
     further_processes(alloc, processes, variables, statements, tokens)
 }
 
-/// Reads a program. The first fault in the order of the text is answered; at one place a token fault comes before
-/// `Syntax`, and that before `Limit`.
+/// Reads a whole text.
 #[tactic(auto, unfolding(crate::specs::Programs::program_of, crate::specs::Programs::spelled_of))]
-pub fn parse_program<'a>(alloc: Global, text: &'a [u8]) -> Result<RawProgram<'a>, ParseFault>
+fn whole_program<'a>(alloc: Global, text: &'a [u8]) -> Result<RawProgram<'a>, ParseFault>
     ensures reads { Parses program_view result (parsed text.now) }
 {
     let mut tokens = Tokens::new(text);
@@ -113,4 +113,14 @@ pub fn parse_program<'a>(alloc: Global, text: &'a [u8]) -> Result<RawProgram<'a>
         declarations,
         processes,
     })
+}
+
+/// Reads a program: exactly the one that the text spells within the limits. A text that spells none is refused at its
+/// first fault in the order of the text; at one place a token fault comes before `Syntax`, and that before `Limit`.
+#[tactic(auto, using(crate::proofs::ProgramTheorems::is_reading))]
+pub fn parse_program<'a>(alloc: Global, text: &'a [u8]) -> Result<RawProgram<'a>, ParseFault>
+    ensures reads { Parses program_view result (parsed text.now) }
+    ensures spells { IsReading program_view result text.now }
+{
+    whole_program(alloc, text)
 }

@@ -1,4 +1,5 @@
--- The steps of what is left to run, as a relation: one row for each case.
+-- The steps of what is left to run, as a relation: one row for each case (Manna and Pnueli, *Temporal Verification of
+-- Reactive Systems: Safety*, section 0.3, given here on program trees).
 use Rattle.std.specs.Prelude.{◌≡◌, ℕ, suc, ◌+◌, true, false, List, [], ◌∷◌, slice_get, Some, length}
 use Rattle.st_form.specs.Formula.{Formula, row}
 use Rattle.st_form.specs.declared.conditions.Part.TheVariants.{Whole, Entry, Exit}

@@ -1,4 +1,5 @@
--- Where control is.
+-- Where control is (Manna and Pnueli, *Temporal Verification of Reactive Systems: Safety*, sections 0.2 and 0.3: locations
+-- and control).
 use Rattle.std.specs.Prelude.{ℕ, List, [], ◌∷◌, ◌++◌, Option, Some, None}
 use Rattle.st_program.specs.Tree.{Action, skip, cooperate, process, Processes, no_process, beside, location, action}
 use Rattle.st_program.specs.Spots.{Spot, spot}

@@ -1,4 +1,6 @@
--- What is promised of every run: its states meet the control facts, and it goes on to as many rounds as are wanted.
+-- What is promised of every run: its states meet the control facts, and it goes on to as many rounds as are wanted. The
+-- latter is why fairness never stops a program (Manna and Pnueli, *Temporal Verification of Reactive Systems: Safety*,
+-- section 0.1).
 use Rattle.std.specs.Prelude.{ℕ, ◌≤◌, List, ◌++◌, length}
 use Rattle.st_form.specs.declared.conditions.TransName.{TransName}
 use Rattle.observations.specs.Rounds.{Rounds}

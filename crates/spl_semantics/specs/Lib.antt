@@ -7,3 +7,11 @@ pub mod Names
 pub mod Runs
 pub mod Moving
 pub mod Facts
+pub mod Data
+pub mod Numbers
+pub mod Fitting
+pub mod Plain
+pub mod Limits
+pub mod Walks
+pub mod Answers
+pub mod InOrder

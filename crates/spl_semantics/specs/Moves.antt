@@ -1,7 +1,8 @@
 -- How control moves along the text: what each statement's transition does to locations and to the store.
 --
 -- A move leads from locations to others where the store allows it. The moves of a program are read on the text alone,
--- statement by statement; that its steps are exactly these moves is a law.
+-- statement by statement, as Manna and Pnueli give the transitions of SPL (*Temporal Verification of Reactive Systems:
+-- Safety*, section 0.3); that its steps are exactly these moves is a law.
 use Rattle.std.specs.Prelude.{ℕ, suc, Bool, true, not, List, [], ◌∷◌, ◌++◌, is_some, unwrap_or}
 use Rattle.st_form.specs.Formula.{Formula, row}
 use Rattle.st_form.specs.declared.conditions.Part.TheVariants.{Whole, Entry, Exit}

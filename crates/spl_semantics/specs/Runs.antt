@@ -1,7 +1,8 @@
 -- States and runs of a program, and what is seen of a run.
 --
 -- A run is a finite one: a first state, and for each step its name and the state behind it. What is seen of a state is
--- where control is, and the store; with it is seen which names are enabled.
+-- where control is, and the store; with it is seen which names are enabled. A run is a beginning of a computation of Manna
+-- and Pnueli, *Temporal Verification of Reactive Systems: Safety*, section 0.1, before fairness is asked.
 use Rattle.std.specs.Prelude.{◌≡◌, ℕ, suc, Bool, true, List, [], ◌∷◌, map, length, if◌then◌else◌, ⊤}
 use Rattle.std.specs.List.{list_any}
 use Rattle.st_form.specs.Formula.{Formula, Situation}

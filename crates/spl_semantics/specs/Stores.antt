@@ -1,4 +1,5 @@
--- Stores, and what tests and assignments mean in them.
+-- Stores, and what tests and assignments mean in them (Manna and Pnueli, *Temporal Verification of Reactive Systems:
+-- Safety*, section 0.3).
 use Rattle.std.specs.Prelude.{ℕ, Bool, true, false, not, ◌==◌, if◌then◌else◌, List, [], ◌∷◌, ℤ, pos, negsuc, Option, Some, None}
 use Rattle.st_linear.specs.Linear.{Linear, value}
 use Rattle.st_form.specs.Formula.{Formula, Situation}

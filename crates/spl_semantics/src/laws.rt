@@ -1,18 +1,20 @@
 //! The laws of programs' steps and runs, each the contract of a function that does nothing.
-ghost use Rattle.std.specs.Prelude.{◌↔◌, ℕ, List};
+ghost use Rattle.std.specs.Prelude.{◌≡◌, ◌↔◌, ℕ, List, length, true};
 ghost use Rattle.st_form.specs.Formula.{Formula};
 ghost use Rattle.st_form.specs.Plain.{plain};
 ghost use Rattle.st_form.specs.declared.conditions.TransName.{TransName};
 ghost use Rattle.st_program.specs.Member.{Member};
 ghost use Rattle.st_program.specs.Plain.{plain_children};
 ghost use Rattle.st_program.specs.Programs.{WellFormed};
+ghost use Rattle.st_program.specs.Spots.{all_spots};
 ghost use Rattle.st_program.specs.Residuals.{Rests};
 ghost use Rattle.st_program.specs.Tree.{Processes};
 ghost use Rattle.spl_semantics.specs.Cases.{Steps};
 ghost use Rattle.spl_semantics.specs.Facts.{MeetsControl, GoesOn};
+ghost use Rattle.spl_semantics.specs.Fitting.{FitsProgram};
 ghost use Rattle.spl_semantics.specs.Moving.{ControlMoves};
-ghost use Rattle.spl_semantics.specs.Runs.{State, IsFirst, Reached, Follows};
-ghost use Rattle.spl_semantics.specs.Steps.{Act, steps_of};
+ghost use Rattle.spl_semantics.specs.Runs.{State, IsFirst, Reached, Follows, Leads, is_enabled};
+ghost use Rattle.spl_semantics.specs.Steps.{Act, begin, steps_of};
 ghost use Rattle.spl_semantics.specs.Stores.{Store};
 
 use st_program::Program;
@@ -21,6 +23,20 @@ use st_program::Program;
 pub fn steps_by_cases()
     ensures { (p : Processes) → WellFormed p → (rs : Rests) (store : Store) (a : Act Rests) →
         Member a (steps_of rs p store) ↔ Steps p rs store a.name a.mode a.left a.store }
+{}
+
+/// Whether a name is enabled, as it is computed, is whether some step has the name.
+pub fn enabled_where_a_step_is()
+    ensures { (p : Processes) (s : State) (name : TransName) →
+        is_enabled p s name ≡ true ↔ (t : State) × Leads p s name t }
+{}
+
+/// What is left at the start fits the program, and a step from what fits leads to what fits: its numbers name statements and
+/// bodies of the right kind, and inside a cooperation there is one part for each child.
+pub fn steps_fit()
+    ensures first { (p : Processes) → WellFormed p → FitsProgram p (begin p (length (all_spots p))) }
+    ensures next { (p : Processes) → WellFormed p → (rs : Rests) (store : Store) (a : Act Rests) →
+        FitsProgram p rs → Member a (steps_of rs p store) → FitsProgram p a.left }
 {}
 
 /// In every state of every run of a well-formed program its steps are the moves of its statements along the text.

@@ -1,4 +1,28 @@
 //! What programs do: their steps, their runs, and what is seen of a run.
 #![tactic(auto)]
 
+mod actions;
+mod acts;
+mod blocks;
+mod children;
+mod components;
+mod effects;
+mod evaluation;
+mod faults;
+mod fitting;
 pub mod laws;
+mod playing;
+mod simple;
+mod starts;
+mod stepping;
+mod surgery;
+mod walks;
+
+pub use acts::Move;
+pub use faults::MoveFault;
+pub use fitting::{has_numbers, store_fits};
+pub use playing::moves;
+pub use starts::start;
+
+#[cfg(test)]
+mod tests;

@@ -1,2 +1,5 @@
 pub mod Translation
 pub mod Correspondence
+pub mod Making
+pub mod Composing
+pub mod Walk

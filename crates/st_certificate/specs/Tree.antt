@@ -1,3 +1,4 @@
+-- Certificates as plain data: a step divides a problem, and has a certificate for each part; a leaf refutes its part.
 use Rattle.std.specs.Prelude.{ℕ, ℤ, List, [], ◌∷◌}
 use Rattle.st_linear.specs.Linear.{Linear}
 

@@ -1,3 +1,4 @@
+-- Answers that are handed on.
 use Rattle.std.specs.Prelude.{◌≡◌, Option, Some, None, Result, Ok, Err, IfOk}
 use Rattle.st_linear.specs.declared.faults.LinFault.{LinFault}
 use Rattle.st_linear.specs.declared.faults.LinFault.TheVariants.{TooLarge, Memory}

@@ -1,3 +1,4 @@
+-- Common divisors, and division that rounds down.
 use Rattle.std.proofs.Common.{◌≡◌, ◌≢◌, ℕ, zero, suc, ◌+◌, ◌-◌, ◌*◌, ◌/◌, ◌%◌, ◌<◌, ◌≤◌, ◌^◌, Bool, true, false, List, [], ◌∷◌, length, drop, get_or, map, inl, inr, refl, ap, ◌∙◌, sym, subst, arith, ℤ, pos, negsuc, ◌+ℤ◌, ◌*ℤ◌, neg_ℤ}
 use Rattle.std.specs.Prelude.{IsTrue, if◌then◌else◌, unsigned_abs, int_le}
 use Prim.Native.Nat.{◌∣◌}

@@ -1,3 +1,4 @@
+-- Sums and multiples: their values, and that they are forms where their numbers fit.
 use Rattle.std.proofs.Common.{◌≡◌, ℕ, Bool, true, false, cond, List, [], ◌∷◌, ◌++◌, length, drop, get_or, ◌<◌, ◌≤◌, ◌+◌, ◌^◌, ap, ◌∙◌, sym, arith, ℤ, ◌+ℤ◌, ◌*ℤ◌, Some, None, append-nil}
 use Rattle.std.proofs.Math.ListN.{drop_of_length-le}
 use Rattle.std.specs.Prelude.{IsTrue}

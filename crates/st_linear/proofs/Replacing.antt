@@ -1,3 +1,4 @@
+-- Replacements and evaluations have the values that they should have.
 use Rattle.std.proofs.Common.{◌≡◌, ℕ, ◌+◌, ◌<◌, Bool, true, false, cond, List, [], ◌∷◌, length, drop, get_or, refl, ap, ◌∙◌, sym, arith, ℤ, pos, ◌+ℤ◌, ◌*ℤ◌, Option, Some, None}
 use Rattle.std.specs.Option.{option_map}
 use Rattle.std.specs.Prelude.{IfSome, ◌↔◌, ◌≤ℤ◌, int_le, IsTrue, is_some, option_and_then, if◌then◌else◌, zero, suc, slice_index_or}

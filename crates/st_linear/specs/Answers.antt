@@ -1,3 +1,4 @@
+-- One clause for "the value, or refused exactly where there is none": want of memory is the one answer that is always allowed.
 use Rattle.std.specs.Prelude.{◌≡◌, Option, Some, None, Result, Ok, Err}
 use Rattle.st_linear.specs.declared.faults.LinFault.{LinFault}
 use Rattle.st_linear.specs.declared.faults.LinFault.TheVariants.{TooLarge, Memory}

@@ -1,3 +1,6 @@
+-- Linear forms over whole numbers as plain data: what their values are, and what sums, multiples and replacements are. Entries are
+-- kept by rising variable without a coefficient 0, so that equal forms are equal data. Where a number grows to a limit there is no
+-- form: `fitting`, `replaced` and the like then give None.
 use Rattle.std.specs.Prelude.{◌≢◌, IsTrue, ℕ, zero, ◌^◌, ◌<◌, Bool, true, ◌&&◌, ◌||◌, not, false, ◌+◌, ◌==◌, nat_lt, nat_le, is_some, option_and_then, slice_index_or, if◌then◌else◌, List, [], ◌∷◌, ℤ, pos, ◌+ℤ◌, ◌*ℤ◌, unsigned_abs, All, Option, Some, None}
 
 -- a linear form: a constant, and a coefficient for each of some variables

@@ -1,3 +1,4 @@
+-- What simplification needs: the greatest common divisor of the coefficients, division with the constant rounded down, opposites.
 use Rattle.std.specs.Prelude.{ℕ, zero, suc, ◌%◌, ◌<◌, ◌^◌, Bool, true, ◌&&◌, ◌==◌, if◌then◌else◌, List, [], ◌∷◌, map, ℤ, pos, negsuc, ◌+ℤ◌, neg_ℤ, unsigned_abs, All}
 use Prim.Native.Nat.{◌∣◌}
 use Rattle.std.specs.Int.{int_div_euclid}

@@ -1,11 +1,11 @@
 -- Readers that choose by the next token, and what completes them.
-use Rattle.std.proofs.Common.{◌≡◌, ℕ, ◌≤◌, Bool, true, false, cond, List, [], ◌∷◌, ◌++◌, Option, Some, None, Result, Ok, Err, ◌⊎◌, inl, inr, refl, sym, ap, subst, ◌∙◌, arith}
+use Rattle.std.proofs.Common.{◌≡◌, ℕ, ◌≤◌, Bool, true, false, List, [], ◌∷◌, ◌++◌, Option, Some, None, Ok, Err, inl, inr, refl, sym, ap, ◌∙◌, arith}
 use Rattle.st_tokens.specs.Stream.{◌++>◌, Lexeme, Stream, ends, breaks, more, behind}
 use Rattle.st_reading.specs.declared.sign.Sign.{Sign}
 use Rattle.st_reading.specs.declared.sign.Sign.TheVariants as signs
 use Rattle.st_reading.specs.Sign.{sign_of}
-use Rattle.st_reading.specs.Reading.{Stop, other, Read, ◌>>=◌, Label, ahead, size, place_of, name_of, label_of, refusal, then_reads, on_operator, gives}
-use Rattle.st_reading.specs.Steady.{head, Follows, Viable, Cause, refused, over, SteadyAt, both, stops, Short, Within, anything}
+use Rattle.st_reading.specs.Reading.{Stop, Read, Label, ahead, size, place_of, name_of, label_of, refusal, then_reads, on_operator, gives}
+use Rattle.st_reading.specs.Steady.{Follows, Viable, Cause, refused, over, SteadyAt, both, stops, Within, anything}
 use Rattle.st_reading.proofs.Streams.{behind_size, ahead_same}
 use Rattle.st_reading.proofs.Steadiness.{at_shift, at_stuck, viable_first}
 use Rattle.st_reading.proofs.Soundness.{Shrinks}

@@ -1,12 +1,12 @@
 -- A chain by its turns, whatever fuel it has; its law; and a chain as a loop reads it.
-use Rattle.std.proofs.Common.{◌≡◌, ℕ, zero, suc, ◌≤◌, Bool, true, false, List, [], ◌∷◌, ◌++◌, Option, Some, None, Result, Ok, Err, ◌⊎◌, inl, inr, refl, sym, ap, subst, ◌∙◌, arith}
+use Rattle.std.proofs.Common.{◌≡◌, ℕ, zero, suc, ◌≤◌, Bool, true, List, [], Option, Some, None, Ok, Err, refl, sym, ap, ◌∙◌, arith}
 use Rattle.st_tokens.specs.Stream.{◌++>◌, Lexeme, Stream, ends, breaks, more, behind}
 use Rattle.st_reading.specs.declared.sign.Sign.{Sign}
 use Rattle.st_reading.specs.declared.sign.Sign.TheVariants as signs
 use Rattle.st_reading.specs.Sign.{sign_of}
 use Rattle.st_reading.specs.Reading.{Stop, Read, ◌>>=◌, ahead, size, place_of, then_reads, Turn, leaves, goes, turned, on_operator, chain, IsStop}
-use Rattle.st_reading.specs.Steady.{head, Follows, Viable, Cause, SteadyAt, both, stops, Short, Within, Parts, calmer, takes, Wide, wider, moves, anything}
-use Rattle.st_reading.proofs.Streams.{append_stream, size_through, follow_test, behind_size}
+use Rattle.st_reading.specs.Steady.{SteadyAt, Short, Within, calmer, wider, anything}
+use Rattle.st_reading.proofs.Streams.{size_through, follow_test, behind_size}
 use Rattle.st_reading.proofs.Steadiness.{at_bind, at_choice, at_shift, at_gives}
 use Rattle.st_reading.proofs.Soundness.{Shrinks}
 

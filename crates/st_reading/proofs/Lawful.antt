@@ -1,16 +1,16 @@
 -- Readers that have their law, and what is put together from them.
-use Rattle.std.proofs.Common.{◌≡◌, ℕ, zero, suc, ◌≤◌, Bool, true, false, cond, List, [], ◌∷◌, ◌++◌, Option, Some, None, Result, Ok, Err, ◌⊎◌, inl, inr, refl, sym, ap, subst, ◌∙◌, arith}
+use Rattle.std.proofs.Common.{◌≡◌, ℕ, ◌≤◌, Bool, true, false, cond, List, [], ◌∷◌, ◌++◌, Option, None, Ok, Err, ◌⊎◌, inl, inr, refl, sym, ap, ◌∙◌, arith}
 use Rattle.st_tokens.specs.Stream.{◌++>◌, Lexeme, Stream, ends, breaks, more, behind}
 use Rattle.st_reading.specs.declared.mark.Mark.{Mark}
 use Rattle.st_reading.specs.declared.sign.Sign.{Sign}
 use Rattle.st_reading.specs.declared.sign.Sign.TheVariants as signs
 use Rattle.st_reading.specs.Sign.{sign_of, is}
-use Rattle.st_reading.specs.Reading.{Stop, other, Read, ◌>>=◌, ahead, size, place_of, refusal, then_reads, Turn, leaves, goes, turned, on_operator, chain, gives, expected, named, is_name, Label, name_of, label_of}
-use Rattle.st_reading.specs.Steady.{head, Follows, Viable, Cause, refused, over, SteadyAt, both, stops, Short, Within, Parts, calmer, takes, Wide, wider, moves, anything}
-use Rattle.st_reading.proofs.Streams.{size_through, behind_size, follow_test, ahead_same, append_stream}
-use Rattle.st_reading.proofs.Steadiness.{at_bind, at_choice, at_shift, at_gives, at_expected, at_named, at_over, at_stuck, at_weak, viable_as, viable_first}
+use Rattle.st_reading.specs.Reading.{Stop, other, Read, ahead, size, place_of, then_reads, Turn, chain, gives, expected, named, is_name, Label, name_of, label_of}
+use Rattle.st_reading.specs.Steady.{head, Viable, Cause, refused, over, SteadyAt, both, stops, Short, Within, Parts, calmer, Wide, wider, moves, anything}
+use Rattle.st_reading.proofs.Streams.{behind_size, follow_test}
+use Rattle.st_reading.proofs.Steadiness.{at_bind, at_choice, at_shift, at_gives, at_expected, at_named, at_over, at_weak, viable_first}
 use Rattle.st_reading.proofs.Soundness.{Shrinks}
-use Rattle.st_reading.proofs.Shrinking.{left, shrinks_gives, shrinks_bind, shrinks_map, shrinks_expected, shrinks_named, shrinks_chain}
+use Rattle.st_reading.proofs.Shrinking.{shrinks_gives, shrinks_bind, shrinks_expected, shrinks_named, shrinks_chain}
 use Rattle.st_reading.proofs.Chains.{at_chain}
 
 -- r, and the readers p with more room: the law, and that no rest is longer

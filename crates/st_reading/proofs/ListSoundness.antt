@@ -1,14 +1,14 @@
 -- Lists that are read are spelled, item by item.
-use Rattle.std.proofs.Common.{◌≡◌, ℕ, zero, suc, Bool, true, false, cond, List, [], ◌∷◌, ◌++◌, Option, Some, None, Result, Ok, Err, refl, sym, ap, subst, ◌∙◌, append-nil, append_assoc}
+use Rattle.std.proofs.Common.{◌≡◌, ℕ, zero, suc, Bool, true, false, cond, List, [], ◌∷◌, ◌++◌, Option, Some, None, Ok, Err, refl, sym, ap, subst, ◌∙◌, append-nil, append_assoc}
 use Rattle.st_tokens.specs.Stream.{◌++>◌, Lexeme, Stream, ends, breaks, more, behind}
 use Rattle.st_reading.specs.declared.mark.Mark.{Mark}
 use Rattle.st_reading.specs.declared.sign.Sign.{Sign}
 use Rattle.st_reading.specs.declared.sign.Sign.TheVariants as signs
 use Rattle.st_reading.specs.Sign.{sign_of, is}
-use Rattle.st_reading.specs.Reading.{Stop, Read, ◌>>=◌, Label, ahead, place_of, name_of, label_of, is_name, refusal, then_reads, expected, named, gives, Turn, leaves, goes, turned, on_operator, chain, only, listing, Carried, counting, linked, size, further}
-use Rattle.st_reading.specs.Spelling.{Cut, Sound, Both, behind_it, Is, IsName, OneName, one_name, Items, no_items, item_more, Row, row, Row2, row2}
+use Rattle.st_reading.specs.Reading.{Read, ◌>>=◌, ahead, place_of, name_of, label_of, is_name, refusal, then_reads, expected, named, gives, Turn, goes, turned, on_operator, chain, only, listing, Carried, counting, linked, size, further}
+use Rattle.st_reading.specs.Spelling.{Cut, Sound, Both, behind_it, Is, OneName, one_name, Items, no_items, item_more, Row, row, Row2, row2}
 use Rattle.st_reading.proofs.Streams.{append_stream}
-use Rattle.st_reading.proofs.Soundness.{split, values, taken}
+use Rattle.st_reading.proofs.Soundness.{split, taken}
 
 -- one token that is the mark, at its place
 pub data OneMark (m : Mark) : List Lexeme → ℕ → Type 0 where

@@ -1,11 +1,11 @@
 -- Loops over lists, as the code goes through them: what was read so far, and what is left.
-use Rattle.std.proofs.Common.{◌≡◌, ℕ, ◌≤◌, Bool, true, false, cond, List, [], ◌∷◌, ◌++◌, Option, Some, None, Result, Ok, Err, refl, sym, ap, ◌∙◌}
+use Rattle.std.proofs.Common.{◌≡◌, ◌≤◌, true, false, List, [], ◌∷◌, ◌++◌, Option, Some, None, Result, Ok, Err, refl, sym, ap, ◌∙◌}
 use Rattle.st_tokens.specs.Stream.{Stream, behind}
 use Rattle.st_reading.specs.declared.mark.Mark.{Mark}
 use Rattle.st_reading.specs.declared.sign.Sign.{Sign}
 use Rattle.st_reading.specs.declared.sign.Sign.TheVariants as signs
 use Rattle.st_reading.specs.Sign.{is}
-use Rattle.st_reading.specs.Reading.{Stop, Read, ◌>>=◌, ahead, size, gives, then_reads, Turn, leaves, goes, IsStop, only, listing, Carried, counting}
+use Rattle.st_reading.specs.Reading.{Stop, Read, ahead, size, gives, then_reads, goes, IsStop, only, listing, Carried, counting}
 use Rattle.st_reading.proofs.Chains.{Running, running_next, running_ends, running_fails}
 
 -- A fault is carried from one reading to another.

@@ -1,11 +1,11 @@
 -- What is left is no more than what there was.
-use Rattle.std.proofs.Common.{◌≡◌, ℕ, zero, suc, ◌≤◌, Bool, true, false, cond, List, [], ◌∷◌, Option, Some, None, Result, Ok, Err, ◌⊎◌, inl, inr, refl, sym, ap, subst, ◌∙◌, arith}
-use Rattle.st_tokens.specs.Stream.{◌++>◌, Lexeme, Stream, ends, breaks, more, behind}
+use Rattle.std.proofs.Common.{◌≡◌, ℕ, zero, suc, ◌≤◌, Bool, true, false, cond, Option, Some, None, Ok, Err, inl, refl, ap, ◌∙◌, arith}
+use Rattle.st_tokens.specs.Stream.{Stream, behind}
 use Rattle.st_reading.specs.declared.mark.Mark.{Mark}
 use Rattle.st_reading.specs.declared.sign.Sign.{Sign}
 use Rattle.st_reading.specs.Sign.{is}
-use Rattle.st_reading.specs.Reading.{Stop, Read, ◌>>=◌, ahead, size, place_of, refusal, then_reads, Turn, leaves, goes, turned, on_operator, chain, gives, expected, named, is_name, name_of}
-use Rattle.st_reading.specs.Steady.{head, Follows, Viable, SteadyAt, both, stops}
+use Rattle.st_reading.specs.Reading.{Read, ◌>>=◌, ahead, size, place_of, refusal, then_reads, Turn, leaves, goes, turned, on_operator, chain, gives, expected, named, is_name, name_of}
+use Rattle.st_reading.specs.Steady.{SteadyAt, both, stops}
 use Rattle.st_reading.proofs.Streams.{size_through, behind_size}
 use Rattle.st_reading.proofs.Soundness.{Shrinks, split, values}
 

@@ -1,10 +1,10 @@
 -- What is read by parts is spelled by parts.
-use Rattle.std.proofs.Common.{◌≡◌, ℕ, zero, suc, ◌≤◌, Bool, true, false, List, [], ◌∷◌, ◌++◌, Option, Some, None, Result, Ok, Err, refl, sym, ap, subst, ◌∙◌, arith}
+use Rattle.std.proofs.Common.{◌≡◌, ℕ, zero, suc, ◌≤◌, List, ◌∷◌, ◌++◌, Option, Some, None, Ok, Err, refl, sym, ap, subst, ◌∙◌, arith}
 use Rattle.st_tokens.specs.Stream.{◌++>◌, Lexeme, Stream, ends, breaks, more, behind}
 use Rattle.st_reading.specs.declared.sign.Sign.{Sign}
 use Rattle.st_reading.specs.Sign.{sign_of}
 use Rattle.st_reading.specs.declared.sign.Sign.TheVariants as signs
-use Rattle.st_reading.specs.Reading.{Stop, Read, ◌>>=◌, ahead, size, place_of, then_reads, Turn, leaves, goes, turned, on_operator, chain}
+use Rattle.st_reading.specs.Reading.{Read, ◌>>=◌, ahead, size, place_of, then_reads, Turn, leaves, goes, turned, on_operator, chain}
 use Rattle.st_reading.specs.Spelling.{Cut, Sound, Links, ended, left, linked, Both, behind_it}
 use Rattle.st_reading.proofs.Streams.{append_stream, size_through}
 

@@ -1,12 +1,12 @@
 -- How the law of a reader comes from the laws of its parts.
-use Rattle.std.proofs.Common.{◌≡◌, ℕ, Bool, true, false, List, [], ◌∷◌, ◌++◌, Result, Ok, Err, ◌⊎◌, inl, inr, refl, sym, ap, subst, ◌∙◌, append_assoc}
-use Rattle.st_tokens.specs.Stream.{◌++>◌, Lexeme, Stream, ends, breaks, more, behind}
+use Rattle.std.proofs.Common.{◌≡◌, Bool, true, false, List, [], ◌∷◌, ◌++◌, Ok, Err, inl, inr, refl, sym, ap, subst, ◌∙◌, append_assoc}
+use Rattle.st_tokens.specs.Stream.{◌++>◌, Lexeme, Stream, ends, breaks, more}
 use Rattle.st_reading.specs.declared.sign.Sign.{Sign}
 use Rattle.st_reading.specs.declared.mark.Mark.{Mark}
 use Rattle.st_reading.specs.Sign.{sign_of, is}
-use Rattle.st_reading.specs.Reading.{Stop, syntax, broken, other, Read, ◌>>=◌, ahead, refusal, gives, then_reads, expected, named, is_name, label_of}
+use Rattle.st_reading.specs.Reading.{Stop, other, Read, ahead, refusal, gives, then_reads, expected, named, is_name, label_of}
 use Rattle.st_reading.specs.Steady.{head, Follows, Viable, Cause, refused, over, SteadyAt, both, stops, Short, Within, Parts, calmer, takes, Wide, wider, moves}
-use Rattle.st_reading.proofs.Streams.{append_stream, follows_through, same_through, token_is, refusal_same, ahead_same}
+use Rattle.st_reading.proofs.Streams.{append_stream, follows_through, token_is, refusal_same, ahead_same}
 
 pub bind_ok : {X A B : Type 0} (r : Stream → Read X A) (q : A → Stream → Read X B) (s : Stream) (x : A) (after : Stream) → r s ≡ Ok (x, after) → then_reads r q s ≡ q x after
 bind_ok r q s x after e = rw e refl

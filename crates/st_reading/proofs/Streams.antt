@@ -1,10 +1,10 @@
 -- Tokens in front of a stream.
-use Rattle.std.proofs.Common.{◌≡◌, ℕ, zero, suc, ◌≤◌, ◌<◌, Bool, true, false, List, [], ◌∷◌, ◌++◌, Result, Ok, Err, ◌⊎◌, inl, inr, refl, sym, ap, subst, ◌∙◌, arith}
+use Rattle.std.proofs.Common.{◌≡◌, ℕ, ◌≤◌, Bool, true, List, [], ◌∷◌, ◌++◌, inl, inr, refl, ap, ◌∙◌, arith}
 use Rattle.st_tokens.specs.Stream.{◌++>◌, Lexeme, Stream, ends, breaks, more, behind}
 use Rattle.st_reading.specs.Sign.{sign_of}
 use Rattle.st_reading.specs.declared.sign.Sign.{Sign}
-use Rattle.st_reading.specs.Reading.{Stop, syntax, ahead, refusal, size, place_of}
-use Rattle.st_reading.specs.Steady.{Head, end, fault, token, head, Follows}
+use Rattle.st_reading.specs.Reading.{syntax, ahead, refusal, size}
+use Rattle.st_reading.specs.Steady.{token, head, Follows}
 
 pub append_stream : (a b : List Lexeme) (s : Stream) → (a ++ b) ++> s ≡ a ++> (b ++> s)
 append_stream [] b s = refl

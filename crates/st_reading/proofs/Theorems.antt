@@ -1,13 +1,13 @@
 -- The first fault, and the longest text, of a reader that has its law.
-use Rattle.std.proofs.Common.{◌≡◌, ℕ, Bool, true, false, List, [], ◌∷◌, ◌++◌, Result, Ok, Err, ◌⊎◌, inl, inr, refl, sym, ap, subst, ◌∙◌}
-use Rattle.st_tokens.specs.Stream.{◌++>◌, Lexeme, Stream, ends, breaks, more, behind}
+use Rattle.std.proofs.Common.{◌≡◌, ℕ, Bool, true, List, [], ◌∷◌, ◌++◌, Ok, Err, inl, refl, sym, ap, subst, ◌∙◌, append-nil, append_assoc}
+use Rattle.st_tokens.specs.Stream.{◌++>◌, Lexeme, Stream, ends, breaks, more}
 use Rattle.st_reading.specs.declared.sign.Sign.{Sign}
 use Rattle.st_reading.specs.declared.sign.Sign.TheVariants as signs
-use Rattle.st_reading.specs.Reading.{Stop, syntax, broken, other, Read, ahead, refusal}
-use Rattle.st_reading.specs.Steady.{head, Follows, Viable, Cause, refused, over, SteadyAt, both, stops}
-use Rattle.st_reading.specs.Spelling.{Cut, Sound}
-use Rattle.st_reading.specs.Theorem.{Begins, IsStuck, IsFirst}
-use Rattle.st_reading.proofs.Streams.{append_stream, same_text, same_cut}
+use Rattle.st_reading.specs.Reading.{Stop, syntax, broken, other, Read, ◌>>=◌, refusal, then_reads, gives, at_end, whole as all_of}
+use Rattle.st_reading.specs.Steady.{head, Viable, Cause, refused, over, SteadyAt, both, stops}
+use Rattle.st_reading.specs.Spelling.{Sound}
+use Rattle.st_reading.specs.Theorem.{Begins, IsStuck, IsFirst, IsMet}
+use Rattle.st_reading.proofs.Streams.{append_stream, more_parts, same_text, same_cut}
 use Rattle.st_reading.proofs.Soundness.{values}
 
 module _ {I X A : Type 0} (front calm : Sign → Bool) (quiet : calm signs.Nothing ≡ true) (r : Stream → Read X A) (p : I → Stream → Read X A) (i0 : I) (L : I → List Lexeme → A → Type 0)
@@ -73,3 +73,109 @@ module _ {I X A : Type 0} (front calm : Sign → Bool) (quiet : calm signs.Nothi
       let v = values (p l.0 ((ts ++ t ∷ us) ++> ends 0)) y z (ends 0) (more t (us ++> ends 0)) good part2 in
       let bad : ends 0 ≡ more t (us ++> ends 0) = v.1 in
       cc
+
+  -- A WHOLE TEXT, WITH NOTHING BEHIND IT
+  at_first : (s : Stream) (f : Stop X) → SteadyAt front calm r p s → (o : Read X A) → o ≡ r s → (o >>= λ x. then_reads at_end (λ e. gives x.0) x.1) ≡ Err f → IsFirst Some_of s f
+  unfolding at_end
+  at_first s f law (Err g) e h = let same : g ≡ f = cc in first_fault s f law (sym e ∙ ap Err same)
+  at_first s f law (Ok (x, ends q)) e h = cc
+  at_first s f law (Ok (x, breaks g)) e h =
+      let c = sound i0 s x (breaks g) (read_by_all s x (breaks g) law (sym e) i0) in
+      let same : broken g ≡ f = cc in
+      record { text = c.text; rest = breaks g; is = c.is; begins = ([], x, (i0, subst (λ (z : List Lexeme). L i0 z x) (sym (append-nil c.text)) c.spells)); stuck = subst (λ z. IsStuck Some_of c.text z (breaks g)) same refl }
+  at_first s f law (Ok (x, more t after)) e h =
+      let c = sound i0 s x (more t after) (read_by_all s x (more t after) law (sym e) i0) in
+      let same : syntax t.start ≡ f = cc in
+      record {
+        text = c.text;
+        rest = more t after;
+        is = c.is;
+        begins = ([], x, (i0, subst (λ (z : List Lexeme). L i0 z x) (sym (append-nil c.text)) c.spells));
+        stuck = subst (λ z. IsStuck Some_of c.text z (more t after)) same (refl, λ b. longest s x (more t after) law (sym e) c.text c.is t after b.0 b.1 refl (subst (λ (z : List Lexeme). Some_of z b.1) (append_assoc c.text (t ∷ []) b.0) b.2));
+      }
+
+  pub whole_first : (s : Stream) (f : Stop X) → SteadyAt front calm r p s → all_of r s ≡ Err f → IsFirst Some_of s f
+  whole_first s f law h = at_first s f law (r s) refl h
+
+  -- A LIMIT IS MET, where no text of W y is refused with y
+  module _ (W : X → List Lexeme → A → Type 0) (against : (y : X) (ts : List Lexeme) (x : A) → W y ts x → r (ts ++> ends 0) ≡ Err (other y) → ⊥) where
+    no_refusal : (rest : Stream) (f : Stop X) (y : X) → f ≡ refusal rest → f ≡ other y → ⊥
+    no_refusal (ends q) f y e h = let k : syntax q ≡ other y = sym e ∙ h in cc
+    no_refusal (breaks g) f y e h = let k : broken g ≡ other y = sym e ∙ h in cc
+    no_refusal (more t s) f y e h = let k : syntax t.start ≡ other y = sym e ∙ h in cc
+
+    none_within : (ts : List Lexeme) (t : Lexeme) (f : Stop X) (y : X) → f ≡ other y → ((after : Stream) → r (ts ++> more t after) ≡ Err f) → Begins (W y) (ts ++ t ∷ []) → ⊥
+    none_within ts t f y is refuses b =
+        let e : ((ts ++ t ∷ []) ++ b.0) ++> ends 0 ≡ ts ++> more t (b.0 ++> ends 0) = append_stream (ts ++ t ∷ []) b.0 (ends 0) ∙ append_stream ts (t ∷ []) (b.0 ++> ends 0) in
+        against y ((ts ++ t ∷ []) ++ b.0) b.1 b.2 (ap r e ∙ refuses (b.0 ++> ends 0) ∙ ap Err is)
+
+    met_for : (ts : List Lexeme) (f : Stop X) (rest s : Stream) (y : X) → s ≡ ts ++> rest → f ≡ other y → ((after : Stream) → head after ≡ head rest → r (ts ++> after) ≡ Err f) → Cause front calm p ts f rest → IsMet Some_of (W y) s
+    met_for ts f rest s y e h same (refused is k) = absurd (no_refusal rest f y is h)
+    met_for ts f rest s y e h same (over x t after is next v) = record {
+      text = ts;
+      token = t;
+      after = after;
+      is = e ∙ ap (λ m. ts ++> m) next;
+      begins = begins (ts ++ t ∷ []) i0 (v i0);
+      none = none_within ts t f y h (λ z. same (more t z) (sym (ap head next)));
+    }
+
+    met_at : (s : Stream) (f : Stop X) (y : X) → f ≡ other y → r s ≡ Err f → SteadyAt front calm r p s → IsMet Some_of (W y) s
+    met_at s f y e h (both ts x rest is go1 go2) = let good : r s ≡ Ok (x, rest) = ap r is ∙ go1 rest (inl refl) in cc
+    met_at s f y e h (stops ts g rest is same v cause) =
+        let bad : r s ≡ Err g = ap r is ∙ same rest refl in
+        let same_fault : g ≡ f = cc in
+        met_for ts g rest s y is (same_fault ∙ e) same cause
+
+    by_first : (s : Stream) (y : X) → SteadyAt front calm r p s → (o : Read X A) → o ≡ r s → (o >>= λ x. then_reads at_end (λ e. gives x.0) x.1) ≡ Err (other y) → IsMet Some_of (W y) s
+    unfolding at_end
+    by_first s y law (Err g) e h = let same : g ≡ other y = cc in met_at s g y same (sym e) law
+    by_first s y law (Ok (x, ends q)) e h = cc
+    by_first s y law (Ok (x, breaks g)) e h = cc
+    by_first s y law (Ok (x, more t after)) e h = cc
+
+    pub limit_met : (s : Stream) (y : X) → SteadyAt front calm r p s → all_of r s ≡ Err (other y) → IsMet Some_of (W y) s
+    limit_met s y law h = by_first s y law (r s) refl h
+
+-- THE SAME LANGUAGE
+module _ {A : Type 0} (L M : List Lexeme → A → Type 0) (to : (ts : List Lexeme) (x : A) → L ts x → M ts x) (from : (ts : List Lexeme) (x : A) → M ts x → L ts x) where
+  stuck_as : {X : Type 0} (ts : List Lexeme) (f : Stop X) (rest : Stream) → IsStuck L ts f rest → IsStuck M ts f rest
+  stuck_as ts (broken f) rest h = h
+  stuck_as ts (syntax place) (ends end) h = (h.0, λ x l. h.1 x (from ts x l))
+  stuck_as ts (syntax place) (breaks f) h = h
+  stuck_as ts (syntax place) (more t after) h = (h.0, λ b. h.1 (b.0, b.1, from ((ts ++ t ∷ []) ++ b.0) b.1 b.2))
+  stuck_as ts (other x) rest h = (h.0, h.1, h.2, (h.3.0, h.3.1, to ((ts ++ h.0 ∷ []) ++ h.3.0) h.3.1 h.3.2))
+
+  pub first_as : {X : Type 0} (s : Stream) (f : Stop X) → IsFirst L s f → IsFirst M s f
+  first_as s f h = record { text = h.text; rest = h.rest; is = h.is; begins = (h.begins.0, h.begins.1, to (h.text ++ h.begins.0) h.begins.1 h.begins.2); stuck = stuck_as h.text f h.rest h.stuck }
+
+  pub met_as : (W : List Lexeme → A → Type 0) (s : Stream) → IsMet L W s → IsMet M W s
+  met_as W s h = record { text = h.text; token = h.token; after = h.after; is = h.is; begins = (h.begins.0, h.begins.1, to ((h.text ++ h.token ∷ []) ++ h.begins.0) h.begins.1 h.begins.2); none = h.none }
+
+-- what stands behind the first tokens of a whole text
+pub further_tokens : (a b : List Lexeme) (q : ℕ) (s : Stream) → a ++> ends q ≡ b ++> s → (c : List Lexeme) × (a ≡ b ++ c) × (s ≡ c ++> ends q)
+further_tokens a [] q s h = (a, refl, sym h)
+further_tokens [] (u ∷ b) q s h = cc
+further_tokens (t ∷ a) (u ∷ b) q s h =
+    let m = more_parts t u (a ++> ends q) (b ++> s) h in
+    let k = further_tokens a b q s m.1 in
+    (k.0, ap (λ w. w ∷ a) m.0 ∙ ap (λ w. u ∷ w) k.1, k.2)
+
+-- a text that is spelled has no fault of the language
+module _ {X A : Type 0} (L : List Lexeme → A → Type 0) (x : A) (q : ℕ) where
+  unstuck : (text c : List Lexeme) → L (text ++ c) x → (f : Stop X) (rest : Stream) → rest ≡ c ++> ends q → IsStuck L text f rest → (y : X) × (f ≡ other y)
+  unstuck text c l (other y) rest e h = (y, refl)
+  unstuck text [] l (broken g) rest e h = let k : ends q ≡ breaks g = sym e ∙ h in cc
+  unstuck text (t ∷ c) l (broken g) rest e h = let k : more t (c ++> ends q) ≡ breaks g = sym e ∙ h in cc
+  unstuck text [] l (syntax place) (ends p) e h = absurd (h.1 x (subst (λ (z : List Lexeme). L z x) (append-nil text) l))
+  unstuck text (t ∷ c) l (syntax place) (ends p) e h = cc
+  unstuck text c l (syntax place) (breaks g) e h = absurd h
+  unstuck text [] l (syntax place) (more u after) e h = cc
+  unstuck text (t ∷ c) l (syntax place) (more u after) e h =
+      let m = more_parts u t after (c ++> ends q) e in
+      absurd (h.1 (c, x, subst (λ (z : List Lexeme). L z x) (ap (λ w. text ++ w ∷ c) (sym m.0) ∙ sym (append_assoc text (u ∷ []) c)) l))
+
+  pub spelled_unstuck : (ts : List Lexeme) → L ts x → (f : Stop X) → IsFirst L (ts ++> ends q) f → (y : X) × (f ≡ other y)
+  spelled_unstuck ts l f first =
+      let k = further_tokens ts first.text q first.rest first.is in
+      unstuck first.text k.0 (subst (λ (z : List Lexeme). L z x) k.1 l) f first.rest k.2 first.stuck

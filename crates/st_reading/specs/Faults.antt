@@ -1,5 +1,5 @@
 -- Faults of the code, as readers on streams name them.
-use Rattle.std.specs.Prelude.{◌≡◌, ℕ, List, Option, Some, None}
+use Rattle.std.specs.Prelude.{◌≡◌, ℕ, Option, Some, None}
 use Rattle.st_tokens.specs.declared.limit.LimitKind.{LimitKind}
 use Rattle.st_tokens.specs.Stream.{Stream}
 use Rattle.st_reading.specs.declared.fault.ParseFault.{ParseFault}

@@ -1,5 +1,5 @@
 -- Reading from a stream of tokens, from left to right, up to the first fault that is met.
-use Rattle.std.specs.Prelude.{◌≡◌, ℕ, zero, suc, Bool, true, false, cond, List, [], ◌∷◌, ◌++◌, Option, Some, None, Result, Ok, Err, ◌⊎◌}
+use Rattle.std.specs.Prelude.{◌≡◌, ℕ, zero, suc, Bool, true, false, cond, List, [], ◌∷◌, ◌++◌, Option, Some, None, Result, Ok, Err}
 use Rattle.st_tokens.specs.declared.kind.TokenFault.{TokenFault}
 use Rattle.st_tokens.specs.declared.kind.TokenFault.TheVariants.{BadByte, LongNumber}
 use Rattle.st_tokens.specs.Stream.{Lexeme, Stream, ends, breaks, more, behind}

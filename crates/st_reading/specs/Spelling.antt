@@ -1,5 +1,5 @@
 -- Which tokens stand for which values: what a reader is compared with.
-use Rattle.std.specs.Prelude.{◌≡◌, ℕ, Bool, true, List, [], ◌∷◌, ◌++◌, Option, Some, Ok}
+use Rattle.std.specs.Prelude.{◌≡◌, ℕ, true, List, [], ◌∷◌, ◌++◌, Option, Some, Ok}
 use Rattle.st_tokens.specs.Stream.{◌++>◌, Lexeme, Stream}
 use Rattle.st_reading.specs.declared.sign.Sign.{Sign}
 use Rattle.st_reading.specs.declared.mark.Mark.{Mark}

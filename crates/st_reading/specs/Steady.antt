@@ -1,10 +1,10 @@
 -- What a reader does depends on the tokens that it takes and on the next one alone, and what it took can be completed.
-use Rattle.std.specs.Prelude.{◌≡◌, ℕ, Bool, true, false, List, [], ◌∷◌, ◌++◌, Result, Ok, Err, ◌⊎◌}
+use Rattle.std.specs.Prelude.{◌≡◌, ℕ, Bool, true, List, [], ◌∷◌, ◌++◌, Ok, Err, ◌⊎◌}
 use Rattle.st_tokens.specs.declared.kind.TokenFault.{TokenFault}
-use Rattle.st_tokens.specs.Stream.{◌++>◌, Lexeme, Stream, ends, breaks, more, behind}
+use Rattle.st_tokens.specs.Stream.{◌++>◌, Lexeme, Stream, ends, breaks, more}
 use Rattle.st_reading.specs.declared.sign.Sign.{Sign}
 use Rattle.st_reading.specs.declared.sign.Sign.TheVariants as signs
-use Rattle.st_reading.specs.Reading.{Stop, syntax, broken, other, Read, ahead, refusal}
+use Rattle.st_reading.specs.Reading.{Stop, other, Read, ahead, refusal}
 
 pub data Head : Type 0 where
   end : ℕ → Head

@@ -1,5 +1,5 @@
 -- What a reader of a language promises: L says which tokens stand for which values.
-use Rattle.std.specs.Prelude.{◌≡◌, ℕ, List, [], ◌∷◌, ◌++◌}
+use Rattle.std.specs.Prelude.{◌≡◌, List, [], ◌∷◌, ◌++◌}
 use Rattle.st_tokens.specs.Stream.{◌++>◌, Lexeme, Stream, ends, breaks, more}
 use Rattle.st_reading.specs.Reading.{Stop, syntax, broken, other}
 
@@ -23,3 +23,12 @@ pub record IsFirst {X A : Type 0} (L : List Lexeme → A → Type 0) (s : Stream
   pub is : s ≡ text ++> rest
   pub begins : Begins L text
   pub stuck : IsStuck L text f rest
+
+-- A limit is met at a token of s: texts of the language go on over it, but none of those within the limits.
+pub record IsMet {A : Type 0} (L Within : List Lexeme → A → Type 0) (s : Stream) : Type 0 where
+  pub text : List Lexeme
+  pub token : Lexeme
+  pub after : Stream
+  pub is : s ≡ text ++> more token after
+  pub begins : Begins L (text ++ token ∷ [])
+  pub none : Begins Within (text ++ token ∷ []) → ⊥

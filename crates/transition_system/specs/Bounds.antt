@@ -59,3 +59,12 @@ pub record IsSystem (system : System) : Type 0 where
   pub few_variables : length system.truths ≤ 64
   pub initial : FormulaWithin system.truths system.locations (2 ^ 32) system.initial
   pub modes : All (λ t. All (ModeWithin system.truths system.locations) t.modes) system.transitions
+
+-- a formula and a change over the same at most 64 variables, each used by its type, and the same locations: no number of
+-- the formula reaches 2^33, and none that the change puts in the place of a variable passes 2^30
+pub record Suits (f : Formula) (x : Exchange) : Type 0 where
+  pub truths : List Bool
+  pub locations : ℕ
+  pub few : length truths ≤ 64
+  pub formula : FormulaWithin truths locations (2 ^ 33) f
+  pub change : ExchangeWithin truths locations x

@@ -1,4 +1,5 @@
--- What modes, steps and runs of a transition system are.
+-- What modes, steps and runs of a transition system are (Manna and Pnueli, *Temporal Verification of Reactive Systems:
+-- Safety*, section 0.1; a run is a finite beginning of theirs).
 --
 -- A state is a situation: the value of each variable, and at which locations control is.
 use Rattle.std.specs.Prelude.{◌≡◌, ◌≢◌, ℕ, Bool, ◌&&◌, IsTrue, All, List, [], ◌∷◌, ◌++◌, map, slice_get, Some}

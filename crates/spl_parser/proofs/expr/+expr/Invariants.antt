@@ -1,7 +1,7 @@
-use Rattle.std.proofs.Common.{◌≡◌, ℕ, ◌+◌, ◌*◌, ◌++◌, ◌≤◌, Ok, true}
+use Rattle.std.proofs.Common.{◌+◌, ◌*◌}
 use Rattle.st_tokens.specs.Stream.{stream}
 use Rattle.st_reading.specs.declared.mark.Mark.TheVariants as marks
-use Rattle.st_reading.specs.Reading.{◌>>=◌, size, gives, only, listing}
+use Rattle.st_reading.specs.Reading.{size, gives, only, listing}
 use Rattle.st_reading.proofs.Chains.{Running}
 use Rattle.spl_parser.specs.Signs.{product_sign, sum_sign}
 use Rattle.spl_parser.specs.ExpressionTree.{expr_view, views, exprs, node, all, any}

@@ -1,4 +1,3 @@
-use Rattle.std.proofs.Common.{map}
 use Rattle.st_tokens.specs.Stream.{stream}
 use Rattle.st_reading.specs.declared.mark.Mark.TheVariants as marks
 use Rattle.st_reading.specs.Reading.{size, gives, only, listing, further}

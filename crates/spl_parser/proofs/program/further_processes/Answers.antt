@@ -1,4 +1,4 @@
-use Rattle.std.proofs.Common.{◌≡◌, ℕ, ◌+◌, ◌++◌, ◌∷◌, [], length, Ok, ◌∙◌, sym, ap, arith, length-append}
+use Rattle.std.proofs.Common.{◌≡◌, ◌+◌, ◌∷◌, [], length, Ok, ◌∙◌, ap, arith, length-append}
 use Rattle.std.proofs.lemmas.Result.{err_from_is_err_and}
 use Rattle.std.proofs.lemmas.List.{map_push}
 use Rattle.st_tokens.specs.Stream.{stream}
@@ -6,7 +6,7 @@ use Rattle.st_reading.specs.declared.mark.Mark.TheVariants as marks
 use Rattle.st_reading.specs.Sign.{is}
 use Rattle.st_reading.proofs.Loops.{linked_next, linked_ends, linked_fails}
 use Rattle.spl_parser.specs.ProgramTree.{process_view, process_views}
-use Rattle.spl_parser.specs.Programs.{totals, process_of, usual}
+use Rattle.spl_parser.specs.Programs.{totals}
 use Rattle.spl_parser.proofs.program.further_processes.Goals as goal
 
 pub returns-in_err-next-clause-reads : goal.returns-in_err-next-clause-reads

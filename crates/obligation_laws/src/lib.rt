@@ -1,0 +1,4 @@
+//! What valid conditions prove of a program.
+#![tactic(auto)]
+
+pub mod laws;

@@ -1,0 +1,5 @@
+use Rattle.rule_laws.proofs.DrawnSound.{chain-sound}
+use Rattle.rule_laws.proofs.laws.chain_diagram_is_sound.Goals as goal
+
+pub returns : goal.returns
+returns c step system lemmas p q e d fit o run cited all = chain-sound step system lemmas o run cited d fit p q e all

@@ -1,0 +1,5 @@
+use Rattle.rule_laws.proofs.NestedSound.{nested-sound}
+use Rattle.rule_laws.proofs.laws.nested_net_is_sound.Goals as goal
+
+pub returns : goal.returns
+returns c step system lemmas p q e nodes fit o run cited all = nested-sound step system lemmas o run cited nodes fit p q e all

@@ -1,0 +1,8 @@
+pub mod Invariance
+pub mod WaitingFor
+pub mod Names
+pub mod RankedNet
+pub mod NestedNet
+pub mod Diagrams
+pub mod Fitting
+pub mod Laws

@@ -1,0 +1,15 @@
+pub mod Walking
+pub mod Shapes
+pub mod Describing
+pub mod Finding
+pub mod Standing
+pub mod Returning
+pub mod Pointing
+pub mod Refuting
+pub mod Literals
+pub mod Choosing
+pub mod Leading
+pub mod Reducing
+pub mod Steadying
+pub mod Ordering
+pub mod Counting

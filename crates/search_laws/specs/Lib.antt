@@ -1,0 +1,9 @@
+pub mod States
+pub mod Walks
+pub mod Moves
+pub mod Sizes
+pub mod Forms
+pub mod Laws
+pub mod Ends
+pub mod Steady
+pub mod Programs

@@ -1,0 +1,5 @@
+use Rattle.spl_parser.proofs.ProgramTheorems as proved
+use Rattle.spl_parser.proofs.laws.what_is_read_is_spelled.Goals as goal
+
+pub returns : goal.returns
+returns c = proved.what_is_read_is_spelled

@@ -1,0 +1,5 @@
+use Rattle.spl_semantics.proofs.EnabledNames.{enabled_step, step_enabled}
+use Rattle.spl_semantics.proofs.laws.enabled_where_a_step_is.Goals as goal
+
+pub returns : goal.returns
+returns c p s name = (enabled_step p s name, λ d. step_enabled p s name d.0 d.1)

@@ -1,0 +1,28 @@
+use Rattle.std.proofs.Common.{◌≡◌, ℕ, suc, List, [], ◌∷◌, ◌++◌, length, Option, Some, None, refl, ap, ◌∙◌, subst}
+use Rattle.std.specs.Prelude.{IsSome}
+use Rattle.st_program.specs.Tree.{Pieces, action, group}
+use Rattle.st_program.specs.Member.{Member, here, there}
+use Rattle.st_program.specs.Plain.{plain_children}
+use Rattle.st_program.specs.Spots.{Spot, all_spots}
+use Rattle.st_program.specs.Programs.{View}
+use Rattle.st_program.specs.Types.{ActionFits}
+use Rattle.st_program.specs.Groups.{Link, paths_along, Composed, nothing_composed, composed}
+use Rattle.spl_translation.specs.Translation.{path_mode, path_modes}
+use Rattle.spl_translation.proofs.laws.groups_have_all_paths.Goals as goal
+
+all_there : (l next : ℕ) (ps : List (List Link)) → ((path : List Link) → Member path ps → IsSome (composed path nothing_composed)) → length (path_modes l ps next) ≡ length ps
+all_there l next [] h = refl
+all_there l next (p ∷ ps) h = by_path (composed p nothing_composed) (h p (here refl)) (all_there l next ps (λ q m. h q (there m)))
+  where
+    by_path : (o : Option Composed) → IsSome o → length (path_modes l ps next) ≡ length ps → length (path_mode l o next ++ path_modes l ps next) ≡ suc (length ps)
+    by_path None s e = cc
+    by_path (Some c) s e = ap suc e
+
+abbrev Law : View → Type 0
+Law v =
+    (x : Spot) (pieces : Pieces) (l next : ℕ) → Member x (all_spots (plain_children v.processes)) → action x.stmt ≡ group pieces
+    → length (path_modes l (paths_along pieces) next) ≡ length (paths_along pieces)
+
+pub returns : goal.returns
+returns c =
+    subst Law c.program.view_is (λ x pieces l next m e. all_there l next (paths_along pieces) (subst (ActionFits c.program.inside.variables.items) e (c.program.invariant.typed x m)).1.small)

@@ -1,0 +1,7 @@
+use Rattle.std.proofs.Common.{◌≡◌, ◌++◌, drop}
+use Rattle.st_program.specs.Plain.{plain_children}
+use Rattle.spl_semantics.specs.Moves.{ends}
+use Rattle.spl_translation.proofs.owning.ends_of.Given as goal
+
+abbrev pub invariant-loop-child : goal.invariant-loop-child
+invariant-loop-child l = l.out.items ++ ends (plain_children (drop l.child-index l.children)) ≡ ends (plain_children l.children)

@@ -1,0 +1,147 @@
+-- The walk over an expression tells the first broken rule.
+use Rattle.std.proofs.Common.{◌≡◌, ℕ, ◌≤◌, ◌^◌, Bool, true, false, cond, List, [], ◌∷◌, ◌++◌, refl, ap, sym, ◌∙◌, arith, ℤ, pos, negsuc, Option, Some, None, Result, Ok, Err, append-nil}
+use Rattle.std.proofs.lemmas.Bool.Decides.{nat_tests}
+use Rattle.std.specs.Option.{option_map}
+use Rattle.st_linear.specs.Linear.{Linear, sum_of, scaled, variable}
+use Rattle.st_linear.specs.Linear as linear
+use Rattle.st_form.specs.Formula.{Formula, Formulas, truth_value, row, equal, bool_var, negation, every, some, none, more}
+use Rattle.st_program.specs.Tree.{Term, number, truth}
+use Rattle.spl_parser.specs.declared.raw.Operator.{Operator}
+use Rattle.spl_parser.specs.declared.raw.Operator.TheVariants as operators
+use Rattle.st_reading.specs.Reading.{Label}
+use Rattle.spl_parser.specs.ExpressionTree.{Expr, Kind, Exprs, start_of}
+use Rattle.spl_parser.specs.ExpressionTree as raw
+use Rattle.spl_typer.specs.declared.fault.TypeFault.{TypeFault}
+use Rattle.spl_typer.specs.declared.fault.TypeFault.TheVariants as faults
+use Rattle.spl_typer.specs.Answers.{◌>>=◌}
+use Rattle.spl_typer.specs.Scope.{Known, find}
+use Rattle.st_program.specs.Groups.{is_written_number, is_written}
+use Rattle.spl_typer.specs.Written.{is_writable, is_constant, limited, fitted}
+use Rattle.spl_typer.specs.Typing.{typed, typed_kind, all_typed, as_number, as_truth, combine, implied, is_implication, named, named_by, variable_term}
+use Rattle.spl_typer.specs.Rules.{number_in, truth_in, both, not_number, not_truth, unknown, too_large, not_linear, operator_faults, form_of, if_written, combined, meaning, kind_meaning, meanings, faults_in, kind_faults, all_faults}
+use Rattle.spl_typer.specs.Told.{Told, IsWritten, IsModest, IsModestKind, AreModest}
+use Rattle.spl_typer.proofs.Sizes.{Bounded, fitted_is, difference_is, lowered_is}
+
+abbrev Any : {A : Type 0} → A → Type 0
+Any x = Unit {0}
+
+then_truth : {B : Type 0} (Q : B → Type 0) (r : Result Term TypeFault) (fs gs : List TypeFault) (m : Option Term) (p : ℕ) (k : Formula → Result B TypeFault) (n : Formula → Option B)
+    → Told IsWritten r fs m → ((f : Formula) → truth_in m ≡ Some f → Told Q (k f) gs (n f))
+    → Told Q (r >>= λ x. as_truth p x >>= k) (fs ++ (not_truth p m ++ gs)) (both (truth_in m) n)
+then_truth Q (Ok (number f)) fs gs m p k n h go = rw (h.0, h.1) ((gs, refl), refl)
+then_truth Q (Ok (truth f)) fs gs m p k n h go = rw (h.0, h.1) (go f (ap truth_in h.1))
+then_truth Q (Err f) fs gs m p k n h go = ((h.0.0 ++ (not_truth p m ++ gs), ap (λ l. l ++ (not_truth p m ++ gs)) h.0.1), ap (λ o. both (truth_in o) n) h.1)
+
+then_number : {B : Type 0} (Q : B → Type 0) (r : Result Term TypeFault) (fs gs : List TypeFault) (m : Option Term) (p : ℕ) (k : Linear → Result B TypeFault) (n : Linear → Option B)
+    → Told IsWritten r fs m → ((f : Linear) → number_in m ≡ Some f → is_writable f ≡ true → Told Q (k f) gs (n f))
+    → Told Q (r >>= λ x. as_number p x >>= k) (fs ++ (not_number p m ++ gs)) (both (number_in m) n)
+then_number Q (Ok (truth f)) fs gs m p k n h go = rw (h.0, h.1) ((gs, refl), refl)
+then_number Q (Ok (number f)) fs gs m p k n h go = rw (h.0, h.1) (go f (ap number_in h.1) h.2)
+then_number Q (Err f) fs gs m p k n h go = ((h.0.0 ++ (not_number p m ++ gs), ap (λ l. l ++ (not_number p m ++ gs)) h.0.1), ap (λ o. both (number_in o) n) h.1)
+
+told_all : (wrap : Formulas → Formula) (r : Result Formulas TypeFault) (fs : List TypeFault) (m : Option Formulas) → Told (Any {A = Formulas}) r fs m → Told IsWritten (r >>= λ gs. Ok (truth (wrap gs))) fs (both m (λ gs. Some (truth (wrap gs))))
+told_all wrap (Ok gs) fs m h = rw h.1 (h.0, refl, tt)
+told_all wrap (Err f) fs m h = (h.0, ap (λ o. both o (λ gs. Some (truth (wrap gs)))) h.1)
+
+told_more : (f : Formula) (r : Result Formulas TypeFault) (fs : List TypeFault) (m : Option Formulas) → Told (Any {A = Formulas}) r fs m → Told (Any {A = Formulas}) (r >>= λ gs. Ok (more f gs)) fs (both m (λ gs. Some (more f gs)))
+told_more f (Ok gs) fs m h = rw h.1 (h.0, refl, tt)
+told_more f (Err e) fs m h = (h.0, ap (λ o. both o (λ gs. Some (more f gs))) h.1)
+
+limited_by : (at : ℕ) (f : Linear) (b : Bool) → is_writable f ≡ b → Told IsWritten ((cond b (Ok f) (Err (faults.TooLarge at))) >>= λ h. Ok (number h)) (cond b [] (faults.TooLarge at ∷ [])) (cond b (Some (number f)) None)
+limited_by at f true e = (refl, refl, e)
+limited_by at f false e = (([], refl), refl)
+
+told_limited : (at : ℕ) (f : Linear) → Told IsWritten (limited at f >>= λ h. Ok (number h)) (too_large at (Some f)) (if_written (Some f))
+told_limited at f = limited_by at f (is_writable f) refl
+
+told_product : (at : ℕ) (f g : Linear) → Told IsWritten (combine operators.Times at f g) (not_linear at (form_of operators.Times f g)) (if_written (form_of operators.Times f g))
+told_product at f g = go (is_constant f.entries) (is_constant g.entries)
+  where
+    go : (b c : Bool) → Told IsWritten ((cond b (limited at (scaled f.constant g)) (cond c (limited at (scaled g.constant f)) (Err (faults.NonLinear at)))) >>= λ h. Ok (number h)) (not_linear at (cond b (Some (scaled f.constant g)) (cond c (Some (scaled g.constant f)) None))) (if_written (cond b (Some (scaled f.constant g)) (cond c (Some (scaled g.constant f)) None)))
+    go true c = told_limited at (scaled f.constant g)
+    go false true = told_limited at (scaled g.constant f)
+    go false false = (([], refl), refl)
+
+told_combine : (o : Operator) (at : ℕ) (f g : Linear) → is_implication o ≡ false → is_writable f ≡ true → is_writable g ≡ true → Told IsWritten (combine o at f g) (operator_faults o at (Some f) (Some g)) (combined o f g)
+told_combine operators.Implies at f g e h k = absurd (cc)
+told_combine operators.Equal at f g e h k = rw (difference_is at f g h k) (refl, refl, tt)
+told_combine operators.Unequal at f g e h k = rw (difference_is at f g h k) (refl, refl, tt)
+told_combine operators.Less at f g e h k = rw (lowered_is at g f k h) (refl, refl, tt)
+told_combine operators.AtMost at f g e h k = rw (difference_is at g f k h) (refl, refl, tt)
+told_combine operators.Greater at f g e h k = rw (lowered_is at f g h k) (refl, refl, tt)
+told_combine operators.AtLeast at f g e h k = rw (difference_is at f g h k) (refl, refl, tt)
+told_combine operators.Plus at f g e h k = told_limited at _
+told_combine operators.Minus at f g e h k = told_limited at _
+told_combine operators.Times at f g e h k = told_product at f g
+
+numeral_bound : (n : ℕ) → n ≤ 2 ^ 30 → Bounded (2 ^ 30) (linear.number (pos n))
+numeral_bound n h = record { constant = h; entries = tt }
+
+numeral_by : (f : Linear) (b : Bool) → is_writable f ≡ b → b ≡ true → Told IsWritten ((cond b (Ok f) (Err (faults.TooLarge 0))) >>= λ h. Ok (number h)) [] (Some (number f))
+numeral_by f true e h = (refl, refl, e)
+numeral_by f false e h = absurd (cc)
+
+numeral_written : (n : ℕ) → n ≤ 2 ^ 30 → is_writable (linear.number (pos n)) ≡ true
+unfolding is_writable is_written_number
+numeral_written n h = grind (arith, nat_tests)
+
+variable_written : (v : ℕ) → is_writable (variable v) ≡ true
+unfolding is_writable is_written_number
+variable_written v = refl
+
+told_variable : (k : Known) (b : Bool) → IsWritten (cond b (truth (bool_var k.var)) (number (variable k.var)))
+told_variable k true = tt
+told_variable k false = variable_written k.var
+
+told_name : (place : ℕ) (o : Option Known) → Told IsWritten (named_by place o) (unknown place o) (option_map variable_term o)
+told_name place None = (([], refl), refl)
+told_name place (Some k) = (refl, refl, told_variable k k.truth)
+
+told_pair : (s : List Known) (o : Operator) (at : ℕ) (l r : Expr) (b : Bool) → is_implication o ≡ b
+    → Told IsWritten (typed s l) (faults_in s l) (meaning s l) → Told IsWritten (typed s r) (faults_in s r) (meaning s r)
+    → Told IsWritten
+    (cond b (typed s l >>= λ x. as_truth (start_of l) x >>= λ f. typed s r >>= λ y. as_truth (start_of r) y >>= λ g. Ok (truth (implied f g)))
+    (typed s l >>= λ x. as_number (start_of l) x >>= λ f. typed s r >>= λ y. as_number (start_of r) y >>= λ g. combine o at f g))
+    (cond b (faults_in s l ++ (not_truth (start_of l) (meaning s l) ++ (faults_in s r ++ not_truth (start_of r) (meaning s r))))
+    (faults_in s l ++ (not_number (start_of l) (meaning s l) ++ (faults_in s r ++ (not_number (start_of r) (meaning s r)
+    ++ operator_faults o at (number_in (meaning s l)) (number_in (meaning s r)))))))
+    (cond b (both (truth_in (meaning s l)) (λ f. both (truth_in (meaning s r)) (λ g. Some (truth (implied f g)))))
+    (both (number_in (meaning s l)) (λ f. both (number_in (meaning s r)) (λ g. combined o f g))))
+told_pair s o at l r true e hl hr =
+    then_truth IsWritten (typed s l) (faults_in s l) (faults_in s r ++ not_truth (start_of r) (meaning s r)) (meaning s l) (start_of l)
+    (λ f. typed s r >>= λ y. as_truth (start_of r) y >>= λ g. Ok (truth (implied f g))) (λ f. both (truth_in (meaning s r)) (λ g. Some (truth (implied f g)))) hl
+    (λ f i. let q = then_truth IsWritten (typed s r) (faults_in s r) [] (meaning s r) (start_of r) (λ g. Ok (truth (implied f g))) (λ g. Some (truth (implied f g))) hr (λ g j. (refl, refl, tt)) in
+    rw (append-nil (not_truth (start_of r) (meaning s r))) at q)
+told_pair s o at l r false e hl hr =
+    then_number IsWritten (typed s l) (faults_in s l) _ (meaning s l) (start_of l)
+    (λ f. typed s r >>= λ y. as_number (start_of r) y >>= λ g. combine o at f g) (λ f. both (number_in (meaning s r)) (λ g. combined o f g)) hl
+    (λ f i w. then_number IsWritten (typed s r) (faults_in s r) (operator_faults o at (number_in (meaning s l)) (number_in (meaning s r))) (meaning s r) (start_of r)
+    (λ g. combine o at f g) (λ g. combined o f g) hr
+    (λ g j v. rw (i, j) (told_combine o at f g e w v)))
+
+mutual
+  pub told : (s : List Known) (e : Expr) → IsModest e → Told IsWritten (typed s e) (faults_in s e) (meaning s e)
+  told s (raw.node p k) h = told_kind s k h
+
+  pub told_kind : (s : List Known) (k : Kind) → IsModestKind k → Told IsWritten (typed_kind s k) (kind_faults s k) (kind_meaning s k)
+  told_kind s (raw.numeral n) h = numeral_by (linear.number (pos n)) (is_writable (linear.number (pos n))) refl (numeral_written n h)
+  told_kind s (raw.truth b) h = (refl, refl, tt)
+  told_kind s (raw.name n) h = told_name n.place (find n.text s)
+  told_kind s (raw.at n) h = (([], refl), refl)
+  told_kind s (raw.negation e) h =
+      let q = then_truth IsWritten (typed s e) (faults_in s e) [] (meaning s e) (start_of e) (λ f. Ok (truth (negation f))) (λ f. Some (truth (negation f))) (told s e h) (λ f i. (refl, refl, tt)) in
+      rw (append-nil (not_truth (start_of e) (meaning s e))) at q
+  told_kind s (raw.negative at e) h =
+      then_number IsWritten (typed s e) (faults_in s e) (too_large at (option_map (scaled (negsuc 0)) (number_in (meaning s e)))) (meaning s e) (start_of e)
+      (λ f. limited at (scaled (negsuc 0) f) >>= λ g. Ok (number g)) (λ f. if_written (Some (scaled (negsuc 0) f)))
+      (told s e h) (λ f i w. rw i (told_limited at (scaled (negsuc 0) f)))
+  told_kind s (raw.all es) h = told_all every (all_typed s es) (all_faults s es) (meanings s es) (tolds s es h)
+  told_kind s (raw.any es) h = told_all some (all_typed s es) (all_faults s es) (meanings s es) (tolds s es h)
+  told_kind s (raw.pair o at l r) h = told_pair s o at l r (is_implication o) refl (told s l h.0) (told s r h.1)
+
+  pub tolds : (s : List Known) (es : Exprs) → AreModest es → Told (Any {A = Formulas}) (all_typed s es) (all_faults s es) (meanings s es)
+  tolds s raw.none h = (refl, refl, tt)
+  tolds s (raw.one_more e es) h =
+      then_truth (Any {A = Formulas}) (typed s e) (faults_in s e) (all_faults s es) (meaning s e) (start_of e)
+      (λ f. all_typed s es >>= λ fs. Ok (more f fs)) (λ f. both (meanings s es) (λ fs. Some (more f fs)))
+      (told s e h.0) (λ f i. told_more f (all_typed s es) (all_faults s es) (meanings s es) (tolds s es h.1))

@@ -1,0 +1,17 @@
+pub mod Answers
+pub mod Scope
+pub mod Written
+pub mod Typing
+pub mod Row
+pub mod Walk
+pub mod Statements
+pub mod Groups
+pub mod GroupViews
+pub mod Walking
+pub mod Programs
+pub mod Rules
+pub mod StatementRules
+pub mod Told
+pub mod Modest
+pub mod ProgramRules
+pub mod Placed

@@ -1,0 +1,33 @@
+//! Laws on the typing rules, which make no call.
+//!
+//! The rules are given twice: as the walk over the text with the first fault that it meets, and as the list of all
+//! faults, each rule adding the places at which it is broken, with the meaning of what breaks none. The laws tie both.
+
+ghost use Rattle.std.specs.Prelude.{List, ◌≡◌, ℕ, Err, ⊤};
+ghost use Rattle.spl_parser.specs.ExpressionTree.{Expr};
+ghost use Rattle.spl_parser.specs.ProgramTree.{Program};
+ghost use Rattle.spl_typer.specs.declared.fault.TypeFault.{TypeFault};
+ghost use Rattle.spl_typer.specs.Scope.{Known};
+ghost use Rattle.spl_typer.specs.Typing.{typed};
+ghost use Rattle.spl_typer.specs.Rules.{faults_in, meaning};
+ghost use Rattle.spl_typer.specs.Told.{Told, Tells, IsWritten, IsModest};
+ghost use Rattle.spl_typer.specs.Placed.{IsPlaced, IsLeast};
+ghost use Rattle.spl_typer.specs.Programs.{typing};
+ghost use Rattle.spl_typer.specs.ProgramRules.{program_faults, ProgramModest};
+
+/// The walk over an expression gives its meaning exactly where no rule is broken in it, and else the first of the faults.
+/// Numerals are those that texts have.
+pub fn first_is_told()
+    ensures { (s : List Known) (e : Expr) → IsModest e → Told IsWritten (typed s e) (faults_in s e) (meaning s e) }
+{}
+
+/// In an expression whose tokens have rising places the walk answers the lowest rule that is broken at the first place.
+pub fn least_is_told()
+    ensures { (s : List Known) (e : Expr) (from to : ℕ) → IsModest e → IsPlaced e from to
+        → (f : TypeFault) → typed s e ≡ Err f → IsLeast f (faults_in s e) }
+{}
+
+/// The walk over a program gives a program exactly where no rule is broken in it, and else the first of the faults.
+pub fn program_is_told()
+    ensures { (p : Program) → ProgramModest p → Tells (λ t. ⊤) (typing p) (program_faults p) }
+{}

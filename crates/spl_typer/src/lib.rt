@@ -1,0 +1,22 @@
+//! The typing rules of programs, and the translation of typed text to forms.
+#![tactic(auto)]
+
+mod composing;
+mod expr;
+mod fault;
+mod inner;
+pub mod laws;
+mod linear;
+mod names;
+mod parts;
+mod paths;
+mod program;
+mod scope;
+mod statement;
+mod walk;
+
+pub use fault::TypeFault;
+pub use program::type_program;
+
+#[cfg(test)]
+mod tests;

@@ -1,0 +1,6 @@
+pub mod Atoms
+pub mod Building
+pub mod Validity
+pub mod Walks
+pub mod Refusing
+pub mod Plain

@@ -1,0 +1,17 @@
+pub mod Signs
+pub mod Numerals
+pub mod Names
+pub mod Standing
+pub mod Laying
+pub mod Rows
+pub mod Expressions
+pub mod Statements
+pub mod Programs
+pub mod Modesty
+pub mod Ordering
+pub mod ExpressionFaults
+pub mod GroupFaults
+pub mod Counting
+pub mod StatementFaults
+pub mod ProgramFaults
+pub mod Texts

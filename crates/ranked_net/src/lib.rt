@@ -11,5 +11,6 @@ mod making;
 mod rule;
 
 pub use faults::NetFault;
+pub use listing::plainly;
 pub use making::make_net;
 pub use rule::Ranked;

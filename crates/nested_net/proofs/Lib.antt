@@ -1,0 +1,5 @@
+pub mod Faultless
+pub mod Depths
+pub mod Reading
+pub mod Choices
+pub mod Walked

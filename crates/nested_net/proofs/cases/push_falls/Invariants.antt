@@ -1,0 +1,10 @@
+use Rattle.std.proofs.Common.{◌≡◌, ◌++◌, map, drop}
+use Rattle.temporal_goals.specs.Plain.{plain_level, plain_nested_node}
+use Rattle.vc_generator.specs.Plain.{plain_case}
+use Rattle.rule_laws.specs.NestedNet.{agreeing, nested_fall}
+use Rattle.nested_net.proofs.cases.push_falls.Given as goal
+
+abbrev pub invariant-loop-next : goal.invariant-loop-next
+invariant-loop-next l =
+    map plain_case l.cases.items ++ map (nested_fall l.fn.depth (plain_nested_node l.fn.node)) (agreeing l.fn.depth (map plain_level l.fn.node.levels.items) (map plain_nested_node (drop l.next-index l.nodes)))
+    ≡ map plain_case l.fn.cases.items ++ map (nested_fall l.fn.depth (plain_nested_node l.fn.node)) (agreeing l.fn.depth (map plain_level l.fn.node.levels.items) (map plain_nested_node l.fn.nodes))

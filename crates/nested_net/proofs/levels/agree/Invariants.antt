@@ -1,0 +1,7 @@
+use Rattle.std.proofs.Common.{◌≡◌, ◌-◌, map, drop}
+use Rattle.temporal_goals.specs.Plain.{plain_level}
+use Rattle.rule_laws.specs.NestedNet.{agree}
+use Rattle.nested_net.proofs.levels.agree.Given as goal
+
+abbrev pub invariant-loop-index : goal.invariant-loop-index
+invariant-loop-index l = agree (l.fn.depth - l.index) (map plain_level (drop l.index l.fn.levels)) (map plain_level (drop l.index l.fn.other)) ≡ agree l.fn.depth (map plain_level l.fn.levels) (map plain_level l.fn.other)

@@ -1,0 +1,17 @@
+-- The law of the rule.
+use Rattle.std.specs.Prelude.{ℕ, List}
+use Rattle.st_form.specs.Formula.{Formula, Situation}
+use Rattle.observations.specs.Observation.{Observation}
+use Rattle.transition_system.specs.Systems.{System}
+use Rattle.transition_system.specs.Meaning.{IsRun}
+use Rattle.temporal_goals.specs.Texts.{PlainGoal, invariant, waiting, response, PlainNestedNode}
+use Rattle.temporal_goals.specs.Meaning.{GoalHolds}
+use Rattle.vc_generator.specs.Validity.{HoldThroughout, TrueThroughout}
+use Rattle.rule_laws.proofs.NestedSound.{nested-sound}
+use Rattle.nested_net.specs.Asked.{NestedFits, nested_asks}
+
+pub nested_sound : (goal : PlainGoal) (nodes : List PlainNestedNode) (lemmas : List Formula) (system : System) (step : ℕ) (o : Observation Situation)
+    → NestedFits goal nodes system → IsRun system o → HoldThroughout (nested_asks goal nodes lemmas system step) o → TrueThroughout lemmas o → GoalHolds goal o
+nested_sound (invariant p) nodes lemmas system step o fits run all cited = absurd fits
+nested_sound (waiting p forms) nodes lemmas system step o fits run all cited = absurd fits
+nested_sound (response p q e) nodes lemmas system step o fits run all cited = nested-sound step system lemmas o run cited nodes fits.3 p q e all

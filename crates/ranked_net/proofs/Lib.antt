@@ -1,0 +1,4 @@
+pub mod Faultless
+pub mod Choices
+pub mod Walked
+pub mod Found

@@ -1,0 +1,67 @@
+//! The rule.
+
+use crate::listing::push_all;
+use st_form::Form;
+use std::alloc::Global;
+use temporal_goals::{Goal, Net};
+use transition_system::Fts;
+use vc_generator::{Conditions, Rule, VcFault, take_back};
+
+/// A response by a ranked net, with the formulas of the steps that it cites.
+#[derive(Drop)]
+pub struct Ranked {
+    pub goal: Goal,
+    pub net: Net,
+    pub lemmas: Vec<Form>,
+}
+
+impl Rule for Ranked {
+    ghost use Rattle.std.specs.Prelude.{map};
+    ghost use Rattle.st_form.specs.Plain.{plain};
+    ghost use Rattle.temporal_goals.specs.Plain.{plain_goal, plain_net};
+    ghost use Rattle.ranked_net.specs.Asked.{RankedFits, ranked_asks};
+    ghost use Rattle.ranked_net.specs.Sound.{ranked_sound};
+
+    ghost aim = { λ r. plain_goal r.goal };
+
+    ghost cited = { λ r. map plain r.lemmas.items };
+
+    ghost fits = { λ r system. RankedFits (plain_goal r.goal) (plain_net r.net) system };
+
+    ghost asked = { λ r system step. ranked_asks (plain_goal r.goal) (plain_net r.net) (map plain r.lemmas.items) system step };
+
+    fn goal(&self) -> &Goal {
+        &self.goal
+    }
+
+    fn conditions(
+        &self,
+        alloc: Global,
+        fts: &Fts,
+        step: u32,
+        out: &mut Conditions,
+    ) -> Result<(), VcFault> {
+        let length = out.items.len();
+        let weight = out.weight;
+        let result = match &self.goal {
+            Goal::Response(begin, end, bound) => push_all(
+                alloc,
+                fts,
+                step,
+                &self.lemmas,
+                begin,
+                end,
+                bound,
+                &self.net.nodes,
+                out,
+            ),
+            Goal::Invariant(..) | Goal::Waiting(..) => Ok(()),
+        };
+        if result.is_err() {
+            take_back(out, length, weight);
+        }
+        result
+    }
+
+    ghost sound = { λ rule system step o. ranked_sound (plain_goal rule.goal) (plain_net rule.net) (map plain rule.lemmas.items) system step o };
+}

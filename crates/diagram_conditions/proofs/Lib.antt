@@ -1,0 +1,4 @@
+pub mod Pieces
+pub mod Along
+pub mod Levels
+pub mod Numbers

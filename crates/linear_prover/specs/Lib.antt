@@ -1,0 +1,5 @@
+pub mod Plain
+pub mod Divisions
+pub mod Ready
+pub mod Verdicts
+pub mod Loops

@@ -4,7 +4,7 @@
 mod checking;
 mod closing;
 pub mod decisions;
-pub mod division;
+mod division;
 pub mod leaves;
 pub mod problems;
 pub mod splits;

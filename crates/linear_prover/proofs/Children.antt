@@ -1,5 +1,5 @@
 -- Each problem of a division, by its number.
-use Rattle.std.proofs.Common.{◌≡◌, ℕ, zero, suc, ◌+◌, take, drop, ◌<◌, List, [], ◌∷◌, map, length, get_or, refl, ap, ◌∙◌, sym, Option, Some, None}
+use Rattle.std.proofs.Common.{◌≡◌, ℕ, ◌+◌, take, drop, ◌<◌, List, [], ◌∷◌, map, length, get_or, refl, ap, ◌∙◌, sym, Option, Some, None}
 use Rattle.std.specs.Prelude.{slice_get, slice_set}
 use Rattle.std.specs.Option.{option_map}
 use Rattle.std.proofs.lemmas.List.{length-map}
@@ -13,8 +13,8 @@ use Rattle.st_form.specs.Formula.{Formulas}
 use Rattle.st_form.specs.Simple.{append, opened}
 use Rattle.st_form.specs.Plain.{plain, plain_list}
 use Rattle.st_form.specs.declared.formulas.Form.{Form}
-use Rattle.farkas_check.specs.Limits.{IsSettled, AreSettled}
-use Rattle.farkas_check.proofs.Bounds.{settled-more}
+use Rattle.linear_prover.specs.declared.problems.Conjunct.{Conjunct}
+use Rattle.linear_prover.specs.Plain.{plain_each}
 use Rattle.farkas_check.specs.Problem.{Problem, posed, case_problems, with_conjuncts, split_problems, in_place}
 
 cases-mapped : (k : ControlFacts) (p : Problem) (fs : Formulas) (c : ℕ) (choices : List Alternative) → case_problems k p fs c choices ≡ map (λ a. posed k (slice_set p.cases c (Some a)) p.truths fs) choices
@@ -37,19 +37,10 @@ disjunct-there p before behind gs i g q h a e =
     ap (λ l. slice_get l i) (disjuncts-mapped p before behind gs) ∙ slice_get-map (λ g. with_conjuncts p (Some (append before (append (opened (plain g)) behind)))) gs i
     ∙ ap (option_map (λ g. with_conjuncts p (Some (append before (append (opened (plain g)) behind))))) (slice_get_read gs (length gs) i g refl h a) ∙ ap (λ x. Some x) (sym e)
 
-settled-drop : (gs : List Form) (i : ℕ) → AreSettled (plain_list gs) → AreSettled (plain_list (drop i gs))
-settled-drop gs zero h = h
-settled-drop [] (suc i) h = tt
-settled-drop (g ∷ gs) (suc i) h = settled-drop gs i h.1
-
--- a disjunct is settled where all are
-pub settled-there : (gs : List Form) (i : ℕ) (g : Form) → i < length gs → g ≡ get_or gs i g → AreSettled (plain_list gs) → IsSettled (plain g)
-settled-there gs i g h e s = (settled-more gs i g h e (settled-drop gs i s)).0
-
 -- a division has as many problems as its size says
-pub children-size : (k : ControlFacts) (p : Problem) (fs : List Form) (d : Division) → length (children k p fs d) ≡ size d
-children-size k p fs (Cases c choices) = ap length (cases-mapped k p (plain_list fs) c choices.now) ∙ length-map choices.now (λ a. posed k (slice_set p.cases c (Some a)) p.truths (plain_list fs))
+pub children-size : (k : ControlFacts) (p : Problem) (fs : List Conjunct) (d : Division) → length (children k p fs d) ≡ size d
+children-size k p fs (Cases c choices) = ap length (cases-mapped k p (plain_each fs) c choices.now) ∙ length-map choices.now (λ a. posed k (slice_set p.cases c (Some a)) p.truths (plain_each fs))
 children-size k p fs (Truths v) = refl
 children-size k p fs (Disjuncts place parts) =
-    ap length (disjuncts-mapped p (plain_list (take place fs)) (plain_list (drop (place + 1) fs)) parts.now)
-    ∙ length-map parts.now (λ g. with_conjuncts p (Some (append (plain_list (take place fs)) (append (opened (plain g)) (plain_list (drop (place + 1) fs))))))
+    ap length (disjuncts-mapped p (plain_each (take place fs)) (plain_each (drop (place + 1) fs)) parts.now)
+    ∙ length-map parts.now (λ g. with_conjuncts p (Some (append (plain_each (take place fs)) (append (opened (plain g)) (plain_each (drop (place + 1) fs))))))

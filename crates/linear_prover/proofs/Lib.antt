@@ -6,3 +6,4 @@ pub mod Standings
 pub mod Children
 pub mod Walking
 pub mod Rights
+pub mod Lending

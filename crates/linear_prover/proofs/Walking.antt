@@ -3,8 +3,8 @@ use Rattle.std.proofs.Common.{◌≡◌, ℕ, zero, suc, ◌+◌, ◌-◌, ◌<�
 use Rattle.std.specs.Prelude.{nat_lt, if◌then◌else◌}
 use Rattle.std.proofs.lemmas.Bool.Decides.{nat_tests}
 use Rattle.st_form.specs.Formula.{Formulas}
-use Rattle.st_form.specs.Plain.{plain_list}
-use Rattle.st_form.specs.declared.formulas.Form.{Form}
+use Rattle.linear_prover.specs.declared.problems.Conjunct.{Conjunct}
+use Rattle.linear_prover.specs.Plain.{plain_each}
 use Rattle.farkas_check.specs.Problem.{Setting, Problem, divided_into}
 use Rattle.row_elimination.specs.declared.top.WideStage.TheVariants as stage
 use Rattle.search_laws.specs.Walks.{Found, found, stopped, given_up, Move, divides, walk_node, walk}
@@ -39,8 +39,8 @@ moved k p fs m a e = e ∙ sym (ap (by_conjuncts k p) a)
 some-same : (fs gs : Formulas) → Some fs ≡ Some gs → fs ≡ gs
 some-same fs gs e = cc
 
-pub children-ready : (n : ℕ) (k : Setting) (p : Problem) (fs : List Form) (d : Division) → p.conjuncts ≡ Some (plain_list fs) → AreReady n (plain_list fs) → divides (step_of d) (children k.control p fs d) ≡ move_of k p
+pub children-ready : (n : ℕ) (k : Setting) (p : Problem) (fs : List Conjunct) (d : Division) → p.conjuncts ≡ Some (plain_each fs) → AreReady n (plain_each fs) → divides (step_of d) (children k.control p fs d) ≡ move_of k p
     → AllReady n (children k.control p fs d)
 children-ready n k p fs d a r e =
     let i = is-divided k p (step_of d) (children k.control p fs d) (sym e) in
-    division-ready n k p i.conjuncts (step_of d) (children k.control p fs d) i.step (subst (AreReady n) (some-same (plain_list fs) i.conjuncts (sym a ∙ i.are)) r) i.division
+    division-ready n k p i.conjuncts (step_of d) (children k.control p fs d) i.step (subst (AreReady n) (some-same (plain_each fs) i.conjuncts (sym a ∙ i.are)) r) i.division

@@ -3,3 +3,4 @@ pub mod Divisions
 pub mod Ready
 pub mod Verdicts
 pub mod Loops
+pub mod Touches

@@ -1,5 +1,13 @@
 -- What the search says, as plain data.
-use Rattle.std.specs.Prelude.{ℕ, List, map, reverse}
+use Rattle.std.specs.Prelude.{ℕ, List, map, reverse, Option, Some, None}
+use Rattle.std.specs.declared.vec.Vec.{Vec}
+use Rattle.std.specs.declared.alloc.Global.{Global}
+use Rattle.st_form.specs.Formula.{Formula, Formulas, formulas}
+use Rattle.st_form.specs.Plain.{plain as plain_form}
+use Rattle.farkas_check.specs.Problem.{Problem}
+use Rattle.linear_prover.specs.declared.problems.Conjunct.{Conjunct}
+use Rattle.linear_prover.specs.declared.problems.Conjunct.TheVariants.{Kept, Made}
+use Rattle.linear_prover.specs.declared.problems.Node.{Node}
 use Rattle.std.specs.Option.{option_map}
 use Rattle.st_certificate.specs.Tree.{Step, by_case, by_truth, by_split}
 use Rattle.st_certificate.specs.Plain.{plain as tree_of, plain_trees}
@@ -18,6 +26,22 @@ use Rattle.linear_prover.specs.declared.walk.Outcome.{Outcome}
 use Rattle.linear_prover.specs.declared.walk.Outcome.TheVariants.{Found, Stopped}
 use Rattle.linear_prover.specs.declared.walk.Branches.{Branches}
 use Rattle.linear_prover.specs.declared.walk.Branches.TheVariants.{All, Broke}
+
+-- a conjunct, lent or made
+abbrev pub plain_conjunct : Conjunct → Formula
+plain_conjunct (Kept f) = plain_form f.now
+plain_conjunct (Made f) = plain_form f.value
+
+abbrev pub plain_each : List Conjunct → Formulas
+plain_each fs = formulas (map plain_conjunct fs)
+
+abbrev pub plain_made : Option (Vec Conjunct Global) → Option Formulas
+plain_made None = None
+plain_made (Some fs) = Some (plain_each fs.items)
+
+-- a problem of the code
+abbrev pub plain_node : Node → Problem
+plain_node n = record { cases = n.cases.items; truths = n.truths.items; conjuncts = plain_made n.conjuncts }
 
 abbrev pub step_by : PathKind → ℕ → Step
 step_by kind.Case n = by_case n

@@ -11,6 +11,7 @@ ghost use Rattle.linear_prover.specs.Ready.{IsBelow};
 ghost use Rattle.linear_prover.specs.Verdicts.{IsRight};
 
 use crate::entries::look_at;
+use crate::problems::node_of;
 use crate::verdict::{Failure, Verdict};
 use crate::walk::{Outcome, walk};
 use control_states::Components;
@@ -63,6 +64,7 @@ pub fn decide(
         &condition.given,
         &condition.shown,
     )?;
-    let outcome = walk(alloc, components, variables, &problem, MOST_LEVELS, 0)?;
+    let node = node_of(alloc, &problem)?;
+    let outcome = walk(alloc, &*components, variables, &node, MOST_LEVELS, 0)?;
     Ok(verdict_of(outcome))
 }

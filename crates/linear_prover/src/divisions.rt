@@ -1,21 +1,21 @@
 //! How a problem is divided: by the alternatives of a component, by the values of a boolean variable, or by the disjuncts
 //! of a disjunction. Each problem of a division is made just before it is walked.
 
-ghost use Rattle.std.specs.Prelude.{◌≡◌, ◌<◌, ◌+◌, IfOk, length, slice_get, Some, take, drop};
+ghost use Rattle.std.specs.Prelude.{◌≡◌, ◌<◌, ◌+◌, IfOk, length, slice_get, Some, take, drop, true};
 ghost use Rattle.farkas_check.specs.Problem.{case_problems, split_problems, in_place};
-ghost use Rattle.st_form.specs.Plain.{plain_list};
-ghost use Rattle.farkas_check.specs.PlainProblem.{plain_posed};
+ghost use Rattle.st_form.specs.Plain.{plain, plain_list};
+ghost use Rattle.st_form.specs.Simple.{append, opened};
+ghost use Rattle.search_laws.specs.Steady.{AreSteady};
 ghost use Rattle.farkas_check.specs.Limits.{AreSettled};
 ghost use Rattle.st_certificate.specs.Tree.{branch};
 ghost use Rattle.st_certificate.specs.Plain.{plain as tree_of, plain_trees};
-ghost use Rattle.linear_prover.specs.Plain.{plain_step};
+ghost use Rattle.linear_prover.specs.Plain.{plain_step, plain_each, plain_node};
 ghost use Rattle.linear_prover.specs.Divisions.{step_of, size, children, Applies};
 
+use crate::decisions::{with_case, with_truth};
+use crate::problems::{Conjunct, Node, lend, lend_opened, with_conjuncts};
 use crate::verdict::{PathKind, PathStep};
 use control_states::{Alternative, Components};
-use farkas_check::division::{case_problem, truth_problem};
-use farkas_check::problems::Posed;
-use farkas_check::splits::split_problem;
 use st_certificate::Certificate;
 use st_form::Form;
 use st_memory::Memory;
@@ -44,60 +44,82 @@ pub fn count(division: Division) -> usize
 }
 
 /// The i-th problem.
-pub fn child(
+pub fn child<'b, 'x>(
     alloc: Global,
     components: &Components,
-    problem: &Posed,
-    fs: &[Form],
-    division: Division,
+    node: &Node,
+    fs: &'b [Conjunct<'x>],
+    division: Division<'b>,
     i: usize,
-) -> Result<Posed, Memory>
-    requires settled { AreSettled (plain_list fs.now) }
-    requires applies { Applies (plain_posed problem.now) fs.now division }
+) -> Result<Node<'b>, Memory>
+    requires settled { AreSettled (plain_each fs.now) }
+    requires steady { AreSteady (plain_each fs.now) true }
+    requires applies { Applies (plain_node node.now) fs.now division }
     requires there { i < size division }
-    ensures { IfOk result (λ p. slice_get (children components.now (plain_posed problem.now) fs.now division.entry) i ≡ Some (plain_posed p)) }
+    ensures { IfOk result (λ n. slice_get (children components.now (plain_node node.now) fs.now division.entry) i ≡ Some (plain_node n)) }
 {
     match division {
         Division::Cases(component, choices) => {
-            by_alternative(alloc, components, problem, fs, component, choices, i)
+            by_alternative(alloc, components, node, fs, component, choices, i)
         }
-        Division::Truths(var) => truth_problem(alloc, components, problem, fs, var, i == 0),
-        Division::Disjuncts(place, parts) => by_disjunct(alloc, problem, fs, place, parts, i),
+        Division::Truths(var) => with_truth(alloc, components, node, fs, var, i == 0),
+        Division::Disjuncts(place, parts) => by_disjunct(alloc, node, fs, place, parts, i),
     }
 }
 
-fn by_alternative(
+fn by_alternative<'b, 'x>(
     alloc: Global,
     components: &Components,
-    problem: &Posed,
-    fs: &[Form],
+    node: &Node,
+    fs: &'b [Conjunct<'x>],
     component: u32,
     choices: &[Alternative],
     i: usize,
-) -> Result<Posed, Memory>
-    requires settled { AreSettled (plain_list fs.now) }
-    requires applies { component < length problem.now.cases.items }
+) -> Result<Node<'b>, Memory>
+    requires settled { AreSettled (plain_each fs.now) }
+    requires steady { AreSteady (plain_each fs.now) true }
+    requires applies { component < length node.now.cases.items }
     requires there { i < length choices.now }
-    ensures { IfOk result (λ p. slice_get (case_problems components.now (plain_posed problem.now) (plain_list fs.now) component choices.now) i ≡ Some (plain_posed p)) }
+    ensures { IfOk result (λ n. slice_get (case_problems components.now (plain_node node.now) (plain_each fs.now) component choices.now) i ≡ Some (plain_node n)) }
 {
-    case_problem(alloc, components, problem, fs, component, choices[i])
+    with_case(alloc, components, node, fs, component, choices[i])
 }
 
-fn by_disjunct(
+/// The conjuncts with a disjunct, or its parts, in the place of its disjunction.
+fn in_place<'b, 'x>(
     alloc: Global,
-    problem: &Posed,
-    fs: &[Form],
+    fs: &'b [Conjunct<'x>],
     place: usize,
-    parts: &[Form],
-    i: usize,
-) -> Result<Posed, Memory>
-    requires settled { AreSettled (plain_list fs.now) }
-    requires applies { (place < length fs.now) × AreSettled (plain_list parts.now) }
-    requires there { i < length parts.now }
-    ensures { IfOk result (λ p. slice_get (split_problems (plain_posed problem.now)
-        (in_place (plain_list (take place fs.now)) (plain_list parts.now) (plain_list (drop (place + 1) fs.now)))) i ≡ Some (plain_posed p)) }
+    f: &'b Form,
+) -> Result<Vec<Conjunct<'b>>, Memory>
+    requires { place < length fs.now }
+    ensures { IfOk result (λ v. plain_each v.items
+        ≡ append (plain_each (take place fs.now)) (append (opened (plain f.now)) (plain_each (drop (place + 1) fs.now)))) }
 {
-    split_problem(alloc, problem, fs, place, &parts[i])
+    let front = &fs[..place];
+    let back = &fs[place + 1..];
+    let empty = Vec::with_capacity(alloc, fs.len())?;
+    let before = lend(empty, front)?;
+    let middle = lend_opened(before, f)?;
+    let whole = lend(middle, back)?;
+    Ok(whole)
+}
+
+fn by_disjunct<'b, 'x>(
+    alloc: Global,
+    node: &Node,
+    fs: &'b [Conjunct<'x>],
+    place: usize,
+    parts: &'b [Form],
+    i: usize,
+) -> Result<Node<'b>, Memory>
+    requires applies { place < length fs.now }
+    requires there { i < length parts.now }
+    ensures { IfOk result (λ n. slice_get (split_problems (plain_node node.now)
+        (in_place (plain_each (take place fs.now)) (plain_list parts.now) (plain_each (drop (place + 1) fs.now)))) i ≡ Some (plain_node n)) }
+{
+    let conjuncts = in_place(alloc, fs, place, &parts[i])?;
+    with_conjuncts(alloc, node, conjuncts)
 }
 
 /// The certificate whose parts are those of a division's problems.

@@ -5,11 +5,14 @@
 //! *Theory of Linear and Integer Programming*, 1986, section 12.2).
 #![tactic(auto)]
 
+mod conjuncts;
 mod deciding;
+mod decisions;
 mod divisions;
 mod entries;
 mod literals;
 mod moves;
+mod problems;
 mod shown;
 mod verdict;
 mod walk;

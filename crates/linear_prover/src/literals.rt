@@ -25,7 +25,7 @@ pub fn first_place(f: &Form) -> Option<u32>
 }
 
 #[cycle(first_place)]
-pub fn first_place_of(fs: &[Form]) -> Option<u32>
+fn first_place_of(fs: &[Form]) -> Option<u32>
     ensures { result ≡ first_place_of (plain_list fs.now) }
 {
     for f in fs {
@@ -55,7 +55,7 @@ pub fn first_truth(f: &Form) -> Option<u32>
 }
 
 #[cycle(first_truth)]
-pub fn first_truth_of(fs: &[Form]) -> Option<u32>
+fn first_truth_of(fs: &[Form]) -> Option<u32>
     ensures { result ≡ first_truth_of (plain_list fs.now) }
 {
     for f in fs {

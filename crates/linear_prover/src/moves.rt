@@ -4,27 +4,25 @@
 
 ghost use Rattle.std.specs.Prelude.{◌≡◌, ◌<◌, ◌^◌, IfOk, List, length, None, slice_index_or};
 ghost use Rattle.control_states.specs.Control.{ControlFacts};
-ghost use Rattle.st_form.specs.Plain.{plain_list};
-ghost use Rattle.st_form.specs.declared.formulas.Form.{Form};
+ghost use Rattle.linear_prover.specs.declared.problems.Conjunct.{Conjunct};
+ghost use Rattle.linear_prover.specs.Plain.{plain_each, plain_node};
 ghost use Rattle.st_form.specs.declared.variables.Variable.{Variable};
 ghost use Rattle.farkas_check.specs.Problem.{lines_of, divided_into, truth_division};
-ghost use Rattle.farkas_check.specs.PlainProblem.{plain_posed, setting};
+ghost use Rattle.farkas_check.specs.PlainProblem.{setting};
 ghost use Rattle.search_laws.specs.Moves.{or_else, if_undecided, outermost, component_for, first_place_of, first_truth_of, by_component, by_variable, by_disjunction, by_lines, by_place, divided};
 ghost use Rattle.st_certificate.specs.Tree.{by_split, by_truth};
 ghost use Rattle.linear_prover.specs.Divisions.{plain_move, MoveApplies};
 ghost use Rattle.linear_prover.specs.Ready.{AreReady};
 
+use crate::conjuncts::{first_disjunction, first_place_among, first_truth_among, lines_of};
 use crate::divisions::Division;
-use crate::literals::{first_place_of, first_truth_of};
+use crate::problems::{Conjunct, Node};
 use crate::shown::{case_at, state};
 use crate::verdict::Failure;
 use control_states::{Alternative, Component, Components, around_at};
 use farkas_check::decisions::{has_truth, may_case, truth_free};
-use farkas_check::leaves::lines_of;
-use farkas_check::problems::Posed;
-use farkas_check::splits::find_disjunction;
 use row_elimination::{Elimination, eliminate};
-use st_form::{Form, Variable};
+use st_form::Variable;
 use st_memory::Memory;
 use std::alloc::Global;
 
@@ -91,15 +89,15 @@ fn component_for(
 }
 
 /// A component is decided, if it may be.
-fn by_component<'a>(components: &'a Components, problem: &Posed, component: Option<u32>) -> Move<'a>
-    ensures exact { (vs : List Variable) (fs : List Form)
-        → plain_move components.now (plain_posed problem.now) fs result ≡ by_component (setting components.now vs) (plain_posed problem.now) (plain_list fs) component }
-    ensures applies { (fs : List Form) → MoveApplies (plain_posed problem.now) fs result }
+fn by_component<'a>(components: &'a Components, node: &Node, component: Option<u32>) -> Move<'a>
+    ensures exact { (vs : List Variable) (fs : List Conjunct)
+        → plain_move components.now (plain_node node.now) fs result ≡ by_component (setting components.now vs) (plain_node node.now) (plain_each fs) component }
+    ensures applies { (fs : List Conjunct) → MoveApplies (plain_node node.now) fs result }
 {
     match component {
         None => Move::Fails(Failure::Open(None)),
         Some(c) => {
-            if may_case(components, problem.cases.as_slice(), c) {
+            if may_case(components, node.cases.as_slice(), c) {
                 Move::Divides(Division::Cases(c, components.alternatives(c)))
             } else {
                 Move::Fails(Failure::Open(None))
@@ -109,12 +107,12 @@ fn by_component<'a>(components: &'a Components, problem: &Posed, component: Opti
 }
 
 /// A boolean variable is decided, if it may be.
-fn by_truth<'a>(variables: &[Variable], problem: &Posed, var: u32) -> Move<'a>
-    ensures exact { (k : ControlFacts) (fs : List Form)
-        → plain_move k (plain_posed problem.now) fs result ≡ divided (by_truth var) (truth_division k variables.now (plain_posed problem.now) (plain_list fs) var) }
-    ensures applies { (fs : List Form) → MoveApplies (plain_posed problem.now) fs result }
+fn by_truth<'a>(variables: &[Variable], node: &Node, var: u32) -> Move<'a>
+    ensures exact { (k : ControlFacts) (fs : List Conjunct)
+        → plain_move k (plain_node node.now) fs result ≡ divided (by_truth var) (truth_division k variables.now (plain_node node.now) (plain_each fs) var) }
+    ensures applies { (fs : List Conjunct) → MoveApplies (plain_node node.now) fs result }
 {
-    if has_truth(variables, var) && truth_free(problem.truths.as_slice(), var) {
+    if has_truth(variables, var) && truth_free(node.truths.as_slice(), var) {
         Move::Divides(Division::Truths(var))
     } else {
         Move::Fails(Failure::Open(None))
@@ -126,21 +124,21 @@ fn by_lines<'a>(
     alloc: Global,
     components: &Components,
     variables: &[Variable],
-    problem: &Posed,
-    fs: &[Form],
+    node: &Node,
+    fs: &[Conjunct],
 ) -> Result<Move<'a>, Memory>
-    requires ready { AreReady (length variables.now) (plain_list fs.now) }
+    requires ready { AreReady (length variables.now) (plain_each fs.now) }
     requires few { length variables.now < 2 ^ 32 }
-    ensures exact { IfOk result (λ m. plain_move components.now (plain_posed problem.now) fs.now m
-        ≡ by_lines (setting components.now variables.now) (plain_posed problem.now) (lines_of (plain_list fs.now))) }
-    ensures applies { IfOk result (λ m. MoveApplies (plain_posed problem.now) fs.now m) }
+    ensures exact { IfOk result (λ m. plain_move components.now (plain_node node.now) fs.now m
+        ≡ by_lines (setting components.now variables.now) (plain_node node.now) (lines_of (plain_each fs.now))) }
+    ensures applies { IfOk result (λ m. MoveApplies (plain_node node.now) fs.now m) }
 {
     let lines = lines_of(alloc, fs)?;
     match eliminate(alloc, lines.as_slice(), variables.len() as u32)? {
         Elimination::Contradiction(picks) => Ok(Move::Closes(picks)),
         Elimination::NoContradiction(None) => Ok(Move::Fails(Failure::Open(None))),
         Elimination::NoContradiction(Some(point)) => {
-            let shown = state(alloc, components, variables, problem, point.as_slice())?;
+            let shown = state(alloc, components, variables, node, point.as_slice())?;
             Ok(Move::Fails(Failure::Open(Some(shown))))
         }
         Elimination::Wide(stage) => Ok(Move::Fails(Failure::Wide(stage))),
@@ -148,46 +146,46 @@ fn by_lines<'a>(
 }
 
 /// The first disjunction is split, if there is one.
-fn by_disjunction<'a>(
+fn by_disjunction<'a, 'x>(
     alloc: Global,
     components: &Components,
     variables: &[Variable],
-    problem: &Posed,
-    fs: &'a [Form],
+    node: &Node,
+    fs: &'a [Conjunct<'x>],
 ) -> Result<Move<'a>, Memory>
-    requires ready { AreReady (length variables.now) (plain_list fs.now) }
+    requires ready { AreReady (length variables.now) (plain_each fs.now) }
     requires few { length variables.now < 2 ^ 32 }
-    ensures exact { IfOk result (λ m. plain_move components.now (plain_posed problem.now) fs.now m
-        ≡ by_disjunction (setting components.now variables.now) (plain_posed problem.now) (plain_list fs.now)
-        (divided_into (setting components.now variables.now) (plain_posed problem.now) (plain_list fs.now) (by_split 0))) }
-    ensures applies { IfOk result (λ m. MoveApplies (plain_posed problem.now) fs.now m) }
+    ensures exact { IfOk result (λ m. plain_move components.now (plain_node node.now) fs.now m
+        ≡ by_disjunction (setting components.now variables.now) (plain_node node.now) (plain_each fs.now)
+        (divided_into (setting components.now variables.now) (plain_node node.now) (plain_each fs.now) (by_split 0))) }
+    ensures applies { IfOk result (λ m. MoveApplies (plain_node node.now) fs.now m) }
 {
-    match find_disjunction(fs, 0) {
+    match first_disjunction(fs) {
         Some((place, parts)) => Ok(Move::Divides(Division::Disjuncts(place, parts))),
-        None => by_lines(alloc, components, variables, problem, fs),
+        None => by_lines(alloc, components, variables, node, fs),
     }
 }
 
 /// What is done at a problem with these conjuncts.
-pub fn move_at<'a>(
+pub fn move_at<'a, 'x>(
     alloc: Global,
     components: &'a Components,
     variables: &[Variable],
-    problem: &Posed,
-    fs: &'a [Form],
+    node: &Node,
+    fs: &'a [Conjunct<'x>],
 ) -> Result<Move<'a>, Memory>
-    requires ready { AreReady (length variables.now) (plain_list fs.now) }
+    requires ready { AreReady (length variables.now) (plain_each fs.now) }
     requires few { length variables.now < 2 ^ 32 }
-    ensures exact { IfOk result (λ m. plain_move components.now (plain_posed problem.now) fs.now m
-        ≡ by_place (setting components.now variables.now) (plain_posed problem.now) (plain_list fs.now) (first_place_of (plain_list fs.now))) }
-    ensures applies { IfOk result (λ m. MoveApplies (plain_posed problem.now) fs.now m) }
+    ensures exact { IfOk result (λ m. plain_move components.now (plain_node node.now) fs.now m
+        ≡ by_place (setting components.now variables.now) (plain_node node.now) (plain_each fs.now) (first_place_of (plain_each fs.now))) }
+    ensures applies { IfOk result (λ m. MoveApplies (plain_node node.now) fs.now m) }
 {
-    if let Some(location) = first_place_of(fs) {
-        let component = component_for(components, problem.cases.as_slice(), location);
-        return Ok(by_component(components, problem, component));
+    if let Some(location) = first_place_among(fs) {
+        let component = component_for(components, node.cases.as_slice(), location);
+        return Ok(by_component(components, node, component));
     }
-    if let Some(var) = first_truth_of(fs) {
-        return Ok(by_truth(variables, problem, var));
+    if let Some(var) = first_truth_among(fs) {
+        return Ok(by_truth(variables, node, var));
     }
-    by_disjunction(alloc, components, variables, problem, fs)
+    by_disjunction(alloc, components, variables, node, fs)
 }

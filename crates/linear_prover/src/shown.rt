@@ -4,15 +4,15 @@
 
 ghost use Rattle.std.specs.Prelude.{◌≡◌, ◌<◌, ◌^◌, ℕ, Bool, length, IfOk, slice_index_or, None, false, unwrap_or, []};
 ghost use Rattle.st_linear.specs.Linear.{valuation};
-ghost use Rattle.farkas_check.specs.PlainProblem.{plain_posed, setting};
+ghost use Rattle.farkas_check.specs.PlainProblem.{setting};
 ghost use Rattle.search_laws.specs.States.{taken, next_standing, standing_from, listed, value_of, values_of, state_of};
-ghost use Rattle.linear_prover.specs.Plain.{plain_shown};
+ghost use Rattle.linear_prover.specs.Plain.{plain_shown, plain_node};
 ghost use Rattle.linear_prover.specs.Loops.{valued};
 
+use crate::problems::Node;
 use crate::verdict::Shown;
 use control_states::{Alternative, Component, Components};
 use farkas_check::decisions::known_active;
-use farkas_check::problems::Posed;
 use st_form::Variable;
 use st_memory::Memory;
 use st_program::Datum;
@@ -134,14 +134,14 @@ pub fn state(
     alloc: Global,
     components: &Components,
     variables: &[Variable],
-    problem: &Posed,
+    node: &Node,
     point: &[i128],
 ) -> Result<Shown, Memory>
-    ensures { IfOk result (λ s. plain_shown s ≡ state_of (setting components.now variables.now) (plain_posed problem.now) point.now) }
+    ensures { IfOk result (λ s. plain_shown s ≡ state_of (setting components.now variables.now) (plain_node node.now) point.now) }
 {
     let _count = components.count();
-    let stood = standing(alloc, problem.cases.as_slice(), components.parts())?;
+    let stood = standing(alloc, node.cases.as_slice(), components.parts())?;
     let control = listed(alloc, stood.as_slice())?;
-    let store = values(alloc, variables, problem.truths.as_slice(), point)?;
+    let store = values(alloc, variables, node.truths.as_slice(), point)?;
     Ok(Shown { control, store })
 }

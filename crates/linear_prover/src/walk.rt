@@ -3,24 +3,24 @@
 //!
 //! A problem stays as it is while those that it is divided into are walked one after the other.
 
-ghost use Rattle.std.specs.Prelude.{◌≡◌, ◌<◌, ◌≤◌, ◌^◌, IfOk, length, Some};
-ghost use Rattle.st_form.specs.Plain.{plain_list};
-ghost use Rattle.farkas_check.specs.PlainProblem.{plain_posed, setting};
+ghost use Rattle.std.specs.Prelude.{◌≡◌, ◌<◌, ◌≤◌, ◌^◌, IfOk, length, Some, true};
+ghost use Rattle.farkas_check.specs.PlainProblem.{setting};
 ghost use Rattle.farkas_check.specs.Limits.{AreSettled};
+ghost use Rattle.search_laws.specs.Steady.{AreSteady};
 ghost use Rattle.search_laws.specs.Walks.{walk, walk_all, walk_node, divided_by};
 ghost use Rattle.search_laws.specs.Moves.{move_of};
-ghost use Rattle.linear_prover.specs.Plain.{plain_outcome, plain_branches};
+ghost use Rattle.linear_prover.specs.Plain.{plain_outcome, plain_branches, plain_each, plain_node};
 ghost use Rattle.linear_prover.specs.Divisions.{step_of, children, Applies};
 ghost use Rattle.linear_prover.specs.Ready.{AreReady, IfReady, AllReady, Rises};
 
 use crate::divisions::{Division, child, count, joined, step_to};
 use crate::moves::{Move, move_at};
+use crate::problems::{Conjunct, Node};
 use crate::verdict::{Failure, PathStep};
 use control_states::Components;
-use farkas_check::problems::Posed;
 use row_elimination::WideStage;
 use st_certificate::Certificate;
-use st_form::{Form, Variable};
+use st_form::Variable;
 use st_memory::Memory;
 use std::alloc::Global;
 
@@ -56,18 +56,18 @@ fn divided_by(division: Division, branches: Branches) -> Result<Outcome, Memory>
 
 /// Walks a problem with so many levels left, so many nodes being counted.
 #[cycle(walk)]
-pub fn walk(
+pub fn walk<'n, 'x>(
     alloc: Global,
-    components: &Components,
+    components: &'n Components,
     variables: &[Variable],
-    problem: &Posed,
+    node: &'n Node<'x>,
     levels: u32,
     nodes: u32,
 ) -> Result<Outcome, Memory>
-    requires ready { IfReady (length variables.now) (plain_posed problem.now).conjuncts }
+    requires ready { IfReady (length variables.now) (plain_node node.now).conjuncts }
     requires few { length variables.now < 2 ^ 32 }
     requires counted { nodes ≤ 100000 }
-    ensures exact { IfOk result (λ o. plain_outcome o ≡ walk (move_of (setting components.now variables.now)) levels (plain_posed problem.now) nodes) }
+    ensures exact { IfOk result (λ o. plain_outcome o ≡ walk (move_of (setting components.now variables.now)) levels (plain_node node.now) nodes) }
     ensures rises { IfOk result (λ o. Rises nodes (plain_outcome o)) }
 {
     if levels == 0 {
@@ -76,13 +76,13 @@ pub fn walk(
     if nodes >= MOST_NODES {
         return Ok(Outcome::Stopped(Vec::new(alloc), Failure::Wide(WideStage::Tree)));
     }
-    match &problem.conjuncts {
+    match &node.conjuncts {
         None => Ok(Outcome::Found(Certificate::Absurd, nodes + 1)),
         Some(fs) => walk_node(
             alloc,
             components,
             variables,
-            problem,
+            node,
             fs.as_slice(),
             levels - 1,
             nodes + 1,
@@ -93,27 +93,27 @@ pub fn walk(
 /// Does what is to be done at a problem with these conjuncts.
 #[cycle(walk)]
 #[tactic(auto, using(st_certificate::proofs::Nodes::all_nodes))]
-fn walk_node(
+fn walk_node<'n, 'x>(
     alloc: Global,
-    components: &Components,
+    components: &'n Components,
     variables: &[Variable],
-    problem: &Posed,
-    fs: &[Form],
+    node: &Node,
+    fs: &'n [Conjunct<'x>],
     levels: u32,
     nodes: u32,
 ) -> Result<Outcome, Memory>
-    requires are { (plain_posed problem.now).conjuncts ≡ Some (plain_list fs.now) }
-    requires ready { AreReady (length variables.now) (plain_list fs.now) }
+    requires are { (plain_node node.now).conjuncts ≡ Some (plain_each fs.now) }
+    requires ready { AreReady (length variables.now) (plain_each fs.now) }
     requires few { length variables.now < 2 ^ 32 }
     requires counted { (0 < nodes) × (nodes ≤ 100000) }
-    ensures { IfOk result (λ o. plain_outcome o ≡ walk_node (walk (move_of (setting components.now variables.now)) levels) (move_of (setting components.now variables.now) (plain_posed problem.now)) nodes) }
+    ensures { IfOk result (λ o. plain_outcome o ≡ walk_node (walk (move_of (setting components.now variables.now)) levels) (move_of (setting components.now variables.now) (plain_node node.now)) nodes) }
 {
-    match move_at(alloc, components, variables, problem, fs)? {
+    match move_at(alloc, components, variables, node, fs)? {
         Move::Closes(picks) => Ok(Outcome::Found(Certificate::Linear(picks), nodes)),
         Move::Fails(failure) => Ok(Outcome::Stopped(Vec::new(alloc), failure)),
         Move::Divides(division) => {
             let branches = walk_all(
-                alloc, components, variables, problem, fs, division, levels, nodes,
+                alloc, components, variables, node, fs, division, levels, nodes,
             )?;
             divided_by(division, branches)
         }
@@ -122,29 +122,30 @@ fn walk_node(
 
 /// Walks the problems of a division in order.
 #[cycle(walk)]
-fn walk_all(
+fn walk_all<'n, 'x>(
     alloc: Global,
     components: &Components,
     variables: &[Variable],
-    problem: &Posed,
-    fs: &[Form],
-    division: Division,
+    node: &Node,
+    fs: &'n [Conjunct<'x>],
+    division: Division<'n>,
     levels: u32,
     nodes: u32,
 ) -> Result<Branches, Memory>
-    requires settled { AreSettled (plain_list fs.now) }
-    requires applies { Applies (plain_posed problem.now) fs.now division }
-    requires ready { AllReady (length variables.now) (children components.now (plain_posed problem.now) fs.now division) }
+    requires settled { AreSettled (plain_each fs.now) }
+    requires steady { AreSteady (plain_each fs.now) true }
+    requires applies { Applies (plain_node node.now) fs.now division }
+    requires ready { AllReady (length variables.now) (children components.now (plain_node node.now) fs.now division) }
     requires few { length variables.now < 2 ^ 32 }
     requires counted { (0 < nodes) × (nodes ≤ 100000) }
     ensures { IfOk result (λ b. plain_branches b ≡ walk_all (walk (move_of (setting components.now variables.now)) levels)
-        (children components.now (plain_posed problem.now) fs.now division.entry) 0 nodes) }
+        (children components.now (plain_node node.now) fs.now division.entry) 0 nodes) }
 {
     let mut parts = Vec::new(alloc);
     let mut now = nodes;
     for i in 0..count(division) {
-        let next = child(alloc, components, problem, fs, division, i)?;
-        match walk(alloc, components, variables, &next, levels, now)? {
+        let next = child(alloc, components, node, fs, division, i)?;
+        match walk(alloc, &*components, variables, &next, levels, now)? {
             Outcome::Found(part, after) => {
                 parts.push(part)?;
                 now = after;

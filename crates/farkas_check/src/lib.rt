@@ -3,11 +3,11 @@
 
 mod checking;
 mod closing;
-mod decisions;
+pub mod decisions;
 mod division;
-mod leaves;
-mod problems;
-mod splits;
+pub mod leaves;
+pub mod problems;
+pub mod splits;
 
 pub use checking::check;
 pub use control_states::{Alternative, Component, Components};

@@ -1,0 +1,19 @@
+-- What a verdict means.
+use Rattle.std.specs.Prelude.{Some, None}
+use Rattle.st_form.specs.Formula.{Formula}
+use Rattle.st_certificate.specs.Plain.{plain as tree_of}
+use Rattle.farkas_check.specs.Problem.{Setting}
+use Rattle.search_laws.specs.Forms.{IsInOrder}
+use Rattle.search_laws.specs.Laws.{IsProved, IsCounterexample}
+use Rattle.search_laws.specs.Sizes.{IsShort}
+use Rattle.linear_prover.specs.declared.verdict.Verdict.{Verdict}
+use Rattle.linear_prover.specs.declared.verdict.Verdict.TheVariants.{Valid, Open, Wide}
+use Rattle.linear_prover.specs.Plain.{plain_path, plain_shown}
+
+-- a certificate is valid and within the limits, so the condition holds; a state that is shown is one of control states
+-- in which the condition is false; and paths are short
+abbrev pub IsRight : Setting → Formula → Formula → Verdict → Type 0
+IsRight k given shown (Valid c) = IsProved k given shown (tree_of c)
+IsRight k given shown (Open path None) = IsShort (plain_path path.items)
+IsRight k given shown (Open path (Some s)) = IsShort (plain_path path.items) × (IsInOrder k.control → IsCounterexample k given shown (plain_shown s))
+IsRight k given shown (Wide path w) = IsShort (plain_path path.items)

@@ -1,0 +1,70 @@
+//! The search for a certificate of a condition.
+
+ghost use Rattle.std.specs.Prelude.{◌≡◌, ◌<◌, ◌^◌, IfOk, length};
+ghost use Rattle.st_form.specs.Plain.{plain};
+ghost use Rattle.farkas_check.specs.PlainProblem.{setting};
+ghost use Rattle.farkas_check.specs.Limits.{IsNarrow};
+ghost use Rattle.search_laws.specs.Forms.{AllForms};
+ghost use Rattle.search_laws.specs.Moves.{decided, verdict_of};
+ghost use Rattle.linear_prover.specs.Plain.{plain_verdict, plain_outcome};
+ghost use Rattle.linear_prover.specs.Ready.{IsBelow};
+ghost use Rattle.linear_prover.specs.Verdicts.{IsRight};
+
+use crate::entries::look_at;
+use crate::problems::node_of;
+use crate::verdict::{Failure, Verdict};
+use crate::walk::{Outcome, walk};
+use control_states::Components;
+use farkas_check::problems::first_problem;
+use st_form::{Condition, Variable};
+use st_memory::Memory;
+use std::alloc::Global;
+
+const MOST_LEVELS: u32 = 400;
+
+/// What the walk says; its path is kept from the last step to the first.
+fn verdict_of(outcome: Outcome) -> Verdict
+    ensures { plain_verdict result ≡ verdict_of (plain_outcome outcome) }
+{
+    match outcome {
+        Outcome::Found(certificate, _) => Verdict::Valid(certificate),
+        Outcome::Stopped(mut path, failure) => {
+            path.reverse();
+            match failure {
+                Failure::Open(state) => Verdict::Open(path, state),
+                Failure::Wide(stage) => Verdict::Wide(path, stage),
+            }
+        }
+    }
+}
+
+/// Searches for a certificate of a condition. There are fewer than 2^32 variables, the condition's variables are among
+/// them, and its numbers are below 2^69 in size, as the check of certificates asks.
+pub fn decide(
+    alloc: Global,
+    components: &Components,
+    variables: &[Variable],
+    condition: &Condition,
+) -> Result<Verdict, Memory>
+    requires few { length variables.now < 2 ^ 32 }
+    requires given { IsNarrow (plain condition.now.given) }
+    requires shown { IsNarrow (plain condition.now.shown) }
+    requires given_below { AllForms (IsBelow (length variables.now)) (plain condition.now.given) }
+    requires shown_below { AllForms (IsBelow (length variables.now)) (plain condition.now.shown) }
+    ensures exact { IfOk result (λ v. plain_verdict v
+        ≡ decided (setting components.now variables.now) (plain condition.now.given) (plain condition.now.shown)) }
+    ensures right { IfOk result (λ v. IsRight (setting components.now variables.now) (plain condition.now.given) (plain condition.now.shown) v) }
+{
+    look_at(&condition.given);
+    look_at(&condition.shown);
+    let problem = first_problem(
+        alloc,
+        components,
+        variables,
+        &condition.given,
+        &condition.shown,
+    )?;
+    let node = node_of(alloc, &problem)?;
+    let outcome = walk(alloc, &*components, variables, &node, MOST_LEVELS, 0)?;
+    Ok(verdict_of(outcome))
+}

@@ -1,0 +1,26 @@
+//! The search for certificates: of a condition a certificate, or a problem that is left open, or where it gave up.
+//!
+//! Problems are walked depth first: components are decided, then boolean variables, then disjunctions are split, and at
+//! last the lines are eliminated. It is a case analysis with Fourier-Motzkin elimination at its leaves (Schrijver,
+//! *Theory of Linear and Integer Programming*, 1986, section 12.2).
+#![tactic(auto)]
+
+mod conjuncts;
+mod deciding;
+mod decisions;
+mod divisions;
+mod entries;
+mod literals;
+mod moves;
+mod problems;
+mod shown;
+mod verdict;
+mod walk;
+
+pub use control_states::{Alternative, Component, Components};
+pub use deciding::decide;
+pub use row_elimination::WideStage;
+pub use st_certificate::Certificate;
+pub use st_form::{Condition, Variable};
+pub use st_program::Datum;
+pub use verdict::{PathKind, PathStep, Shown, Verdict};

@@ -1,3 +1,4 @@
 pub mod Enough
 pub mod Sizes
 pub mod NarrowLists
+pub mod FewModes

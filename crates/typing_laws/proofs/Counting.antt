@@ -1,15 +1,15 @@
 -- What a walk over the text counts, and the names that it has met.
-use Rattle.std.proofs.Common.{◌≡◌, ℕ, zero, suc, ◌+◌, ◌*◌, ◌<◌, ◌≤◌, Bool, true, false, List, [], ◌∷◌, ◌++◌, Option, Some, None, refl, sym, ap, ◌∙◌, arith}
+use Rattle.std.proofs.Common.{◌≡◌, ℕ, suc, ◌+◌, ◌*◌, ◌≤◌, true, false, List, [], ◌∷◌, ◌++◌, Option, Some, None, refl, ◌∙◌, arith}
 use Rattle.st_reading.specs.Reading.{Label}
 use Rattle.spl_parser.specs.ProgramTree as raw
 use Rattle.spl_parser.specs.Numbers.{in_statement, in_action, in_branch, in_statements, in_body, in_bodies}
 use Rattle.spl_typer.specs.declared.walk.Mark.{Mark}
 use Rattle.spl_typer.specs.declared.walk.Mark.TheVariants as marks
 use Rattle.spl_typer.specs.Scope.{Known}
-use Rattle.spl_typer.specs.Walk.{Entry, State, with_name, next_location, next_occurrence, with_weight}
+use Rattle.spl_typer.specs.Walk.{Entry, State, with_name, next_location, next_occurrence}
 use Rattle.spl_typer.specs.Programs.{is_text}
-use Rattle.spl_typer.specs.StatementRules.{weight_behind, behind_label, own_location, behind_location, begins, behind, behind_act, behind_branch, behind_row, behind_bodies, behind_body}
-use Rattle.typing_laws.proofs.Laying.{LabelLaid, SomeStatements, StatementLaid, ActionLaid, BranchLaid, StatementsLaid, BodyLaid, BodiesLaid}
+use Rattle.spl_typer.specs.StatementRules.{own_location, behind_location, begins, behind, behind_act, behind_branch, behind_row, behind_bodies, behind_body}
+use Rattle.typing_laws.proofs.Laying.{SomeStatements, StatementLaid, ActionLaid, BranchLaid, StatementsLaid, BodyLaid, BodiesLaid}
 
 abbrev pub ArePlain : List Entry → Type 0
 ArePlain [] = Unit {0}

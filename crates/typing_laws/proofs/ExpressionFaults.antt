@@ -1,5 +1,5 @@
 -- The faults of an expression are rules of typing, in text order.
-use Rattle.std.proofs.Common.{◌≡◌, ℕ, suc, ◌<◌, ◌≤◌, Bool, true, false, cond, List, [], ◌∷◌, ◌++◌, refl, arith, negsuc, Option, Some, None, Result, Ok, Err, append-nil}
+use Rattle.std.proofs.Common.{ℕ, suc, ◌<◌, ◌≤◌, Bool, true, false, cond, List, [], ◌∷◌, ◌++◌, arith, negsuc, Option, Some, None, Result, Ok, Err, append-nil}
 use Rattle.std.specs.Option.{option_map}
 use Rattle.st_linear.specs.Linear.{Linear, scaled}
 use Rattle.st_program.specs.Tree.{Term, number, truth}
@@ -14,12 +14,12 @@ use Rattle.spl_typer.specs.Written.{is_writable}
 use Rattle.spl_typer.specs.Typing.{typed, is_implication}
 use Rattle.spl_typer.specs.Rules.{number_in, not_number, not_truth, unknown, too_large, not_linear, operator_faults, form_of, meaning, faults_in, kind_faults, all_faults}
 use Rattle.spl_typer.specs.Told.{Told, IsWritten}
-use Rattle.spl_typer.specs.StatementRules.{test_faults, wanted_faults, side_faults}
+use Rattle.spl_typer.specs.StatementRules.{test_faults, side_faults}
 use Rattle.spl_typer.proofs.Tells.{told}
 use Rattle.spl_typer.proofs.Rising.{rises}
-use Rattle.typing_laws.specs.Laws.{IsRule, AreRules}
+use Rattle.typing_laws.specs.Laws.{AreRules}
 use Rattle.typing_laws.proofs.Laying.{ExprLaid}
-use Rattle.typing_laws.proofs.Expressions.{laid_ahead, start_behind, start_ahead}
+use Rattle.typing_laws.proofs.Expressions.{start_behind, start_ahead}
 use Rattle.typing_laws.proofs.Ordering.{Ordered, of_rising, widened, alone}
 
 pub rules_append : (fs gs : List TypeFault) → AreRules fs → AreRules gs → AreRules (fs ++ gs)

@@ -1,5 +1,5 @@
 -- The limits of a group are told at its first token.
-use Rattle.std.proofs.Common.{◌≡◌, ℕ, suc, ◌<◌, ◌≤◌, ◌++◌, Bool, true, false, cond, List, [], ◌∷◌, length, nat_le, refl, arith, Option, Some, None, Result, Ok, Err}
+use Rattle.std.proofs.Common.{◌≡◌, ℕ, suc, ◌++◌, Bool, true, false, cond, List, [], ◌∷◌, length, nat_le, refl, arith, Option, Some, None, Result, Ok, Err}
 use Rattle.st_linear.specs.Linear.{Linear, replaced}
 use Rattle.st_form.specs.Formula.{Formula, formulas, atoms, atoms_of}
 use Rattle.st_form.specs.Exchange.{Exchange, exchanged}

@@ -1,5 +1,5 @@
 -- Numerals of tokens are those that a text may have.
-use Rattle.std.proofs.Common.{◌≡◌, ℕ, ◌<◌, ◌≤◌, ◌^◌, Bool, true, false, cond, ◌&&◌, nat_lt, List, refl, arith}
+use Rattle.std.proofs.Common.{◌≡◌, ℕ, ◌≤◌, ◌^◌, Bool, true, false, cond, ◌&&◌, nat_lt, List, refl, arith}
 use Rattle.std.proofs.lemmas.Bool.Decides.{nat_tests}
 use Rattle.st_tokens.specs.declared.kind.TokenKind.{TokenKind}
 use Rattle.st_tokens.specs.declared.kind.TokenKind.TheVariants as kinds

@@ -1,22 +1,19 @@
 -- The faults of a program that lies in a text are rules of typing, in text order.
-use Rattle.std.proofs.Common.{◌≡◌, ℕ, zero, suc, ◌+◌, ◌*◌, ◌<◌, ◌≤◌, Bool, true, false, cond, nat_lt, nat_le, List, [], ◌∷◌, ◌++◌, length, refl, sym, ap, ◌∙◌, arith, length-append, Option, Some, None, Result, Ok, Err, append-nil}
+use Rattle.std.proofs.Common.{◌≡◌, ℕ, suc, ◌+◌, ◌≤◌, Bool, true, nat_lt, nat_le, List, [], ◌∷◌, ◌++◌, length, refl, ◌∙◌, arith, length-append, Option, Some, None, Ok, append-nil}
 use Rattle.std.proofs.lemmas.Bool.Decides.{nat_tests}
-use Rattle.st_tokens.specs.declared.limit.LimitKind.TheVariants as limits
 use Rattle.st_reading.specs.Reading.{Label}
 use Rattle.spl_parser.specs.ExpressionTree.{Expr}
 use Rattle.spl_parser.specs.ProgramTree as raw
 use Rattle.spl_parser.specs.Numbers.{in_body, in_processes, declared, declared_inside, IsWithin}
-use Rattle.spl_typer.specs.declared.fault.TypeFault.{TypeFault}
 use Rattle.spl_typer.specs.declared.fault.TypeFault.TheVariants as faults
 use Rattle.spl_typer.specs.declared.walk.Mark.{Mark}
 use Rattle.spl_typer.specs.declared.walk.Mark.TheVariants as marks
-use Rattle.spl_typer.specs.Answers.{◌>>=◌}
-use Rattle.spl_typer.specs.Walk.{Entry, State, is_declared, with_name}
-use Rattle.spl_typer.specs.Programs.{nothing_met, some_process, is_text, text_of, Variables, Labels, with_variable, with_label, variables_of, labels_of, few_names, names_of}
-use Rattle.spl_typer.specs.StatementRules.{unless, where_true, test_faults, faults_of, behind_body, body_faults}
+use Rattle.spl_typer.specs.Walk.{Entry, is_declared}
+use Rattle.spl_typer.specs.Programs.{nothing_met, some_process, is_text, Variables, Labels, with_variable, with_label, variables_of, labels_of, names_of}
+use Rattle.spl_typer.specs.StatementRules.{faults_of}
 use Rattle.spl_typer.specs.ProgramRules.{Front, front, declares_again, named, behind_name, name_faults, behind_names, names_faults, initial_faults, behind_declaration, declaration_faults, behind_declarations, declarations_faults, inside_process, behind_process, process_faults, behind_processes, processes_faults, before_processes, program_faults}
-use Rattle.typing_laws.proofs.Laying.{ExprLaid, LabelLaid, InRow, BodyLaid, InitialLaid, DeclarationLaid, ProcessLaid, SomeProcesses, ProgramLaid}
-use Rattle.typing_laws.proofs.Ordering.{Ordered, ordered_append, ordered_from, alone_where, widened}
+use Rattle.typing_laws.proofs.Laying.{LabelLaid, InRow, InitialLaid, DeclarationLaid, ProcessLaid, SomeProcesses, ProgramLaid}
+use Rattle.typing_laws.proofs.Ordering.{Ordered, ordered_append, alone_where, widened}
 use Rattle.typing_laws.proofs.ExpressionFaults.{test_ordered}
 use Rattle.typing_laws.proofs.Counting.{ArePlain, is_variable, variables_among, plain_append, among_append, Room, room_behind, room_less, body_grows}
 use Rattle.typing_laws.proofs.StatementFaults.{body_ordered}
@@ -157,7 +154,7 @@ some_is (p ∷ ps) h = refl
 pub program_ordered : (x : raw.Program) (l : ProgramLaid x) → IsWithin x → Ordered 0 l.end (program_faults x)
 program_ordered x l w =
     let b : Fits (declared x.declarations + declared_inside x.processes) (in_processes x.processes) (front nothing_met) =
-      record { variables = omega (arith, w.variables); room = record { occ = omega (arith, w.statements); loc = omega (arith, w.statements) }; plain = tt; among = refl } in
+    record { variables = omega (arith, w.variables); room = record { occ = omega (arith, w.statements); loc = omega (arith, w.statements) }; plain = tt; among = refl } in
     let c = declarations_fit x.declarations (declared_inside x.processes) (in_processes x.processes) 0 l.declared (front nothing_met) l.declarations b in
     let d = processes_fit x.processes l.declared l.end (before_processes x) l.processes c in
     rw (some_is x.processes l.some, names_none (behind_processes x.processes (before_processes x)).state.names d.plain (omega (arith, d.among, d.variables)), append-nil (declarations_faults x.declarations (front nothing_met) ++ processes_faults x.processes (before_processes x)))

@@ -1,20 +1,17 @@
 -- Programs that a text spells lie in it, token behind token.
-use Rattle.std.proofs.Common.{◌≡◌, ℕ, zero, suc, ◌+◌, ◌<◌, ◌≤◌, Bool, true, false, List, [], ◌∷◌, ◌++◌, Option, Some, None, Ok, refl, arith}
-use Rattle.st_tokens.specs.Stream.{◌++>◌, Lexeme, Stream, ends, first_place, IsRising, text_stream, AreThere}
-use Rattle.st_tokens.proofs.Rising.{starts_rise}
-use Rattle.st_tokens.proofs.Shifting.{tokens_are_there}
+use Rattle.std.proofs.Common.{ℕ, suc, Bool, false, List, [], ◌∷◌, ◌++◌, arith}
+use Rattle.st_tokens.specs.Stream.{Lexeme}
 use Rattle.st_reading.specs.declared.mark.Mark.TheVariants as marks
-use Rattle.st_reading.specs.Reading.{Label}
 use Rattle.st_reading.specs.Spelling.{OneName, Row, row}
 use Rattle.spl_parser.specs.ExpressionTree.{Expr}
-use Rattle.spl_parser.specs.ProgramTree.{Statement, Declaration, Process, Program}
+use Rattle.spl_parser.specs.ProgramTree.{Statement, Process, Program}
 use Rattle.spl_parser.specs.Grammar.{SpellsWithin, Low, IsInitial, free, given, IsDeclaration, declaration, Declarations, no_declarations, declaration_more, IsProcess, process, IsProgram, program}
-use Rattle.spl_parser.specs.Theorems.{Spells, SpellsWithinLimits}
-use Rattle.typing_laws.proofs.Standing.{Stand, Meet, meet, stand_to, first_to, text_stands}
-use Rattle.typing_laws.proofs.Laying.{ExprLaid, LabelLaid, InRow, BodyLaid, InitialLaid, DeclarationLaid, ProcessLaid, SomeProcesses, ProgramLaid}
+use Rattle.spl_parser.specs.Theorems.{Spells}
+use Rattle.typing_laws.proofs.Standing.{Stand, meet, stand_to, first_to, text_stands}
+use Rattle.typing_laws.proofs.Laying.{LabelLaid, InRow, InitialLaid, DeclarationLaid, ProcessLaid, SomeProcesses, ProgramLaid}
 use Rattle.typing_laws.proofs.Expressions.{Lay, laid_from, formula_lays}
 use Rattle.typing_laws.proofs.Rows.{Lays, Earlier, row_lays, name_lays, label_earlier, in_row_earlier}
-use Rattle.typing_laws.proofs.Statements.{Placed, low_lays, body_lays, body_earlier}
+use Rattle.typing_laws.proofs.Statements.{Placed, low_lays, body_lays}
 
 module _ (value : List Lexeme → Expr → Type 0) (value_lays : Lay value) (low : Bool → List Lexeme → Statement → Type 0) (lower_lays : (inner : Bool) → Lays (low inner) (Placed inner)) where
   initial_lays : Lays (IsInitial value low) InitialLaid
@@ -28,7 +25,7 @@ module _ (value : List Lexeme → Expr → Type 0) (value_lays : Lay value) (low
       record {
         mid = suc v.start;
         names = in_row_earlier LabelLaid label_earlier names from (suc t.start) (suc v.start) (omega (arith, h.0))
-        (row_lays marks.Comma OneName LabelLaid name_lays label_earlier a names (suc t.start) (suc v.start) (stand_to (suc t.start) m.mid (suc v.start) a (omega (arith, m.second.0, m.second.2.0)) m.first) ra);
+            (row_lays marks.Comma OneName LabelLaid name_lays label_earlier a names (suc t.start) (suc v.start) (stand_to (suc t.start) m.mid (suc v.start) a (omega (arith, m.second.0, m.second.2.0)) m.first) ra);
         initial = initial_lays b initial (suc v.start) to (first_to (suc v.start) to b (w ∷ []) n) ib;
       }
 

@@ -1,10 +1,9 @@
 -- What stands in a row lies one part behind the other.
-use Rattle.std.proofs.Common.{◌≡◌, ℕ, suc, ◌<◌, ◌≤◌, List, [], ◌∷◌, ◌++◌, arith}
+use Rattle.std.proofs.Common.{ℕ, suc, ◌≤◌, List, [], ◌∷◌, arith}
 use Rattle.st_tokens.specs.Stream.{Lexeme}
 use Rattle.st_reading.specs.declared.mark.Mark.{Mark}
-use Rattle.st_reading.specs.Reading.{Label}
 use Rattle.st_reading.specs.Spelling.{OneName, one_name, Items, no_items, item_more, Row, row, Row2, row2}
-use Rattle.typing_laws.proofs.Standing.{Stand, Meet, meet}
+use Rattle.typing_laws.proofs.Standing.{Stand, meet}
 use Rattle.typing_laws.proofs.Laying.{LabelLaid, InRow}
 
 -- what tokens spell lies where these stand

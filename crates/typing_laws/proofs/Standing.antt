@@ -1,5 +1,5 @@
 -- Tokens of a text stand at rising places, and its names are ASCII.
-use Rattle.std.proofs.Common.{◌≡◌, ℕ, suc, ◌<◌, ◌≤◌, true, List, [], ◌∷◌, ◌++◌, arith}
+use Rattle.std.proofs.Common.{◌≡◌, ℕ, suc, ◌≤◌, true, List, [], ◌∷◌, ◌++◌, arith}
 use Rattle.st_tokens.specs.Stream.{◌++>◌, Lexeme, Stream, ends, first_place, IsRising, AreThere, text_stream}
 use Rattle.st_tokens.proofs.Rising.{starts_rise}
 use Rattle.st_tokens.proofs.Shifting.{tokens_are_there}

@@ -1,7 +1,6 @@
 -- The faults of statements are rules of typing, in text order.
-use Rattle.std.proofs.Common.{◌≡◌, ℕ, suc, ◌+◌, ◌*◌, ◌-◌, ◌^◌, ◌<◌, ◌≤◌, Bool, true, false, cond, nat_lt, nat_eq, List, [], ◌∷◌, ◌++◌, length, refl, sym, ap, ◌∙◌, arith, inl, inr, Option, Some, None, Result, Ok, Err, append-nil, append_assoc}
+use Rattle.std.proofs.Common.{◌≡◌, ℕ, suc, ◌+◌, ◌-◌, ◌^◌, ◌<◌, Bool, true, false, nat_lt, nat_eq, List, [], ◌∷◌, ◌++◌, length, refl, arith, inr, Option, Some, None, Result, Ok, Err, append-nil, append_assoc}
 use Rattle.std.proofs.lemmas.Bool.Decides.{nat_tests}
-use Rattle.st_tokens.specs.declared.limit.LimitKind.TheVariants as limits
 use Rattle.st_reading.specs.Reading.{Label}
 use Rattle.st_program.specs.Tree.{Pieces}
 use Rattle.spl_parser.specs.ExpressionTree.{Expr}
@@ -12,20 +11,18 @@ use Rattle.spl_typer.specs.declared.fault.TypeFault.TheVariants as faults
 use Rattle.spl_typer.specs.declared.statement.Here.{Here}
 use Rattle.spl_typer.specs.Scope.{Known, find}
 use Rattle.spl_typer.specs.Told.{Tells}
-use Rattle.spl_typer.specs.Modest.{RowModest}
 use Rattle.spl_typer.specs.Walk.{State, is_declared, next_location, next_occurrence}
 use Rattle.spl_typer.specs.Statements.{is_target, pieces_along}
 use Rattle.spl_typer.specs.Groups.{grouped}
 use Rattle.spl_typer.specs.Walking.{fresh, beneath, some_statement, some_body}
 use Rattle.spl_typer.specs.StatementRules.{unless, where_true, test_faults, target_faults, counter_faults, side_faults, and_known, same_faults, targets_faults, sides_faults, assign_faults, piece_faults, pieces_faults, other_faults, row_pieces_faults, faults_of, limit_faults, twice, own_location, behind_location, location_faults, occurrence_faults, begins, behind, behind_row, behind_body, statement_faults, action_faults, branch_faults, row_faults, bodies_faults, body_faults}
 use Rattle.spl_typer.proofs.PartTells.{Any, row_tells}
-use Rattle.typing_laws.specs.Laws.{IsRule}
 use Rattle.typing_laws.proofs.Laying.{ExprLaid, LabelLaid, InRow, SomeStatements, SomeBodies, StatementLaid, ActionLaid, BranchLaid, StatementsLaid, BodyLaid, BodiesLaid}
 use Rattle.typing_laws.proofs.Modesty.{row_modest}
 use Rattle.typing_laws.proofs.Ordering.{Ordered, ordered_within, ordered_from, ordered_to, ordered_append, alone, alone_where, alone_unless, widened}
 use Rattle.typing_laws.proofs.ExpressionFaults.{expression_ordered, test_ordered, side_ordered}
 use Rattle.typing_laws.proofs.GroupFaults.{group_ordered}
-use Rattle.typing_laws.proofs.Counting.{Room, room_behind, room_less, statement_grows, row_grows, some_grow, body_grows}
+use Rattle.typing_laws.proofs.Counting.{Room, room_behind, room_less, statement_grows, some_grow, body_grows}
 
 -- two rules at one place
 both : (p : ℕ) (a b : Bool) (f g : TypeFault) → Ordered p (suc p) (f ∷ g ∷ []) → Ordered p (suc p) (where_true a f ++ where_true b g)

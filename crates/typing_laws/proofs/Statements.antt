@@ -1,15 +1,14 @@
 -- Statements that tokens spell lie where these stand.
-use Rattle.std.proofs.Common.{◌≡◌, ℕ, zero, suc, ◌<◌, ◌≤◌, Bool, true, false, List, [], ◌∷◌, ◌++◌, Option, Some, None, refl, arith}
+use Rattle.std.proofs.Common.{ℕ, zero, suc, ◌≤◌, Bool, true, false, List, [], ◌∷◌, ◌++◌, Some, None, refl, arith}
 use Rattle.st_tokens.specs.Stream.{Lexeme}
 use Rattle.st_reading.specs.declared.mark.Mark.TheVariants as marks
-use Rattle.st_reading.specs.Reading.{Label, label_of}
 use Rattle.st_reading.specs.Spelling.{OneName, Row, row, Row2, row2}
 use Rattle.spl_parser.specs.ExpressionTree.{Expr}
-use Rattle.spl_parser.specs.ProgramTree.{Statement, stated, statements, Branch, no_branch, branch, conditional, Action, skip, critical, noncritical, assign, assign_all, await, request, release, while_do, forever, block, select, cooperate, group, Statements, no_statements, followed, Body, body, Bodies, bodies}
+use Rattle.spl_parser.specs.ProgramTree.{Statement, stated, statements, Action, Statements, no_statements, followed, Body, body, bodies}
 use Rattle.spl_parser.specs.Grammar.{IsRightSide, right_side, IsBranch, without, with_else, IsBody, unnamed, ended, IsChild, child, IsBare, s_assign, s_assign_all, s_skip, s_critical, s_noncritical, s_await, s_request, s_release, s_if, s_while, s_loop, s_block, s_select, s_cooperate, s_group, IsStatement, unlabelled, labelled, Low}
-use Rattle.typing_laws.proofs.Standing.{Stand, Meet, meet, stand_to, first_to}
-use Rattle.typing_laws.proofs.Laying.{ExprLaid, LabelLaid, InRow, Outside, SomeStatements, SomeBodies, StatementLaid, ActionLaid, BranchLaid, StatementsLaid, BodyLaid, BodiesLaid}
-use Rattle.typing_laws.proofs.Expressions.{Lay, laid_to, laid_from}
+use Rattle.typing_laws.proofs.Standing.{Stand, meet, stand_to, first_to}
+use Rattle.typing_laws.proofs.Laying.{ExprLaid, LabelLaid, InRow, SomeStatements, SomeBodies, StatementLaid, ActionLaid, BranchLaid, StatementsLaid, BodyLaid, BodiesLaid}
+use Rattle.typing_laws.proofs.Expressions.{Lay, laid_from}
 use Rattle.typing_laws.proofs.Rows.{Lays, Earlier, row_lays, row2_lays, name_lays, label_earlier}
 
 abbrev pub Placed : Bool → Statement → ℕ → ℕ → Type 0
@@ -75,7 +74,7 @@ module _ (value : List Lexeme → Expr → Type 0) (value_lays : Lay value) wher
           behind = h.0;
           laid = (
             row2_lays marks.Comma OneName LabelLaid name_lays label_earlier a targets (suc t.start) w.start (stand_to (suc t.start) m.mid w.start a (omega (arith, m.second.0, m.second.2.0, m.second.2.2.0)) m.first) ra,
-            row2_lays marks.Comma value ExprLaid value_lays laid_from b values (suc w.start) to (first_to (suc w.start) to b (z ∷ []) n) rb
+            row2_lays marks.Comma value ExprLaid value_lays laid_from b values (suc w.start) to (first_to (suc w.start) to b (z ∷ []) n) rb,
           );
         }
     bare_lays inner place ts x from to h (s_skip i t s) = record { behind = h.0; laid = h.2 }
@@ -91,10 +90,11 @@ module _ (value : List Lexeme → Expr → Type 0) (value_lays : Lay value) wher
         record {
           behind = h.0;
           laid = (
-            u.start, n.mid,
+            u.start,
+            n.mid,
             value_lays a e (suc t.start) u.start (stand_to (suc t.start) m.mid u.start a m.second.0 m.first) va,
             statement_earlier inner y u.start (suc u.start) n.mid (omega arith) (low_lays inner b y (suc u.start) n.mid n.first lb),
-            branch_lays inner c z n.mid to (first_to n.mid to c (v ∷ []) k) bc
+            branch_lays inner c z n.mid to (first_to n.mid to c (v ∷ []) k) bc,
           );
         }
     bare_lays inner place ts x from to h (s_while t u a b e y s va eu lb) =
@@ -102,9 +102,10 @@ module _ (value : List Lexeme → Expr → Type 0) (value_lays : Lay value) wher
         record {
           behind = h.0;
           laid = (
-            tt, u.start,
+            tt,
+            u.start,
             value_lays a e (suc t.start) u.start (stand_to (suc t.start) m.mid u.start a m.second.0 m.first) va,
-            statement_earlier false y u.start (suc u.start) to (omega arith) (low_lays false b y (suc u.start) to m.second.2 lb)
+            statement_earlier false y u.start (suc u.start) to (omega arith) (low_lays false b y (suc u.start) to m.second.2 lb),
           );
         }
     bare_lays inner place ts x from to h (s_loop t u v b y s eu ev lb) =
@@ -118,7 +119,7 @@ module _ (value : List Lexeme → Expr → Type 0) (value_lays : Lay value) wher
           laid = (
             tt,
             statements_earlier false (statements xs) (suc t.start) (suc u.start) to (omega (arith, h.2.0))
-            (statements_laid false xs (suc u.start) to (row2_lays marks.Either (low false) (Placed false) (low_lays false) (statement_earlier false) a xs (suc u.start) to (first_to (suc u.start) to a (v ∷ []) m) r))
+                (statements_laid false xs (suc u.start) to (row2_lays marks.Either (low false) (Placed false) (low_lays false) (statement_earlier false) a xs (suc u.start) to (first_to (suc u.start) to a (v ∷ []) m) r)),
           );
         }
     bare_lays inner place ts x from to h (s_cooperate t u a xs s r e) =

@@ -1,6 +1,5 @@
 -- A text's program is refused for the lowest rule that is broken at the first place.
-use Rattle.std.proofs.Common.{◌≡◌, ℕ, List, [], Result, Ok, Err}
-use Rattle.spl_parser.specs.Theorems.{Spells}
+use Rattle.std.proofs.Common.{ℕ, List, Result, Ok, Err}
 use Rattle.spl_parser.proofs.ProgramTheorems.{what_is_read_is_spelled}
 use Rattle.spl_typer.specs.declared.fault.TypeFault.{TypeFault}
 use Rattle.spl_typer.specs.Told.{Tells}

@@ -7,7 +7,7 @@ use Rattle.spl_parser.specs.ProgramTree.{Program}
 use Rattle.spl_parser.specs.Parsing.{parsed}
 use Rattle.spl_typer.specs.declared.fault.TypeFault.{TypeFault}
 use Rattle.spl_typer.specs.declared.fault.TypeFault.TheVariants as faults
-use Rattle.spl_typer.specs.Programs.{Typed, typing}
+use Rattle.spl_typer.specs.Programs.{typing}
 use Rattle.spl_typer.specs.ProgramRules.{program_faults}
 use Rattle.spl_typer.specs.Placed.{IsLeast}
 

@@ -1,12 +1,12 @@
 use super::*;
 use st_form::{Change, CondName, Form, Part, Premise, TransName};
 use st_linear::Lin;
+use std::alloc::Global;
 use std::test::Fail;
 use transition_system::Mode;
 
 /// A mode from location 0 to 1 that lowers variable 0.
-fn step(rt: &HostRuntime) -> Result<Mode, Fail> {
-    let alloc = rt.alloc();
+fn step(alloc: Global) -> Result<Mode, Fail> {
     let lower = Lin::variable(alloc, 0)?.add(alloc, &Lin::constant_of(alloc, -1)?)?;
     Ok(Mode {
         at: vec![in alloc; 0]?,
@@ -20,12 +20,8 @@ fn step(rt: &HostRuntime) -> Result<Mode, Fail> {
     })
 }
 
-/// Each call appends one condition; a fall reads the first number behind the mode.
-#[test]
-fn conditions_are_appended(rt: HostRuntime) -> Result<(), Fail> {
-    let alloc = rt.alloc();
-    let mode = step(&rt)?;
-    let name = CondName {
+fn name() -> CondName {
+    CondName {
         step: 0,
         premise: Premise::Move,
         node: Some(1),
@@ -34,39 +30,68 @@ fn conditions_are_appended(rt: HostRuntime) -> Result<(), Fail> {
             part: Part::Whole,
         }),
         mode: 1,
+    }
+}
+
+/// The constant of the last row of the first case.
+fn fall(shown: &Form) -> Option<i128> {
+    let Form::Or(cases) = shown else {
+        return None;
     };
+    let Form::And(parts) = cases.first()? else {
+        return None;
+    };
+    let Form::Row(row) = parts.last()? else {
+        return None;
+    };
+    Some(row.constant())
+}
+
+#[test]
+fn an_implication_is_appended(rt: HostRuntime) -> Result<(), Fail> {
+    let alloc = rt.alloc();
     let x = Form::Row(Lin::variable(alloc, 0)?);
     let mut out = Conditions::new(alloc);
-    entails(alloc, &[], &Form::At(0), &x, name, &mut out)?;
+    entails(alloc, &[], &Form::At(0), &x, name(), &mut out)?;
+    assert_eq!(rt; out.items.len(), 1);
+    Ok(())
+}
+
+/// Behind the mode control is at the location that it enters.
+#[test]
+fn a_mode_enters_its_location(rt: HostRuntime) -> Result<(), Fail> {
+    let alloc = rt.alloc();
+    let mode = step(alloc)?;
+    let mut out = Conditions::new(alloc);
     triple(
         alloc,
         &mode,
         &[],
-        &x,
+        &Form::At(0),
         &Form::At(1),
         &Form::False,
-        name,
+        name(),
         &mut out,
     )?;
-    let fall = (Lin::variable(alloc, 0)?, Lin::variable(alloc, 0)?);
+    assert_eq!(rt; out.items.len(), 1);
+    assert!(rt; matches!(&out.items[0].shown, Form::True));
+    Ok(())
+}
+
+/// A fall reads its first number behind the mode, which lowers it.
+#[test]
+fn a_fall_looks_behind_the_mode(rt: HostRuntime) -> Result<(), Fail> {
+    let alloc = rt.alloc();
+    let mode = step(alloc)?;
+    let mut out = Conditions::new(alloc);
     let case = Case {
         now: Form::True,
         behind: Form::At(1),
-        falls: vec![in alloc; fall]?,
+        falls: vec![in alloc; (Lin::variable(alloc, 0)?, Lin::variable(alloc, 0)?)]?,
     };
     let cases = vec![in alloc; case]?;
-    moved(alloc, &mode, &[], &x, &cases, name, &mut out)?;
-    assert_eq!(rt; out.items.len(), 3);
-    assert!(rt; matches!(&out.items[1].shown, Form::True));
-    match &out.items[2].shown {
-        Form::Or(parts) => match &parts[0] {
-            Form::And(parts) => match &parts[1] {
-                Form::Row(row) => assert_eq!(rt; row.constant(), 1),
-                _ => panic!(rt; "no row"),
-            },
-            _ => panic!(rt; "no conjunction"),
-        },
-        _ => panic!(rt; "no cases"),
-    }
+    moved(alloc, &mode, &[], &Form::True, &cases, name(), &mut out)?;
+    assert_eq!(rt; out.items.len(), 1);
+    assert_eq!(rt; fall(&out.items[0].shown), Some(1));
     Ok(())
 }

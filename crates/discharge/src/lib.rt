@@ -1,0 +1,17 @@
+//! The conditions of a proof, discharged in parallel: blocks are checked, or certificates searched for, by any number of
+//! workers, with the answer of one.
+//!
+//! A range of conditions is cut into halves that run by a fork and a join (Blumofe and others, *Cilk: an efficient
+//! multithreaded runtime system*, 1995), until each piece has one worker or one condition.
+#![tactic(auto)]
+
+mod checking;
+mod searching;
+
+pub use cert_text::Block;
+pub use checking::check_all;
+pub use control_states::Components;
+pub use linear_prover::Verdict;
+pub use searching::decide_all;
+pub use st_form::{Condition, Variable};
+pub use st_outside::Gate;

@@ -15,8 +15,10 @@ mod scope;
 mod statement;
 mod walk;
 
+pub use expr::typed_expression;
 pub use fault::TypeFault;
 pub use program::type_program;
+pub use scope::Known;
 
 #[cfg(test)]
 mod tests;

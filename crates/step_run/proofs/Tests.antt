@@ -11,9 +11,6 @@ use Rattle.farkas_leaf.specs.Leaf as of_rows
 use Rattle.farkas_leaf.specs.Lines as of_lines
 use Rattle.farkas_check.specs.Problem.{Setting, Problem, division, rows_of, lines_of, first_problem}
 use Rattle.farkas_check.specs.Valid.{There, Valid, AreValid, IsCertificate}
-use Rattle.st_form.specs.Condition.{Implication}
-use Rattle.small_programs.specs.CertificateText.{block_from}
-use Rattle.step_run.specs.Check.{block_by, block_tested}
 use Rattle.step_run.specs.Valid.{rise_within, has_none, closes_rows, is_signed, are_signed, closes_lines, there, is_valid, are_valid, is_certificate}
 
 both : (a b : Bool) → (a && b) ≡ true → (a ≡ true) × (b ≡ true)
@@ -162,14 +159,7 @@ by_both true b f g = sym (f refl)
 by_both false true f g = g refl
 by_both false false f g = refl
 
--- a block that was read and checked
-pub tested : (k : Setting) (number : ℕ) (c : Implication) (text : List ℕ) (t : Tree) (rest : List ℕ) (valid : Bool) → block_from number text ≡ Some (t, rest)
-    → (IsTrue valid ↔ IsCertificate k c.given c.shown t) → block_tested k number c text ≡ Some (valid, rest)
-unfolding block_tested
-tested k number c text t rest valid is exact =
-    let same = by_both (is_certificate k c.given c.shown t) valid (λ e. exact.1 (certificate_is k c.given c.shown t e)) (λ e. certificate_of k c.given c.shown t (exact.0 e)) in
-    ap (block_by k c) is ∙ ap (λ (b : Bool). Some (b, rest)) same
-
-pub untested : (k : Setting) (number : ℕ) (c : Implication) (text : List ℕ) → block_from number text ≡ None → block_tested k number c text ≡ None
-unfolding block_tested
-untested k number c text is = ap (block_by k c) is
+-- the test of a certificate that was checked
+pub tested : (k : Setting) (given shown : Formula) (t : Tree) (valid : Bool) → (IsTrue valid ↔ IsCertificate k given shown t) → is_certificate k given shown t ≡ valid
+tested k given shown t valid exact =
+    by_both (is_certificate k given shown t) valid (λ e. exact.1 (certificate_is k given shown t e)) (λ e. certificate_of k given shown t (exact.0 e))

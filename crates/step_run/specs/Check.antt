@@ -1,41 +1,42 @@
 -- The certificates of conditions, block by block.
-use Rattle.std.specs.Prelude.{ℕ, ◌+◌, Bool, false, List, [], ◌∷◌, length, replicate, Option, Some, None, if◌then◌else◌}
+use Rattle.std.specs.Prelude.{ℕ, ◌+◌, false, true, List, [], ◌∷◌, Option, Some, None, if◌then◌else◌}
 use Rattle.st_form.specs.Condition.{Implication}
-use Rattle.st_form.specs.declared.variables.Variable.{Variable}
-use Rattle.st_certificate.specs.Tree.{Tree}
 use Rattle.farkas_check.specs.Problem.{Setting}
-use Rattle.farkas_check.specs.PlainProblem.{setting}
-use Rattle.small_programs.specs.Program.{Program}
-use Rattle.small_programs.specs.Sound.{control}
-use Rattle.small_programs.specs.CertificateText.{block_from}
+use Rattle.cert_text.specs.Answer.{Answer, block, need, no_more, malformed_at, limit_at}
+use Rattle.cert_text.specs.Held.{Held, answer_of, taken_from}
+use Rattle.step_run.specs.declared.reasons.Reason.{Reason}
+use Rattle.step_run.specs.declared.reasons.Reason.TheVariants.{Absent, Malformed, OverLimit, NotValid}
 use Rattle.step_run.specs.Valid.{is_certificate}
+
+-- a whole text, before its first block
+abbrev pub whole_text : List ℕ → Held
+whole_text text = record { bytes = text; place = 0; number = 1; second = false; finished = true }
 
 -- all blocks are valid, and this is left of the text; or the condition of this number has none that is valid
 pub data Checked : Type 0 where
-  all_valid : List ℕ → Checked
-  malformed : ℕ → Implication → Checked
-  not_valid : ℕ → Implication → Checked
+  all_valid : Held → Checked
+  refused : ℕ → Implication → Reason → Checked
 
-abbrev pub block_by : Setting → Implication → Option (Tree × List ℕ) → Option (Bool × List ℕ)
-block_by k c None = None
-block_by k c (Some x) = Some (is_certificate k c.given c.shown x.0, x.1)
+-- why the next block discharges no condition, if it doesn't; a whole text never needs more
+abbrev pub reason_of : Setting → Implication → Answer → Option Reason
+reason_of k c (block n t) = if is_certificate k c.given c.shown t then None else Some NotValid
+reason_of k c no_more = Some Absent
+reason_of k c (malformed_at place) = Some Malformed
+reason_of k c (limit_at place) = Some OverLimit
+reason_of k c need = Some Malformed
 
--- the block of a number: whether it is valid for the condition, and what stands behind it
-unfoldable pub block_tested : Setting → ℕ → Implication → List ℕ → Option (Bool × List ℕ)
-block_tested k number c text = block_by k c (block_from number text)
+unfoldable pub block_tested : Setting → Implication → Held → Option Reason
+block_tested k c h = reason_of k c (answer_of h)
 
-abbrev pub block_judged : ℕ → Implication → (List ℕ → Checked) → Option (Bool × List ℕ) → Checked
-block_judged number c more None = malformed number c
-block_judged number c more (Some x) = if x.0 then more x.1 else not_valid number c
+-- what is left behind the next block
+unfoldable pub behind_block : Held → Held
+behind_block h = taken_from h
+
+abbrev pub block_judged : ℕ → Implication → Checked → Option Reason → Checked
+block_judged number c more None = more
+block_judged number c more (Some reason) = refused number c reason
 
 -- conditions from a number on against the text of their blocks
-abbrev pub checked_from : Setting → ℕ → List Implication → List ℕ → Checked
-checked_from k number [] text = all_valid text
-checked_from k number (c ∷ cs) text = block_judged number c (λ rest. checked_from k (number + 1) cs rest) (block_tested k number c text)
-
-abbrev pub number_variable : Variable
-number_variable = record { input = false; truth = false }
-
--- what the conditions of a program are about
-abbrev pub setting_of : Program → Setting
-setting_of p = setting (control p) (replicate (length p.variables) number_variable)
+abbrev pub checked_from : Setting → ℕ → List Implication → Held → Checked
+checked_from k number [] h = all_valid h
+checked_from k number (c ∷ cs) h = block_judged number c (checked_from k (number + 1) cs (behind_block h)) (block_tested k c h)

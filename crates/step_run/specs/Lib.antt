@@ -10,3 +10,10 @@ pub mod Valid
 pub mod Writing
 pub mod Number
 pub mod CheckedView
+pub mod Refusals
+pub mod Source
+pub mod SourceView
+pub mod ProofText
+pub mod GoalView
+pub mod Conditions
+pub mod ConditionsView

@@ -1,21 +1,29 @@
 -- The plan of a run for its words: which files it asks for, and how it ends.
-use Rattle.std.specs.Prelude.{ℕ, ◌-◌, List, [], ◌∷◌, ◌≡◌, ◌==◌, length, Option, Some, None, Bool, true, false, not, ◌&&◌, codes, map, string_bytes}
+use Rattle.std.specs.Prelude.{ℕ, List, [], ◌∷◌, ◌≡◌, ◌==◌, length, Option, Some, None, Result, Ok, Err, Bool, true, false, not, ◌&&◌, codes, map, string_bytes}
 use Rattle.std.specs.declared.string.String.{String}
 use Rattle.std.specs.declared.alloc.Global.{Global}
 use Rattle.std.specs.List.{slice_index_or}
 use Rattle.std.specs.Str.{bytes_eq}
-use Rattle.step_run.specs.declared.status.Status.TheVariants.{Proved, NotProved, Words, ProgramRefused, ProofRefused, TrailingCerts, Limit}
+use Rattle.step_run.specs.declared.status.Status.TheVariants.{Proved, NotProved, Words, ProgramRefused, ProofRefused, TrailingCerts, Limit, Memory}
 use Rattle.step_run.specs.declared.status.FileRole.{FileRole}
 use Rattle.step_run.specs.declared.status.FileRole.TheVariants.{Program as TheProgram, Proof, Certificates}
 use Rattle.st_form.specs.Condition.{Implication}
-use Rattle.small_programs.specs.Program.{Program}
-use Rattle.small_programs.specs.ProgramText.{program_spelled}
-use Rattle.small_programs.specs.ProofText.{Goal, goal_spelled}
-use Rattle.small_programs.specs.Conditions.{conditions_of}
-use Rattle.small_programs.specs.CertificateText.{skipped}
-use Rattle.step_run.specs.Check.{Checked, all_valid, malformed, not_valid, checked_from, setting_of}
+use Rattle.st_tokens.specs.declared.limit.LimitKind.{LimitKind}
+use Rattle.st_tokens.specs.declared.limit.LimitKind.TheVariants as limits
+use Rattle.vc_generator.specs.declared.faults.VcFault.{VcFault}
+use Rattle.vc_generator.specs.declared.faults.VcFault.TheVariants as faults
+use Rattle.vc_generator.specs.Refusing.{refusals}
+use Rattle.spl_typer.specs.Programs.{Typed}
+use Rattle.cert_text.specs.Blank.{first_place, past_blanks}
+use Rattle.step_run.specs.declared.refusals.Refusal.{Refusal}
+use Rattle.step_run.specs.declared.refusals.Refusal.TheVariants as texts
+use Rattle.step_run.specs.Source.{Source, source_spelled}
+use Rattle.step_run.specs.ProofText.{Goal, goal_spelled}
+use Rattle.step_run.specs.Conditions.{drafts, conditions_of, setting_of}
+use Rattle.step_run.specs.declared.reasons.Reason.{Reason}
+use Rattle.step_run.specs.Check.{whole_text, Checked, all_valid, refused, checked_from}
 use Rattle.step_run.specs.Plan.{Outcome, Plan, done, ask}
-use Rattle.step_run.specs.Report.{line, condition_name, not_proved_text, trailing_text, proved_text}
+use Rattle.step_run.specs.Report.{line, program_refused_text, limit_text, condition_name, not_proved_text, trailing_text, proved_text}
 
 -- the bytes of each word
 abbrev pub words_of : List (String Global) → List (List ℕ)
@@ -44,53 +52,67 @@ names_file true words Certificates name = word words 4 ≡ name
 abbrev pub NamesFile : List (List ℕ) → FileRole → List ℕ → Type 0
 NamesFile words = names_file (is_check words) words
 
-abbrev pub too_long : Outcome
-too_long = record { status = Limit; text = line (codes "limit: Text 4194304") }
-
-abbrev pub too_long_certificates : Outcome
-too_long_certificates = record { status = Limit; text = line (codes "limit: Certificates 268435456") }
+abbrev pub limited : LimitKind → Outcome
+limited kind = record { status = Limit; text = limit_text kind }
 
 abbrev pub words_refused : Outcome
 words_refused = record { status = Words; text = line (codes "words refused\nusage: step check PROGRAM PROOF CERTS") }
 
-abbrev pub program_refused : Outcome
-program_refused = record { status = ProgramRefused; text = line (codes "program refused: Unsupported at 0") }
+-- why no program is spelled; want of memory has no text, and no text of a program gives it
+abbrev pub program_refused : Refusal → Outcome
+program_refused (texts.Fault kind place) = record { status = ProgramRefused; text = program_refused_text kind place }
+program_refused (texts.Limit kind) = limited kind
+program_refused texts.Memory = record { status = Memory; text = [] }
 
 abbrev pub proof_refused : Outcome
 proof_refused = record { status = ProofRefused; text = line (codes "proof refused: Unsupported at 0") }
 
--- what is left behind the last block, and how long the whole text is
-abbrev pub ending : ℕ → List ℕ → ℕ → List ℕ → Outcome
-ending conditions goal whole [] = record { status = Proved; text = proved_text conditions goal }
-ending conditions goal whole (b ∷ bs) = record { status = TrailingCerts; text = trailing_text (whole - length (b ∷ bs)) }
+-- the limit that the conditions of a goal pass; want of memory passes none, and no list of conditions gives it
+abbrev pub limit_of : VcFault → LimitKind
+limit_of faults.TooMany = limits.Conditions
+limit_of faults.TooWide = limits.Atoms
+limit_of faults.TooHeavy = limits.Weight
+limit_of faults.Memory = limits.Weight
 
-abbrev pub refused_outcome : Program → Goal → ℕ → Implication → List ℕ → Outcome
-refused_outcome p g n c reason = record {
+-- behind the last block, where what isn't blank stands at this place
+abbrev pub ending : ℕ → List ℕ → Option ℕ → Outcome
+ending conditions goal None = record { status = Proved; text = proved_text conditions goal }
+ending conditions goal (Some place) = record { status = TrailingCerts; text = trailing_text place }
+
+abbrev pub refused_outcome : Typed → List ℕ → ℕ → Implication → Reason → Outcome
+refused_outcome p goal n c reason = record {
   status = NotProved n;
-  text = not_proved_text n g.name (condition_name p.body c.name.trans c.name.mode) reason;
+  text = not_proved_text n goal (condition_name p.names c.name.trans c.name.mode) reason;
 }
 
-abbrev pub outcome_of_checked : Program → Goal → ℕ → ℕ → Checked → Outcome
-outcome_of_checked p g conditions whole (all_valid rest) = ending conditions g.name whole (skipped rest)
-outcome_of_checked p g conditions whole (malformed n c) = refused_outcome p g n c (codes "malformed")
-outcome_of_checked p g conditions whole (not_valid n c) = refused_outcome p g n c (codes "not valid")
+abbrev pub outcome_of_checked : Typed → List ℕ → ℕ → Checked → Outcome
+outcome_of_checked p goal conditions (all_valid h) = ending conditions goal (first_place (past_blanks h))
+outcome_of_checked p goal conditions (refused n c reason) = refused_outcome p goal n c reason
 
--- the outcome for a program, its goal and the text of the certificates
-unfoldable pub judged : Program → Goal → List ℕ → Outcome
-judged p g text =
-    outcome_of_checked p g (length (conditions_of p g.claim)) (length text) (checked_from (setting_of p) 1 (conditions_of p g.claim) text)
+-- the outcome for a program, the name of its goal, the goal's conditions and the text of the certificates
+unfoldable pub judged : Typed → List ℕ → List Implication → List ℕ → Outcome
+judged p goal conditions text = outcome_of_checked p goal (length conditions) (checked_from (setting_of p) 1 conditions (whole_text text))
 
-abbrev pub plan_of_goal : List (List ℕ) → Program → Option Goal → Plan
+abbrev pub plan_of_blocks : List (List ℕ) → Typed → List ℕ → List Implication → Plan
+plan_of_blocks words p goal conditions =
+    ask Certificates (word words 4) 268435456 (limited limits.Certificates) (λ bytes. done (judged p goal conditions bytes))
+
+-- the conditions have to be within the limits
+abbrev pub plan_of_conditions : List (List ℕ) → Typed → Goal → Option VcFault → Plan
+plan_of_conditions words p g (Some fault) = done (limited (limit_of fault))
+plan_of_conditions words p g None = plan_of_blocks words p g.name (conditions_of p g)
+
+abbrev pub plan_of_goal : List (List ℕ) → Typed → Option Goal → Plan
 plan_of_goal words p None = done proof_refused
-plan_of_goal words p (Some g) = ask Certificates (word words 4) 268435456 too_long_certificates (λ bytes. done (judged p g bytes))
+plan_of_goal words p (Some g) = plan_of_conditions words p g (refusals [] (drafts p g))
 
-abbrev pub plan_of_program : List (List ℕ) → Option Program → Plan
-plan_of_program words None = done program_refused
-plan_of_program words (Some p) = ask Proof (word words 3) 4194304 too_long (λ bytes. plan_of_goal words p (goal_spelled p.variables bytes))
+abbrev pub plan_of_program : List (List ℕ) → Result Source Refusal → Plan
+plan_of_program words (Err refusal) = done (program_refused refusal)
+plan_of_program words (Ok s) = ask Proof (word words 3) 4194304 (limited limits.Text) (λ bytes. plan_of_goal words s.program (goal_spelled s.known bytes))
 
 abbrev pub plan_of_words : Bool → List (List ℕ) → Plan
 plan_of_words false words = done words_refused
-plan_of_words true words = ask TheProgram (word words 2) 4194304 too_long (λ bytes. plan_of_program words (program_spelled bytes))
+plan_of_words true words = ask TheProgram (word words 2) 4194304 (limited limits.Text) (λ bytes. plan_of_program words (source_spelled bytes))
 
 -- the run that the words ask for
 abbrev pub plan_of : List (List ℕ) → Plan

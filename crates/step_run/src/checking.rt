@@ -1,187 +1,171 @@
 //! The certificates of conditions, block by block, and the outcome.
 
-ghost use Rattle.std.specs.Prelude.{◌≡◌, ◌+◌, ◌-◌, ◌^◌, ◌<◌, ◌≤◌, map, length, replicate, IfOk, drop};
+ghost use Rattle.std.specs.Prelude.{◌≡◌, ◌+◌, ◌-◌, ◌^◌, ◌<◌, ◌≤◌, map, length, OnOk, IfOk, drop};
 ghost use Rattle.st_form.specs.Plain.{plain, plain_condition};
-ghost use Rattle.farkas_check.specs.PlainProblem.{setting};
-ghost use Rattle.small_programs.specs.Views.{program_of, statement_of};
-ghost use Rattle.small_programs.specs.GoalView.{goal_of};
-ghost use Rattle.small_programs.specs.Fit.{IsComparison, IsFitProgram};
-ghost use Rattle.small_programs.specs.Sound.{AreNarrow};
-ghost use Rattle.std.specs.Option.{option_map};
 ghost use Rattle.farkas_check.specs.Limits.{IsNarrow};
-ghost use Rattle.step_run.specs.Check.{block_tested, checked_from, setting_of, number_variable};
+ghost use Rattle.farkas_check.specs.PlainProblem.{setting};
+ghost use Rattle.step_run.specs.SourceView.{source_view};
+ghost use Rattle.step_run.specs.Conditions.{AreNarrow};
+ghost use Rattle.step_run.specs.Check.{block_tested, behind_block, checked_from};
 ghost use Rattle.step_run.specs.CheckedView.{checked_of};
-ghost use Rattle.step_run.specs.Outcome.{judged, refused_outcome, outcome_of_checked, ending};
-ghost use Rattle.small_programs.specs.CertificateText.{skipped};
+ghost use Rattle.step_run.specs.Outcome.{judged, outcome_of_checked, refused_outcome, ending};
 ghost use Rattle.step_run.specs.Plan.{EndsAs};
 
+use crate::reasons::Reason;
+use crate::source::Source;
 use crate::{Ended, Status, report};
+use cert_text::{CertReader, NextBlock};
+use control_facts::components;
 use control_states::Components;
 use farkas_check::check;
-use small_programs::{
-    Goal, Program, SmallFault, invariance_conditions, locations, read_block, skipped,
-};
 use st_form::{Condition, Variable};
 use st_memory::Memory;
+use st_program::Program;
 use std::alloc::Global;
 
 /// What the blocks of all conditions come to.
 #[derive(Drop)]
 pub enum Checked<'a> {
-    /// Each is valid, and this is left of the text.
-    AllValid(&'a [u8]),
-    /// The block of this number isn't one.
-    Malformed(u32, &'a Condition),
-    /// The block of this number isn't valid for its condition.
-    NotValid(u32, &'a Condition),
+    AllValid,
+    /// The block of this number doesn't discharge the condition.
+    Refused(u32, &'a Condition, Reason),
 }
 
-/// Whether the next block is valid for a condition, and what stands behind it; nothing where there is no block.
-fn next_block<'a>(
+/// Why the next block doesn't discharge a condition, if it doesn't.
+#[tactic(auto, using(crate::proofs::Blocks::behind_is))]
+fn next_block(
     alloc: Global,
     components: &Components,
     variables: &[Variable],
-    number: u32,
     condition: &Condition,
-    text: &'a [u8],
-) -> Result<Option<(bool, &'a [u8])>, Memory>
-    requires { IsNarrow (plain condition.now.given) × IsNarrow (plain condition.now.shown) }
-    ensures { IfOk result (λ o. option_map (λ x. (x.0, x.1.now)) o ≡ block_tested (setting components.now variables.now) number (plain_condition condition.now) text.now) }
+    reader: &mut CertReader,
+) -> Result<Option<Reason>, Memory>
+    requires number { reader.old.number < 2 ^ 32 - 1 }
+    requires given { IsNarrow (plain condition.now.given) }
+    requires shown { IsNarrow (plain condition.now.shown) }
+    ensures tested { IfOk result (λ o. o ≡ block_tested (setting components.now variables.now) (plain_condition condition.now) reader.old) }
+    ensures behind { OnOk result (reader.new ≡ behind_block reader.old) }
 {
-    match read_block(alloc, number, text) {
-        Ok((certificate, rest)) => {
-            let valid = check(alloc, components, variables, condition, &certificate)?;
-            Ok(Some((valid, rest)))
+    match reader.next_block()? {
+        NextBlock::Block(block) => {
+            let valid = check(alloc, components, variables, condition, &block.certificate)?;
+            if valid {
+                Ok(None)
+            } else {
+                Ok(Some(Reason::NotValid))
+            }
         }
-        Err(SmallFault::Unsupported) => Ok(None),
-        Err(SmallFault::Memory) => Err(Memory),
+        NextBlock::End => Ok(Some(Reason::Absent)),
+        NextBlock::CertLimit(_) => Ok(Some(Reason::OverLimit)),
+        NextBlock::Malformed(_) => Ok(Some(Reason::Malformed)),
+        NextBlock::Need => Ok(Some(Reason::Malformed)),
     }
 }
 
-/// Checks conditions against the text of their blocks, one after the other.
+/// Checks conditions against the blocks that a reader of a whole text holds, one after the other.
 fn check_blocks<'a>(
     alloc: Global,
     components: &Components,
     variables: &[Variable],
     conditions: &'a [Condition],
-    text: &'a [u8],
+    reader: &mut CertReader,
 ) -> Result<Checked<'a>, Memory>
-    requires few { length conditions.now ≤ 1000 }
+    requires few { length conditions.now ≤ 20000 }
     requires narrow { AreNarrow (map plain_condition conditions.now) }
-    ensures { IfOk result (λ r. checked_of r ≡ checked_from (setting components.now variables.now) 1 (map plain_condition conditions.now) text.now) }
+    requires number { reader.old.number ≤ 1 }
+    ensures { IfOk result (λ r. checked_of r reader.new ≡ checked_from (setting components.now variables.now) 1 (map plain_condition conditions.now) reader.old) }
 {
-    let mut rest = text;
     let mut number = 1u32;
     for condition in conditions {
-        match next_block(alloc, components, variables, number, condition, rest)? {
-            None => return Ok(Checked::Malformed(number, condition)),
-            Some((valid, behind)) => {
-                if !valid {
-                    return Ok(Checked::NotValid(number, condition));
-                }
-                rest = behind;
-            }
+        match next_block(alloc, components, variables, condition, reader)? {
+            None => number += 1,
+            Some(reason) => return Ok(Checked::Refused(number, condition, reason)),
         }
-        number += 1;
     }
-    Ok(Checked::AllValid(rest))
+    Ok(Checked::AllValid)
 }
 
-/// The outcome behind the last block.
+/// The outcome behind the last block, where what isn't blank stands at this place.
 fn ending(
     alloc: Global,
     conditions: usize,
     goal: &[u8],
-    whole: usize,
-    rest: &[u8],
+    trailing: Option<u64>,
 ) -> Result<Ended, Memory>
-    ensures { IfOk result (λ e. EndsAs e (ending conditions goal.now whole (skipped rest.now))) }
+    ensures { IfOk result (λ e. EndsAs e (ending conditions goal.now trailing)) }
 {
-    let left = skipped(rest);
-    if left.is_empty() {
-        Ok(Ended {
+    match trailing {
+        None => Ok(Ended {
             status: Status::Proved,
             text: report::proved(alloc, conditions as u64, goal)?,
-        })
-    } else {
-        let place = whole.saturating_sub(left.len());
-        Ok(Ended {
+        }),
+        Some(place) => Ok(Ended {
             status: Status::TrailingCerts,
-            text: report::trailing(alloc, place as u64)?,
-        })
+            text: report::trailing(alloc, place)?,
+        }),
     }
 }
 
 /// The outcome of a condition without a valid block.
 fn refused(
     alloc: Global,
-    program: &Program,
-    goal: &Goal,
+    source: &Source,
+    goal: &[u8],
     number: u32,
     condition: &Condition,
-    reason: &[u8],
+    reason: Reason,
 ) -> Result<Ended, Memory>
-    ensures { IfOk result (λ e. EndsAs e (refused_outcome (program_of program.now) (goal_of goal.now) number (plain_condition condition.now) reason.now)) }
+    ensures { IfOk result (λ e. EndsAs e (refused_outcome (source_view source.now).program goal.now number (plain_condition condition.now) reason)) }
 {
-    let name = report::condition_name(alloc, &program.body, &condition.name)?;
+    let name = report::condition_name(alloc, &source.names, &condition.name)?;
     Ok(Ended {
         status: Status::NotProved(number),
-        text: report::not_proved(alloc, number, goal.name, &name, reason)?,
+        text: report::not_proved(alloc, number, goal, &name, reason)?,
     })
 }
 
-/// The variables of a program: all are numbers.
-fn number_variables(alloc: Global, count: usize) -> Result<Vec<Variable>, Memory>
-    ensures { IfOk result (λ v. v.items ≡ replicate count number_variable) }
-{
-    Ok(vec![in alloc; Variable {
-        input: false,
-        truth: false
-    }; count]?)
-}
-
-/// The outcome of what the blocks come to.
+/// The outcome of what the blocks come to; the reader holds what is left of their text.
 fn outcome(
     alloc: Global,
-    program: &Program,
-    goal: &Goal,
+    source: &Source,
+    goal: &[u8],
     conditions: usize,
-    whole: usize,
     checked: Checked,
+    reader: &mut CertReader,
 ) -> Result<Ended, Memory>
-    ensures { IfOk result (λ e. EndsAs e (outcome_of_checked (program_of program.now) (goal_of goal.now) conditions whole (checked_of checked.entry))) }
+    ensures { IfOk result (λ e. EndsAs e (outcome_of_checked (source_view source.now).program goal.now conditions (checked_of checked.entry reader.old))) }
 {
     match checked {
-        Checked::AllValid(rest) => ending(alloc, conditions, goal.name, whole, rest),
-        Checked::Malformed(number, condition) => refused(
-            alloc,
-            program,
-            goal,
-            number,
-            condition,
-            b"malformed".as_slice(),
-        ),
-        Checked::NotValid(number, condition) => refused(
-            alloc,
-            program,
-            goal,
-            number,
-            condition,
-            b"not valid".as_slice(),
-        ),
+        Checked::AllValid => ending(alloc, conditions, goal, reader.trailing()),
+        Checked::Refused(number, condition, reason) => {
+            refused(alloc, source, goal, number, condition, reason)
+        }
     }
 }
 
-/// Checks a program and its goal against the text of certificates.
-pub fn judge(alloc: Global, program: &Program, goal: &Goal, text: &[u8]) -> Result<Ended, Memory>
-    requires program { IsFitProgram (program_of program.now) }
-    requires goal { IsComparison (plain goal.now.claim) }
-    ensures { IfOk result (λ e. EndsAs e (judged (program_of program.now) (goal_of goal.now) text.now)) }
+fn variables_of(program: &Program) -> &[Variable]
+    ensures { result.now ≡ program.now.variables }
 {
-    let conditions = invariance_conditions(alloc, program, &goal.claim)?;
-    let components = Components::one(alloc, locations(&program.body))?;
-    let names = program.variables.as_slice();
-    let variables = number_variables(alloc, names.len())?;
-    let checked = check_blocks(alloc, &components, &variables, &conditions, text)?;
-    outcome(alloc, program, goal, conditions.len(), text.len(), checked)
+    program.variables.as_slice()
+}
+
+/// Checks the conditions of a program's goal against the text of their certificates.
+pub fn judge(
+    alloc: Global,
+    source: &Source,
+    goal: &[u8],
+    conditions: &[Condition],
+    text: &[u8],
+) -> Result<Ended, Memory>
+    requires few { length conditions.now ≤ 20000 }
+    requires narrow { AreNarrow (map plain_condition conditions.now) }
+    ensures { IfOk result (λ e. EndsAs e (judged (source_view source.now).program goal.now (map plain_condition conditions.now) text.now)) }
+{
+    let components = components(alloc, &source.program)?;
+    let variables = variables_of(&source.program);
+    let mut reader = CertReader::new(alloc);
+    reader.push(text)?;
+    reader.finish();
+    let checked = check_blocks(alloc, &components, variables, conditions, &mut reader)?;
+    outcome(alloc, source, goal, conditions.len(), checked, &mut reader)
 }

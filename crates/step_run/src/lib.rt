@@ -3,8 +3,13 @@
 #![tactic(auto)]
 
 mod checking;
+mod claims;
+mod conditions;
 mod reading;
+mod reasons;
+mod refusals;
 mod report;
+mod source;
 mod status;
 mod top;
 mod words;

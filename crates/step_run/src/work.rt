@@ -1,26 +1,32 @@
 //! The work that the words ask for, up to the output text.
 
-ghost use Rattle.std.specs.Prelude.{◌≡◌, ◌+◌, ◌≤◌, ◌^◌, ◌<◌, Some, length, map, option_map, IfOk, true, vec_len};
+ghost use Rattle.std.specs.Prelude.{◌≡◌, ◌+◌, ◌≤◌, ◌^◌, ◌<◌, Some, Ok, length, map, option_map, IfOk, true};
 ghost use Rattle.st_outside.specs.Faults.{NoneFell};
-ghost use Rattle.small_programs.specs.Views.{program_of};
-ghost use Rattle.small_programs.specs.GoalView.{goal_of};
-ghost use Rattle.small_programs.specs.Fit.{IsComparison, IsFitProgram};
-ghost use Rattle.st_form.specs.Plain.{plain};
-ghost use Rattle.small_programs.specs.ProgramText.{program_spelled};
-ghost use Rattle.small_programs.specs.ProofText.{goal_spelled};
+ghost use Rattle.st_form.specs.Plain.{plain_condition};
 ghost use Rattle.step_run.specs.Asked.{Answers};
+ghost use Rattle.step_run.specs.Source.{IsSpelled, source_spelled};
+ghost use Rattle.step_run.specs.SourceView.{source_view};
+ghost use Rattle.step_run.specs.ProofText.{IsGoal, goal_spelled};
+ghost use Rattle.step_run.specs.GoalView.{goal_of};
+ghost use Rattle.step_run.specs.Conditions.{AreNarrow};
 ghost use Rattle.step_run.specs.Report.{read_fault_text};
-ghost use Rattle.step_run.specs.Outcome.{is_check, plan_of, plan_of_words, plan_of_program, plan_of_goal, word, words_of};
+ghost use Rattle.step_run.specs.Outcome.{is_check, plan_of, plan_of_words, plan_of_program, plan_of_goal, plan_of_blocks, word, words_of};
 ghost use Rattle.step_run.specs.Plan.{Follows};
 
 use crate::checking::judge;
+use crate::claims::{ClaimFault, Goal, read_goal};
+use crate::conditions::conditions_of;
 use crate::reading::{ReadError, read_whole};
+use crate::refusals::Refusal;
+use crate::source::{Source, read_source};
 use crate::words::is_check;
 use crate::{Ended, FileRole, Status, report};
-use small_programs::{Goal, Program, SmallFault, read_program, read_proof};
+use st_form::Condition;
 use st_memory::Memory;
 use st_outside::Files;
+use st_tokens::LimitKind;
 use std::alloc::Global;
+use vc_generator::VcFault;
 
 /// The largest length of the program's text, and of the proof's.
 const TEXT: u64 = 4_194_304;
@@ -73,19 +79,20 @@ fn faulted(text: Vec<u8>) -> Ended
     }
 }
 
-/// Goes on once the proof is read.
-fn after_proof<F: Files>(
+/// Goes on once the conditions are made.
+fn with_conditions<F: Files>(
     alloc: Global,
     files: &mut F,
     words: &[String],
-    program: &Program,
-    goal: &Goal,
+    source: &Source,
+    goal: &[u8],
+    conditions: &[Condition],
 ) -> Result<Ended, Memory>
     requires words { length words.now ≡ 5 }
-    requires program { IsFitProgram (program_of program.now) }
-    requires goal { IsComparison (plain goal.now.claim) }
+    requires few { length conditions.now ≤ 20000 }
+    requires narrow { AreNarrow (map plain_condition conditions.now) }
     ensures follows { IfOk result (Follows read_fault_text (F.told files.old) (F.faults files.old) (F.faults files.new)
-        (plan_of_goal (words_of words.now) (program_of program.now) (Some (goal_of goal.now)))) }
+        (plan_of_blocks (words_of words.now) (source_view source.now).program goal.now (map plain_condition conditions.now))) }
     ensures same { F.told files.new ≡ F.told files.old }
     ensures later { NoneFell (F.faults files.old) (F.faults files.new) }
 {
@@ -96,32 +103,57 @@ fn after_proof<F: Files>(
         name_at(words, 4),
         CERTIFICATES,
     )? {
-        Asked::Bytes(bytes) => judge(alloc, program, goal, &bytes),
-        Asked::TooLong => report::too_long_certificates(alloc),
+        Asked::Bytes(bytes) => judge(alloc, source, goal, conditions, &bytes),
+        Asked::TooLong => report::limited(alloc, LimitKind::Certificates),
         Asked::Faulted(text) => Ok(faulted(text)),
     }
 }
 
-/// Reads the proof's text and goes on.
-fn with_proof<F: Files>(
+/// Makes the conditions of a goal and goes on.
+fn with_goal<F: Files>(
     alloc: Global,
     files: &mut F,
     words: &[String],
-    program: &Program,
-    text: &[u8],
+    source: &Source,
+    goal: Goal,
 ) -> Result<Ended, Memory>
     requires words { length words.now ≡ 5 }
-    requires program { IsFitProgram (program_of program.now) }
-    requires few { vec_len program.now.variables ≤ 64 }
+    requires source { IsSpelled (source_view source.now) }
+    requires goal { IsGoal (source_view source.now).known (goal_of goal) }
     ensures follows { IfOk result (Follows read_fault_text (F.told files.old) (F.faults files.old) (F.faults files.new)
-        (plan_of_goal (words_of words.now) (program_of program.now) (goal_spelled (program_of program.now).variables text.now))) }
+        (plan_of_goal (words_of words.now) (source_view source.now).program (Some (goal_of goal.entry)))) }
     ensures same { F.told files.new ≡ F.told files.old }
     ensures later { NoneFell (F.faults files.old) (F.faults files.new) }
 {
-    match read_proof(alloc, &program.variables, text) {
-        Ok(goal) => after_proof(alloc, files, words, program, &goal),
-        Err(SmallFault::Unsupported) => report::proof_refused(alloc),
-        Err(SmallFault::Memory) => Err(Memory),
+    let name = goal.name;
+    match conditions_of(alloc, source, goal) {
+        Ok(conditions) => with_conditions(alloc, files, words, source, name, &conditions),
+        Err(VcFault::TooMany) => report::limited(alloc, LimitKind::Conditions),
+        Err(VcFault::TooWide) => report::limited(alloc, LimitKind::Atoms),
+        Err(VcFault::TooHeavy) => report::limited(alloc, LimitKind::Weight),
+        Err(VcFault::Memory) => Err(Memory),
+    }
+}
+
+/// Reads the proof's text and goes on.
+fn with_proof<'a, F: Files>(
+    alloc: Global,
+    files: &mut F,
+    words: &[String],
+    source: &Source<'a>,
+    text: &'a [u8],
+) -> Result<Ended, Memory>
+    requires words { length words.now ≡ 5 }
+    requires source { IsSpelled (source_view source.now) }
+    ensures follows { IfOk result (Follows read_fault_text (F.told files.old) (F.faults files.old) (F.faults files.new)
+        (plan_of_goal (words_of words.now) (source_view source.now).program (goal_spelled (source_view source.now).known text.now))) }
+    ensures same { F.told files.new ≡ F.told files.old }
+    ensures later { NoneFell (F.faults files.old) (F.faults files.new) }
+{
+    match read_goal(alloc, &source.known, text) {
+        Ok(goal) => with_goal(alloc, files, words, source, goal),
+        Err(ClaimFault::Unsupported) => report::proof_refused(alloc),
+        Err(ClaimFault::Memory) => Err(Memory),
     }
 }
 
@@ -130,19 +162,18 @@ fn after_program<F: Files>(
     alloc: Global,
     files: &mut F,
     words: &[String],
-    program: &Program,
+    source: &Source,
 ) -> Result<Ended, Memory>
     requires words { length words.now ≡ 5 }
-    requires program { IsFitProgram (program_of program.now) }
-    requires few { vec_len program.now.variables ≤ 64 }
+    requires source { IsSpelled (source_view source.now) }
     ensures follows { IfOk result (Follows read_fault_text (F.told files.old) (F.faults files.old) (F.faults files.new)
-        (plan_of_program (words_of words.now) (Some (program_of program.now)))) }
+        (plan_of_program (words_of words.now) (Ok (source_view source.now)))) }
     ensures same { F.told files.new ≡ F.told files.old }
     ensures later { NoneFell (F.faults files.old) (F.faults files.new) }
 {
     match ask(alloc, files, FileRole::Proof, name_at(words, 3), TEXT)? {
-        Asked::Bytes(bytes) => with_proof(alloc, files, words, program, &bytes),
-        Asked::TooLong => report::too_long(alloc),
+        Asked::Bytes(bytes) => with_proof(alloc, files, words, &*source, &bytes),
+        Asked::TooLong => report::limited(alloc, LimitKind::Text),
         Asked::Faulted(text) => Ok(faulted(text)),
     }
 }
@@ -156,14 +187,15 @@ fn with_program<F: Files>(
 ) -> Result<Ended, Memory>
     requires { length words.now ≡ 5 }
     ensures follows { IfOk result (Follows read_fault_text (F.told files.old) (F.faults files.old) (F.faults files.new)
-        (plan_of_program (words_of words.now) (program_spelled text.now))) }
+        (plan_of_program (words_of words.now) (source_spelled text.now))) }
     ensures same { F.told files.new ≡ F.told files.old }
     ensures later { NoneFell (F.faults files.old) (F.faults files.new) }
 {
-    match read_program(alloc, text) {
-        Ok(program) => after_program(alloc, files, words, &program),
-        Err(SmallFault::Unsupported) => report::program_refused(alloc),
-        Err(SmallFault::Memory) => Err(Memory),
+    match read_source(alloc, text) {
+        Ok(source) => after_program(alloc, files, words, &source),
+        Err(Refusal::Fault(kind, place)) => report::program_refused(alloc, kind, place),
+        Err(Refusal::Limit(kind)) => report::limited(alloc, kind),
+        Err(Refusal::Memory) => Err(Memory),
     }
 }
 
@@ -178,7 +210,7 @@ pub fn work<F: Files>(alloc: Global, files: &mut F, words: &[String]) -> Result<
     }
     match ask(alloc, files, FileRole::Program, name_at(words, 2), TEXT)? {
         Asked::Bytes(bytes) => with_program(alloc, files, words, &bytes),
-        Asked::TooLong => report::too_long(alloc),
+        Asked::TooLong => report::limited(alloc, LimitKind::Text),
         Asked::Faulted(text) => Ok(faulted(text)),
     }
 }

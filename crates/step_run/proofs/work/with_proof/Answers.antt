@@ -4,12 +4,15 @@ use Rattle.step_run.specs.Report.{read_fault_text}
 use Rattle.step_run.proofs.Follow.{decided_here}
 use Rattle.step_run.proofs.work.with_proof.Goals as goal
 
+pub with_goal-requires-clause-goal : goal.with_goal-requires-clause-goal
+with_goal-requires-clause-goal g c = let spelled = rw c.deref.ensures.value at c.in-Ok.ensures in (c.args.text.now, spelled)
+
 pub returns-in-Ok-clause-follows : goal.returns-in-Ok-clause-follows
 returns-in-Ok-clause-follows g c =
-    let spelled = rw c.deref.ensures.value at c.in-Ok.ensures.exact in
-    rw spelled c.after_proof.ensures.follows
+    let spelled = rw c.deref.ensures.value at c.in-Ok.ensures in
+    rw spelled c.with_goal.ensures.follows
 
 pub returns-in-Err-Unsupported-clause-follows : goal.returns-in-Err-Unsupported-clause-follows
 returns-in-Err-Unsupported-clause-follows g c =
-    let none = rw (c.in-Err-Unsupported.field-0-is, c.deref.ensures.value) at c.in-Err-Unsupported.ensures.exact in
+    let none = rw (c.in-Err-Unsupported.field-0-is, c.deref.ensures.value) at c.in-Err-Unsupported.ensures in
     rw none (IfOk-weaker c.proof_refused.result _ _ (λ e h. decided_here read_fault_text _ _ _ _ e refl tt h) c.proof_refused.ensures)

@@ -154,8 +154,8 @@ fn limits_are_named_once_they_are_passed(rt: HostRuntime) -> Result<(), Fail> {
 fn a_claim_of_many_atoms_passes_a_limit(rt: HostRuntime) -> Result<(), Fail> {
     let words = check_words(&rt)?;
     for (count, report) in [
-        (2045, "not proved: condition 1, a start, absent\n"),
-        (2046, "limit: Atoms 2048\n"),
+        (1022, "not proved: condition 1, a start, absent\n"),
+        (1023, "limit: Atoms 2048\n"),
     ] {
         let proof = repeated(&rt, "invariant a: x >= 0", " /\\ x >= 0", count, ";")?;
         let program = "local x: integer where x = 0; P :: [ skip ]";

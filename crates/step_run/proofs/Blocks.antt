@@ -5,7 +5,6 @@ use Rattle.st_certificate.specs.Tree.{Tree}
 use Rattle.st_form.specs.Condition.{Implication}
 use Rattle.st_form.specs.Plain.{plain_condition}
 use Rattle.st_form.specs.declared.conditions.Condition.{Condition}
-use Rattle.control_states.specs.Control.{ControlFacts}
 use Rattle.farkas_check.specs.Limits.{IsLimited}
 use Rattle.farkas_check.specs.Meaning.{IsValidCondition}
 use Rattle.farkas_check.specs.Problem.{Setting}
@@ -27,7 +26,7 @@ use Rattle.step_run.specs.declared.reasons.Reason.{Reason}
 use Rattle.step_run.specs.declared.reasons.Reason.TheVariants.{NotValid}
 use Rattle.step_run.specs.Valid.{is_certificate}
 use Rattle.step_run.specs.Conditions.{AreNarrow}
-use Rattle.step_run.specs.Check.{reason_of, block_tested, behind_block, Checked, all_valid, refused, block_judged, checked_from}
+use Rattle.step_run.specs.Check.{reason_of, block_tested, behind_block, Checked, all_valid, block_judged, checked_from}
 use Rattle.step_run.proofs.Limited.{block_limited}
 use Rattle.step_run.proofs.Tests.{tested, certificate_is}
 use Rattle.step_run.proofs.Obliged.{AllValid}

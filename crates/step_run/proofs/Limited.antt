@@ -1,13 +1,12 @@
 -- What is read of a certificate text is within the limits: each cut entry is at most 2^60 in size, each multiplier below
 -- 2^40, and no leaf has more than 4,096 picks.
-use Rattle.std.proofs.Common.{◌≡◌, ℕ, zero, suc, ◌+◌, ◌-◌, ◌^◌, ◌<◌, ◌≤◌, Bool, true, false, cond, ◌==◌, ◌&&◌, ◌||◌, nat_le, nat_lt, List, [], ◌∷◌, ◌++◌, length, Option, Some, None, refl, sym, ap, subst, arith, ℤ, pos, unsigned_abs, length-append}
-use Rattle.std.specs.Prelude.{neg_ℤ}
+use Rattle.std.proofs.Common.{◌≡◌, ℕ, ◌+◌, ◌-◌, ◌^◌, ◌<◌, ◌≤◌, Bool, true, false, cond, ◌==◌, ◌&&◌, ◌||◌, nat_le, nat_lt, List, [], ◌∷◌, ◌++◌, length, Option, Some, None, refl, subst, arith, ℤ, unsigned_abs, length-append}
 use Rattle.std.specs.List.{AllByRecursion}
 use Rattle.std.proofs.lemmas.Bool.Decides.{nat_tests}
 use Rattle.std.proofs.lemmas.Int.{ints}
 use Rattle.std.proofs.lemmas.List.Elements.{All-from_recursion}
 use Rattle.st_linear.specs.Linear.{Linear, is_small, rise_from, of_entries}
-use Rattle.st_certificate.specs.Tree.{Tree, Trees, impossible, branch, farkas, linear, no_tree, with_tree, by_cut, trees as trees_of}
+use Rattle.st_certificate.specs.Tree.{Tree, impossible, farkas, linear, trees as trees_of}
 use Rattle.farkas_check.specs.Limits.{IsSlight, IsLimited, AreLimited}
 use Rattle.cert_text.specs.declared.scan.Word.{Word}
 use Rattle.cert_text.specs.declared.scan.Word.TheVariants as words
@@ -25,9 +24,9 @@ use Rattle.cert_text.specs.declared.scan.Given.TheVariants as givens
 use Rattle.cert_text.specs.declared.progress.Stage.TheVariants as stages
 use Rattle.cert_text.specs.declared.tree.Head.{Head}
 use Rattle.cert_text.specs.declared.tree.Head.TheVariants as heads
-use Rattle.cert_text.specs.Control.{only_sign, next_want, behind, tree_begun, entered, give, give_at, at_block, at_header_number, at_block_number, at_tree, at_subject, at_row, at_negative, at_multiplier, at_more_picks, at_coefficient, at_variable, at_more_terms, at_constant, is_full, one_tree, picks_closed, fits_word, fits_number, word_of}
+use Rattle.cert_text.specs.Control.{only_sign, behind, tree_begun, entered, give, give_at, at_block, at_header_number, at_block_number, at_tree, at_subject, at_row, at_negative, at_multiplier, at_more_picks, at_coefficient, at_variable, at_more_terms, at_constant, is_full, one_tree, picks_closed, fits_word, fits_number, word_of}
 use Rattle.cert_text.specs.Letters.{is_blank, is_letter, is_digit, grown}
-use Rattle.cert_text.specs.Tree.{signed_of, Open, Built, nothing_built, closed, branching_of, tree_added, entered_by, left_to, cut_entered, applied, last_or, last_tree}
+use Rattle.cert_text.specs.Tree.{signed_of, Open, Built, closed, left_to, cut_entered, applied, last_or, last_tree}
 use Rattle.cert_text.specs.Reading.{State, Pending, idle, letters, digits, going, malformed, over, whole, is_whole, staged, token_taken, word_ended, word_grown, number_grown, begun, and_begun, stepped, step, after, start}
 
 -- all trees of a list

@@ -61,8 +61,7 @@ pub appended : (p : Typed) (g : Goal) (system : System) (lemmas : List Formula) 
     → refusals old (invariance_list 0 system lemmas g.claim None) ≡ None → new ≡ old ++ map (λ d. d.condition) (invariance_list 0 system lemmas g.claim None)
     → (refusals [] (drafts p g) ≡ None) × (new ≡ conditions_of p g)
 appended p g system lemmas old new is cited empty none all =
-    let e = asked p g system lemmas is cited in
-    (
+    let e = asked p g system lemmas is cited in (
       ap (λ (o : List Implication). refusals o (drafts p g)) (sym empty) ∙ ap (refusals old) (sym e) ∙ none,
       all ∙ ap (λ (o : List Implication). o ++ map (λ d. d.condition) (invariance_list 0 system lemmas g.claim None)) empty ∙ ap (λ (ds : List Draft). map (λ d. d.condition) ds) e,
     )

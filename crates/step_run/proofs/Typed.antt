@@ -1,7 +1,6 @@
 -- What holds of a program that a text spells, and of a goal for it.
-use Rattle.std.proofs.Common.{◌≡◌, ℕ, ◌+◌, ◌≤◌, ◌^◌, List, [], ◌∷◌, length, Option, Some, None, Result, Ok, Err, refl, ap, sym, ◌∙◌, subst, arith}
+use Rattle.std.proofs.Common.{◌≡◌, ℕ, ◌≤◌, List, length, Option, Some, None, Result, Ok, Err, refl, ap, sym, ◌∙◌, subst, arith}
 use Rattle.std.proofs.lemmas.List.{length-map}
-use Rattle.st_form.specs.Formula.{Formula}
 use Rattle.st_tokens.specs.declared.kind.TokenFault.{TokenFault}
 use Rattle.st_tokens.specs.declared.kind.TokenFault.TheVariants as tokens
 use Rattle.st_reading.specs.Reading.{Stop, syntax, broken, other, Label, IsStop}
@@ -14,7 +13,6 @@ use Rattle.spl_parser.specs.ExpressionTree.{Expr}
 use Rattle.spl_parser.specs.ProgramTree as raw
 use Rattle.spl_parser.specs.Parsing.{parsed}
 use Rattle.spl_typer.specs.declared.fault.TypeFault.{TypeFault}
-use Rattle.spl_typer.specs.Scope.{Known}
 use Rattle.spl_typer.specs.Typing.{typed}
 use Rattle.spl_typer.specs.Programs.{Heading, heading_of, side_by_side, names_of, Typed, typing}
 use Rattle.spl_typer.proofs.Holding.{Holds, bound, anyway}

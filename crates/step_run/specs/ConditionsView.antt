@@ -1,8 +1,7 @@
 -- What making the conditions of a goal comes to.
-use Rattle.std.specs.Prelude.{◌≡◌, List, [], map, None, Result, Ok, Err}
+use Rattle.std.specs.Prelude.{◌≡◌, [], map, None, Result, Ok, Err}
 use Rattle.std.specs.declared.vec.Vec.{Vec}
 use Rattle.std.specs.declared.alloc.Global.{Global}
-use Rattle.st_form.specs.Formula.{Formula}
 use Rattle.st_form.specs.Plain.{plain_condition}
 use Rattle.st_form.specs.declared.conditions.Condition.{Condition}
 use Rattle.vc_generator.specs.declared.faults.VcFault.{VcFault}

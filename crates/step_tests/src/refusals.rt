@@ -7,16 +7,8 @@ use step_run::step_run;
 
 /// Programs with their status and report.
 const PROGRAMS: &[(&str, u8, &str)] = &[
-    (
-        "",
-        3,
-        "program refused: Syntax at 0\n",
-    ),
-    (
-        "P :: [ x := 1 ]",
-        3,
-        "program refused: Unknown at 7\n",
-    ),
+    ("", 3, "program refused: Syntax at 0\n"),
+    ("P :: [ x := 1 ]", 3, "program refused: Unknown at 7\n"),
     (
         "local x, x: integer; P :: [ skip ]",
         3,
@@ -62,26 +54,10 @@ const PROGRAMS: &[(&str, u8, &str)] = &[
         8,
         "limit: Nesting 32\n",
     ),
-    (
-        "P :: [ skip",
-        3,
-        "program refused: Syntax at 11\n",
-    ),
-    (
-        "P :: [ skip ] ||",
-        3,
-        "program refused: Syntax at 16\n",
-    ),
-    (
-        "P :: [ x := ; ]",
-        3,
-        "program refused: Syntax at 12\n",
-    ),
-    (
-        "P :: [ l0: ]",
-        3,
-        "program refused: Syntax at 11\n",
-    ),
+    ("P :: [ skip", 3, "program refused: Syntax at 11\n"),
+    ("P :: [ skip ] ||", 3, "program refused: Syntax at 16\n"),
+    ("P :: [ x := ; ]", 3, "program refused: Syntax at 12\n"),
+    ("P :: [ l0: ]", 3, "program refused: Syntax at 11\n"),
     (
         "P :: [ select [ skip ] ]",
         3,
@@ -92,11 +68,7 @@ const PROGRAMS: &[(&str, u8, &str)] = &[
         3,
         "program refused: Syntax at 11\n",
     ),
-    (
-        "P :: [ x ! 1 ]",
-        3,
-        "program refused: BadByte at 9\n",
-    ),
+    ("P :: [ x ! 1 ]", 3, "program refused: BadByte at 9\n"),
     (
         "P :: [ await ~~~~~~~~~~~~~~~~~~~~~~~~~~~~~~~~~true ]",
         8,
@@ -147,7 +119,13 @@ fn repeated(
 fn limits_are_named_once_they_are_passed(rt: HostRuntime) -> Result<(), Fail> {
     let words = check_words(&rt)?;
     for (first, part, count, last, report) in [
-        ("P :: [ skip", "; skip", 400, " ]", "limit: Statements 400\n"),
+        (
+            "P :: [ skip",
+            "; skip",
+            400,
+            " ]",
+            "limit: Statements 400\n",
+        ),
         (
             "local x",
             ", x",
@@ -176,8 +154,8 @@ fn limits_are_named_once_they_are_passed(rt: HostRuntime) -> Result<(), Fail> {
 fn a_claim_of_many_atoms_passes_a_limit(rt: HostRuntime) -> Result<(), Fail> {
     let words = check_words(&rt)?;
     for (count, report) in [
-        (2045, "not proved: condition 1, a start, absent\n"),
-        (2046, "limit: Atoms 2048\n"),
+        (1022, "not proved: condition 1, a start, absent\n"),
+        (1023, "limit: Atoms 2048\n"),
     ] {
         let proof = repeated(&rt, "invariant a: x >= 0", " /\\ x >= 0", count, ";")?;
         let program = "local x: integer where x = 0; P :: [ skip ]";

@@ -1,4 +1,4 @@
-use Rattle.std.proofs.Common.{◌++◌, ◌∙◌, sym, ap, subst, true, length, map}
+use Rattle.std.proofs.Common.{◌++◌, ◌∙◌, sym, ap, subst, true, map}
 use Rattle.std.specs.Prelude.{IfOk}
 use Rattle.std.proofs.lemmas.List.{length-map}
 use Rattle.st_form.specs.Plain.{plain_condition}
@@ -6,7 +6,7 @@ use Rattle.farkas_check.specs.PlainProblem.{setting}
 use Rattle.cert_text.specs.Held.{Held}
 use Rattle.step_run.specs.SourceView.{source_view}
 use Rattle.step_run.specs.Plan.{EndsAs}
-use Rattle.step_run.specs.Check.{whole_text, checked_from}
+use Rattle.step_run.specs.Check.{checked_from}
 use Rattle.step_run.proofs.Judging.{judged_is, setting_is}
 use Rattle.step_run.proofs.checking.judge.Goals as goal
 

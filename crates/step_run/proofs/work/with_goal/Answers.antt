@@ -1,4 +1,4 @@
-use Rattle.std.proofs.Common.{◌∙◌, sym, ap, refl, map, subst, arith, length}
+use Rattle.std.proofs.Common.{◌∙◌, sym, ap, refl, map, subst, arith}
 use Rattle.std.proofs.lemmas.List.{length-map}
 use Rattle.std.proofs.lemmas.Result.{IfOk-weaker}
 use Rattle.st_form.specs.Plain.{plain_condition}

@@ -15,3 +15,6 @@ pub use linear_prover::Verdict;
 pub use searching::decide_all;
 pub use st_form::{Condition, Variable};
 pub use st_outside::Gate;
+
+#[cfg(test)]
+mod tests;

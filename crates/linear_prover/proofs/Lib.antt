@@ -7,3 +7,4 @@ pub mod Children
 pub mod Walking
 pub mod Rights
 pub mod Lending
+pub mod Small

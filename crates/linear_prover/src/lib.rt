@@ -24,3 +24,6 @@ pub use st_certificate::Certificate;
 pub use st_form::{Condition, Variable};
 pub use st_program::Datum;
 pub use verdict::{PathKind, PathStep, Shown, Verdict};
+
+#[cfg(test)]
+mod tests;

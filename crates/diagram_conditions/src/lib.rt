@@ -17,3 +17,6 @@ mod rules;
 mod starts;
 
 pub use rules::Drawn;
+
+#[cfg(test)]
+mod tests;

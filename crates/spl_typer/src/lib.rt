@@ -15,8 +15,10 @@ mod scope;
 mod statement;
 mod walk;
 
+pub use expr::{as_number, as_truth, typed_by};
 pub use fault::TypeFault;
 pub use program::type_program;
+pub use scope::Naming;
 
 #[cfg(test)]
 mod tests;

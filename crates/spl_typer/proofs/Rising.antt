@@ -10,13 +10,13 @@ use Rattle.spl_parser.specs.ExpressionTree.{Expr, Kind, Exprs, start_of}
 use Rattle.spl_parser.specs.ExpressionTree as raw
 use Rattle.spl_typer.specs.declared.fault.TypeFault.{TypeFault}
 use Rattle.spl_typer.specs.declared.fault.TypeFault.TheVariants as faults
-use Rattle.spl_typer.specs.Scope.{Known, find}
+use Rattle.spl_typer.specs.Scope.{Names}
 use Rattle.spl_typer.specs.Written.{is_writable}
-use Rattle.spl_typer.specs.Typing.{typed, is_implication}
-use Rattle.spl_typer.specs.Rules.{number_in, truth_in, not_number, not_truth, unknown, too_large, not_linear, operator_faults, form_of, meaning, faults_in, kind_faults, all_faults}
+use Rattle.spl_typer.specs.Typing.{typed_by, is_implication}
+use Rattle.spl_typer.specs.Rules.{number_in, truth_in, not_number, not_truth, unknown, too_large, not_linear, operator_faults, form_of, meaning_by, faults_by, kind_faults_by, all_faults_by}
 use Rattle.spl_typer.specs.Told.{Told, IsWritten, IsModest, IsModestKind, AreModest}
 use Rattle.spl_typer.specs.Placed.{place, rule, Before, AllBehind, IsLeast, IsPlaced, IsPlacedKind, ArePlaced}
-use Rattle.spl_typer.proofs.Tells.{told}
+use Rattle.spl_typer.proofs.Tells.{told_by}
 
 abbrev pub Rising : ℕ → ℕ → List TypeFault → Type 0
 Rising from to [] = from ≤ to
@@ -140,44 +140,44 @@ negative_rises (Ok (number f)) fs m at from to p t a b c h = rw (t.0, t.1) (sing
 negative_rises (Ok (truth f)) fs m at from to p t a b c h = rw (t.0, t.1) (omega (arith, a, b), c)
 negative_rises (Err e) fs m at from to p t a b c h = rw (t.1, append-nil fs) (rising_from from (suc at) to fs (omega (arith, a)) h)
 
-name_rises : (o : Option Known) (p from to : ℕ) → from ≤ p → p < to → Rising from to (unknown p o)
+name_rises : {A : Type 0} (o : Option A) (p from to : ℕ) → from ≤ p → p < to → Rising from to (unknown p o)
 name_rises None p from to h k = (h, k)
 name_rises (Some x) p from to h k = omega (arith, h, k)
 
 mutual
-  pub rises : (s : List Known) (e : Expr) (from to : ℕ) → IsModest e → IsPlaced e from to → Rising from to (faults_in s e)
-  rises s (raw.node p k) from to m h = rising_from from p to (kind_faults s k) h.0 (kind_rises s k p to m h.1)
+  pub rises_by : (s : Names) (e : Expr) (from to : ℕ) → IsModest e → IsPlaced e from to → Rising from to (faults_by s e)
+  rises_by s (raw.node p k) from to m h = rising_from from p to (kind_faults_by s k) h.0 (kind_rises_by s k p to m h.1)
 
-  kind_rises : (s : List Known) (k : Kind) (p to : ℕ) → IsModestKind k → IsPlacedKind k p to → Rising p to (kind_faults s k)
-  kind_rises s (raw.numeral n) p to m h = omega (arith, h)
-  kind_rises s (raw.truth b) p to m h = omega (arith, h)
-  kind_rises s (raw.name n) p to m h = name_rises (find n.text s) n.place p to h.0 h.1
-  kind_rises s (raw.at n) p to m h = (h.0, h.1)
-  kind_rises s (raw.negation e) p to m h =
-      rising_from p (suc p) to _ (omega arith) (side_truth (typed s e) (faults_in s e) (meaning s e) (suc p) to (start_of e) (told s e m) (placed_start e (suc p) to h) (placed_end e (suc p) to h) (rises s e (suc p) to m h))
-  kind_rises s (raw.negative at e) p to m h =
-      negative_rises (typed s e) (faults_in s e) (meaning s e) at p to (start_of e) (told s e m) h.0 (let a = placed_start e (suc at) to h.1 in omega (arith, a)) (placed_end e (suc at) to h.1) (rises s e (suc at) to m h.1)
-  kind_rises s (raw.all es) p to m h = all_rise s es p to m h.1
-  kind_rises s (raw.any es) p to m h = all_rise s es p to m h.1
-  kind_rises s (raw.pair o at l r) p to m h =
+  kind_rises_by : (s : Names) (k : Kind) (p to : ℕ) → IsModestKind k → IsPlacedKind k p to → Rising p to (kind_faults_by s k)
+  kind_rises_by s (raw.numeral n) p to m h = omega (arith, h)
+  kind_rises_by s (raw.truth b) p to m h = omega (arith, h)
+  kind_rises_by s (raw.name n) p to m h = name_rises (s.variable n.text) n.place p to h.0 h.1
+  kind_rises_by s (raw.at n) p to m h = name_rises (s.place n.text) n.place p to h.0 h.1
+  kind_rises_by s (raw.negation e) p to m h =
+      rising_from p (suc p) to _ (omega arith) (side_truth (typed_by s e) (faults_by s e) (meaning_by s e) (suc p) to (start_of e) (told_by s e m) (placed_start e (suc p) to h) (placed_end e (suc p) to h) (rises_by s e (suc p) to m h))
+  kind_rises_by s (raw.negative at e) p to m h =
+      negative_rises (typed_by s e) (faults_by s e) (meaning_by s e) at p to (start_of e) (told_by s e m) h.0 (let a = placed_start e (suc at) to h.1 in omega (arith, a)) (placed_end e (suc at) to h.1) (rises_by s e (suc at) to m h.1)
+  kind_rises_by s (raw.all es) p to m h = all_rise_by s es p to m h.1
+  kind_rises_by s (raw.any es) p to m h = all_rise_by s es p to m h.1
+  kind_rises_by s (raw.pair o at l r) p to m h =
       choose (is_implication o) _ _
-      (two_sides p at to (faults_in s l) _ (faults_in s r) _
-      (side_truth (typed s l) (faults_in s l) (meaning s l) p at (start_of l) (told s l m.0) (placed_start l p at h.0) (placed_end l p at h.0) (rises s l p at m.0 h.0))
-      (side_truth (typed s r) (faults_in s r) (meaning s r) (suc at) to (start_of r) (told s r m.1) (placed_start r (suc at) to h.1) (placed_end r (suc at) to h.1) (rises s r (suc at) to m.1 h.1)))
-      (pair_rises o p at to (start_of l) (start_of r) (typed s l) (typed s r) (faults_in s l) (faults_in s r) (meaning s l) (meaning s r) (told s l m.0) (told s r m.1)
-      (placed_start l p at h.0) (placed_end l p at h.0) (placed_start r (suc at) to h.1) (placed_end r (suc at) to h.1) (rises s l p at m.0 h.0) (rises s r (suc at) to m.1 h.1))
+      (two_sides p at to (faults_by s l) _ (faults_by s r) _
+      (side_truth (typed_by s l) (faults_by s l) (meaning_by s l) p at (start_of l) (told_by s l m.0) (placed_start l p at h.0) (placed_end l p at h.0) (rises_by s l p at m.0 h.0))
+      (side_truth (typed_by s r) (faults_by s r) (meaning_by s r) (suc at) to (start_of r) (told_by s r m.1) (placed_start r (suc at) to h.1) (placed_end r (suc at) to h.1) (rises_by s r (suc at) to m.1 h.1)))
+      (pair_rises o p at to (start_of l) (start_of r) (typed_by s l) (typed_by s r) (faults_by s l) (faults_by s r) (meaning_by s l) (meaning_by s r) (told_by s l m.0) (told_by s r m.1)
+      (placed_start l p at h.0) (placed_end l p at h.0) (placed_start r (suc at) to h.1) (placed_end r (suc at) to h.1) (rises_by s l p at m.0 h.0) (rises_by s r (suc at) to m.1 h.1))
     where
       choose : (b : Bool) (x y : List TypeFault) → Rising p to x → Rising p to y → Rising p to (cond b x y)
       choose true x y a c = a
       choose false x y a c = c
 
-  all_rise : (s : List Known) (es : Exprs) (from to : ℕ) → AreModest es → ArePlaced es from to → Rising from to (all_faults s es)
-  all_rise s raw.none from to m h = h
-  all_rise s (raw.one_more e es) from to m h =
-      rw (← append_assoc (faults_in s e) (not_truth (start_of e) (meaning s e)) (all_faults s es))
-      (rising_append from h.0 to _ (all_faults s es)
-      (side_truth (typed s e) (faults_in s e) (meaning s e) from h.0 (start_of e) (told s e m.0) (placed_start e from h.0 h.1) (placed_end e from h.0 h.1) (rises s e from h.0 m.0 h.1))
-      (all_rise s es h.0 to m.1 h.2))
+  all_rise_by : (s : Names) (es : Exprs) (from to : ℕ) → AreModest es → ArePlaced es from to → Rising from to (all_faults_by s es)
+  all_rise_by s raw.none from to m h = h
+  all_rise_by s (raw.one_more e es) from to m h =
+      rw (← append_assoc (faults_by s e) (not_truth (start_of e) (meaning_by s e)) (all_faults_by s es))
+      (rising_append from h.0 to _ (all_faults_by s es)
+      (side_truth (typed_by s e) (faults_by s e) (meaning_by s e) from h.0 (start_of e) (told_by s e m.0) (placed_start e from h.0 h.1) (placed_end e from h.0 h.1) (rises_by s e from h.0 m.0 h.1))
+      (all_rise_by s es h.0 to m.1 h.2))
 
 behind : (f : TypeFault) (from to : ℕ) (fs : List TypeFault) → place f < from → Rising from to fs → AllBehind f fs
 behind f from to [] h k = tt
@@ -187,3 +187,9 @@ pub first_least : (f : TypeFault) (from to : ℕ) (fs rest : List TypeFault) →
 first_least f from to fs rest e h =
     let k = rw e at h in
     record { rest = rest; among = e; least = rw e (inr (refl, omega arith), behind f (suc (place f)) to rest (omega arith) k.1) }
+
+-- the walk answers the lowest rule that is broken at the first place
+pub least_by : (s : Names) (e : Expr) (from to : ℕ) → IsModest e → IsPlaced e from to → (f : TypeFault) → typed_by s e ≡ Err f → IsLeast f (faults_by s e)
+least_by s e from to m h f i =
+    let t = rw i at (told_by s e m) in
+    first_least f from to (faults_by s e) t.0.0 t.0.1 (rises_by s e from to m h)

@@ -4,6 +4,7 @@ use Rattle.std.proofs.lemmas.Bool.Decides.{nat_tests}
 use Rattle.std.specs.Option.{option_map}
 use Rattle.st_linear.specs.Linear.{Linear, sum_of, scaled, variable}
 use Rattle.st_linear.specs.Linear as linear
+use Rattle.st_form.specs.Formula as forms
 use Rattle.st_form.specs.Formula.{Formula, Formulas, truth_value, row, equal, bool_var, negation, every, some, none, more}
 use Rattle.st_program.specs.Tree.{Term, number, truth}
 use Rattle.spl_parser.specs.declared.raw.Operator.{Operator}
@@ -14,11 +15,11 @@ use Rattle.spl_parser.specs.ExpressionTree as raw
 use Rattle.spl_typer.specs.declared.fault.TypeFault.{TypeFault}
 use Rattle.spl_typer.specs.declared.fault.TypeFault.TheVariants as faults
 use Rattle.spl_typer.specs.Answers.{◌>>=◌}
-use Rattle.spl_typer.specs.Scope.{Known, find}
+use Rattle.spl_typer.specs.Scope.{Known, Names, only}
 use Rattle.st_program.specs.Groups.{is_written_number, is_written}
 use Rattle.spl_typer.specs.Written.{is_writable, is_constant, limited, fitted}
-use Rattle.spl_typer.specs.Typing.{typed, typed_kind, all_typed, as_number, as_truth, combine, implied, is_implication, named, named_by, variable_term}
-use Rattle.spl_typer.specs.Rules.{number_in, truth_in, both, not_number, not_truth, unknown, too_large, not_linear, operator_faults, form_of, if_written, combined, meaning, kind_meaning, meanings, faults_in, kind_faults, all_faults}
+use Rattle.spl_typer.specs.Typing.{typed, typed_by, kind_typed_by, all_typed_by, as_number, as_truth, combine, implied, is_implication, named_by, placed_by, variable_term}
+use Rattle.spl_typer.specs.Rules.{number_in, truth_in, both, not_number, not_truth, unknown, too_large, not_linear, operator_faults, form_of, if_written, combined, meaning, meaning_by, kind_meaning_by, meanings_by, faults_in, faults_by, kind_faults_by, all_faults_by}
 use Rattle.spl_typer.specs.Told.{Told, IsWritten, IsModest, IsModestKind, AreModest}
 use Rattle.spl_typer.proofs.Sizes.{Bounded, fitted_is, difference_is, lowered_is}
 
@@ -89,59 +90,67 @@ variable_written : (v : ℕ) → is_writable (variable v) ≡ true
 unfolding is_writable is_written_number
 variable_written v = refl
 
-told_variable : (k : Known) (b : Bool) → IsWritten (cond b (truth (bool_var k.var)) (number (variable k.var)))
-told_variable k true = tt
-told_variable k false = variable_written k.var
+told_variable : (v : ℕ) (b : Bool) → IsWritten (cond b (truth (bool_var v)) (number (variable v)))
+told_variable v true = tt
+told_variable v false = variable_written v
 
-told_name : (place : ℕ) (o : Option Known) → Told IsWritten (named_by place o) (unknown place o) (option_map variable_term o)
+told_name : (place : ℕ) (o : Option (ℕ × Bool)) → Told IsWritten (named_by place o) (unknown place o) (option_map variable_term o)
 told_name place None = (([], refl), refl)
-told_name place (Some k) = (refl, refl, told_variable k k.truth)
+told_name place (Some v) = (refl, refl, told_variable v.0 v.1)
 
-told_pair : (s : List Known) (o : Operator) (at : ℕ) (l r : Expr) (b : Bool) → is_implication o ≡ b
-    → Told IsWritten (typed s l) (faults_in s l) (meaning s l) → Told IsWritten (typed s r) (faults_in s r) (meaning s r)
+told_place : (place : ℕ) (o : Option ℕ) → Told IsWritten (placed_by place o) (unknown place o) (option_map (λ l. truth (forms.at l)) o)
+told_place place None = (([], refl), refl)
+told_place place (Some l) = (refl, refl, tt)
+
+told_pair : (s : Names) (o : Operator) (at : ℕ) (l r : Expr) (b : Bool) → is_implication o ≡ b
+    → Told IsWritten (typed_by s l) (faults_by s l) (meaning_by s l) → Told IsWritten (typed_by s r) (faults_by s r) (meaning_by s r)
     → Told IsWritten
-    (cond b (typed s l >>= λ x. as_truth (start_of l) x >>= λ f. typed s r >>= λ y. as_truth (start_of r) y >>= λ g. Ok (truth (implied f g)))
-    (typed s l >>= λ x. as_number (start_of l) x >>= λ f. typed s r >>= λ y. as_number (start_of r) y >>= λ g. combine o at f g))
-    (cond b (faults_in s l ++ (not_truth (start_of l) (meaning s l) ++ (faults_in s r ++ not_truth (start_of r) (meaning s r))))
-    (faults_in s l ++ (not_number (start_of l) (meaning s l) ++ (faults_in s r ++ (not_number (start_of r) (meaning s r)
-    ++ operator_faults o at (number_in (meaning s l)) (number_in (meaning s r)))))))
-    (cond b (both (truth_in (meaning s l)) (λ f. both (truth_in (meaning s r)) (λ g. Some (truth (implied f g)))))
-    (both (number_in (meaning s l)) (λ f. both (number_in (meaning s r)) (λ g. combined o f g))))
+    (cond b (typed_by s l >>= λ x. as_truth (start_of l) x >>= λ f. typed_by s r >>= λ y. as_truth (start_of r) y >>= λ g. Ok (truth (implied f g)))
+    (typed_by s l >>= λ x. as_number (start_of l) x >>= λ f. typed_by s r >>= λ y. as_number (start_of r) y >>= λ g. combine o at f g))
+    (cond b (faults_by s l ++ (not_truth (start_of l) (meaning_by s l) ++ (faults_by s r ++ not_truth (start_of r) (meaning_by s r))))
+    (faults_by s l ++ (not_number (start_of l) (meaning_by s l) ++ (faults_by s r ++ (not_number (start_of r) (meaning_by s r)
+    ++ operator_faults o at (number_in (meaning_by s l)) (number_in (meaning_by s r)))))))
+    (cond b (both (truth_in (meaning_by s l)) (λ f. both (truth_in (meaning_by s r)) (λ g. Some (truth (implied f g)))))
+    (both (number_in (meaning_by s l)) (λ f. both (number_in (meaning_by s r)) (λ g. combined o f g))))
 told_pair s o at l r true e hl hr =
-    then_truth IsWritten (typed s l) (faults_in s l) (faults_in s r ++ not_truth (start_of r) (meaning s r)) (meaning s l) (start_of l)
-    (λ f. typed s r >>= λ y. as_truth (start_of r) y >>= λ g. Ok (truth (implied f g))) (λ f. both (truth_in (meaning s r)) (λ g. Some (truth (implied f g)))) hl
-    (λ f i. let q = then_truth IsWritten (typed s r) (faults_in s r) [] (meaning s r) (start_of r) (λ g. Ok (truth (implied f g))) (λ g. Some (truth (implied f g))) hr (λ g j. (refl, refl, tt)) in
-    rw (append-nil (not_truth (start_of r) (meaning s r))) at q)
+    then_truth IsWritten (typed_by s l) (faults_by s l) (faults_by s r ++ not_truth (start_of r) (meaning_by s r)) (meaning_by s l) (start_of l)
+    (λ f. typed_by s r >>= λ y. as_truth (start_of r) y >>= λ g. Ok (truth (implied f g))) (λ f. both (truth_in (meaning_by s r)) (λ g. Some (truth (implied f g)))) hl
+    (λ f i. let q = then_truth IsWritten (typed_by s r) (faults_by s r) [] (meaning_by s r) (start_of r) (λ g. Ok (truth (implied f g))) (λ g. Some (truth (implied f g))) hr (λ g j. (refl, refl, tt)) in
+    rw (append-nil (not_truth (start_of r) (meaning_by s r))) at q)
 told_pair s o at l r false e hl hr =
-    then_number IsWritten (typed s l) (faults_in s l) _ (meaning s l) (start_of l)
-    (λ f. typed s r >>= λ y. as_number (start_of r) y >>= λ g. combine o at f g) (λ f. both (number_in (meaning s r)) (λ g. combined o f g)) hl
-    (λ f i w. then_number IsWritten (typed s r) (faults_in s r) (operator_faults o at (number_in (meaning s l)) (number_in (meaning s r))) (meaning s r) (start_of r)
+    then_number IsWritten (typed_by s l) (faults_by s l) _ (meaning_by s l) (start_of l)
+    (λ f. typed_by s r >>= λ y. as_number (start_of r) y >>= λ g. combine o at f g) (λ f. both (number_in (meaning_by s r)) (λ g. combined o f g)) hl
+    (λ f i w. then_number IsWritten (typed_by s r) (faults_by s r) (operator_faults o at (number_in (meaning_by s l)) (number_in (meaning_by s r))) (meaning_by s r) (start_of r)
     (λ g. combine o at f g) (λ g. combined o f g) hr
     (λ g j v. rw (i, j) (told_combine o at f g e w v)))
 
 mutual
-  pub told : (s : List Known) (e : Expr) → IsModest e → Told IsWritten (typed s e) (faults_in s e) (meaning s e)
-  told s (raw.node p k) h = told_kind s k h
+  pub told_by : (s : Names) (e : Expr) → IsModest e → Told IsWritten (typed_by s e) (faults_by s e) (meaning_by s e)
+  told_by s (raw.node p k) h = told_kind_by s k h
 
-  pub told_kind : (s : List Known) (k : Kind) → IsModestKind k → Told IsWritten (typed_kind s k) (kind_faults s k) (kind_meaning s k)
-  told_kind s (raw.numeral n) h = numeral_by (linear.number (pos n)) (is_writable (linear.number (pos n))) refl (numeral_written n h)
-  told_kind s (raw.truth b) h = (refl, refl, tt)
-  told_kind s (raw.name n) h = told_name n.place (find n.text s)
-  told_kind s (raw.at n) h = (([], refl), refl)
-  told_kind s (raw.negation e) h =
-      let q = then_truth IsWritten (typed s e) (faults_in s e) [] (meaning s e) (start_of e) (λ f. Ok (truth (negation f))) (λ f. Some (truth (negation f))) (told s e h) (λ f i. (refl, refl, tt)) in
-      rw (append-nil (not_truth (start_of e) (meaning s e))) at q
-  told_kind s (raw.negative at e) h =
-      then_number IsWritten (typed s e) (faults_in s e) (too_large at (option_map (scaled (negsuc 0)) (number_in (meaning s e)))) (meaning s e) (start_of e)
+  pub told_kind_by : (s : Names) (k : Kind) → IsModestKind k → Told IsWritten (kind_typed_by s k) (kind_faults_by s k) (kind_meaning_by s k)
+  told_kind_by s (raw.numeral n) h = numeral_by (linear.number (pos n)) (is_writable (linear.number (pos n))) refl (numeral_written n h)
+  told_kind_by s (raw.truth b) h = (refl, refl, tt)
+  told_kind_by s (raw.name n) h = told_name n.place (s.variable n.text)
+  told_kind_by s (raw.at n) h = told_place n.place (s.place n.text)
+  told_kind_by s (raw.negation e) h =
+      let q = then_truth IsWritten (typed_by s e) (faults_by s e) [] (meaning_by s e) (start_of e) (λ f. Ok (truth (negation f))) (λ f. Some (truth (negation f))) (told_by s e h) (λ f i. (refl, refl, tt)) in
+      rw (append-nil (not_truth (start_of e) (meaning_by s e))) at q
+  told_kind_by s (raw.negative at e) h =
+      then_number IsWritten (typed_by s e) (faults_by s e) (too_large at (option_map (scaled (negsuc 0)) (number_in (meaning_by s e)))) (meaning_by s e) (start_of e)
       (λ f. limited at (scaled (negsuc 0) f) >>= λ g. Ok (number g)) (λ f. if_written (Some (scaled (negsuc 0) f)))
-      (told s e h) (λ f i w. rw i (told_limited at (scaled (negsuc 0) f)))
-  told_kind s (raw.all es) h = told_all every (all_typed s es) (all_faults s es) (meanings s es) (tolds s es h)
-  told_kind s (raw.any es) h = told_all some (all_typed s es) (all_faults s es) (meanings s es) (tolds s es h)
-  told_kind s (raw.pair o at l r) h = told_pair s o at l r (is_implication o) refl (told s l h.0) (told s r h.1)
+      (told_by s e h) (λ f i w. rw i (told_limited at (scaled (negsuc 0) f)))
+  told_kind_by s (raw.all es) h = told_all every (all_typed_by s es) (all_faults_by s es) (meanings_by s es) (tolds_by s es h)
+  told_kind_by s (raw.any es) h = told_all some (all_typed_by s es) (all_faults_by s es) (meanings_by s es) (tolds_by s es h)
+  told_kind_by s (raw.pair o at l r) h = told_pair s o at l r (is_implication o) refl (told_by s l h.0) (told_by s r h.1)
 
-  pub tolds : (s : List Known) (es : Exprs) → AreModest es → Told (Any {A = Formulas}) (all_typed s es) (all_faults s es) (meanings s es)
-  tolds s raw.none h = (refl, refl, tt)
-  tolds s (raw.one_more e es) h =
-      then_truth (Any {A = Formulas}) (typed s e) (faults_in s e) (all_faults s es) (meaning s e) (start_of e)
-      (λ f. all_typed s es >>= λ fs. Ok (more f fs)) (λ f. both (meanings s es) (λ fs. Some (more f fs)))
-      (told s e h.0) (λ f i. told_more f (all_typed s es) (all_faults s es) (meanings s es) (tolds s es h.1))
+  pub tolds_by : (s : Names) (es : Exprs) → AreModest es → Told (Any {A = Formulas}) (all_typed_by s es) (all_faults_by s es) (meanings_by s es)
+  tolds_by s raw.none h = (refl, refl, tt)
+  tolds_by s (raw.one_more e es) h =
+      then_truth (Any {A = Formulas}) (typed_by s e) (faults_by s e) (all_faults_by s es) (meaning_by s e) (start_of e)
+      (λ f. all_typed_by s es >>= λ fs. Ok (more f fs)) (λ f. both (meanings_by s es) (λ fs. Some (more f fs)))
+      (told_by s e h.0) (λ f i. told_more f (all_typed_by s es) (all_faults_by s es) (meanings_by s es) (tolds_by s es h.1))
+
+-- in programs
+pub told : (s : List Known) (e : Expr) → IsModest e → Told IsWritten (typed s e) (faults_in s e) (meaning s e)
+told s e h = told_by (only s) e h

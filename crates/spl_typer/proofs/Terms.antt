@@ -54,14 +54,14 @@ Good vs (truth f) = TestFits vs f
 known_type : (vs : List Variable) (k : Known) → IsKnown vs k → type_of vs k.var ≡ Some k.truth
 known_type vs k h = ap (option_map (λ x. x.truth)) h
 
-variable_good : (vs : List Variable) (k : Known) → IsKnown vs k → Good vs (variable_term k)
+variable_good : (vs : List Variable) (k : Known) → IsKnown vs k → Good vs (variable_term (k.var, k.truth))
 variable_good vs k h = go k.truth refl
   where
     go : (b : Bool) → k.truth ≡ b → Good vs (cond b (truth (bool_var k.var)) (number (linear.variable k.var)))
     go true e = known_type vs k h ∙ ap Some e
     go false e = variable_word vs k.var (known_type vs k h ∙ ap Some e)
 
-named_good : (vs : List Variable) (place : ℕ) (o : Option Known) → IfKnown vs o → Holds (Good vs) (named_by place o)
+named_good : (vs : List Variable) (place : ℕ) (o : Option Known) → IfKnown vs o → Holds (Good vs) (named_by place (option_map (λ k. (k.var, k.truth)) o))
 named_good vs place None h = tt
 named_good vs place (Some k) h = variable_good vs k h
 

@@ -4,6 +4,7 @@ use Rattle.std.specs.Option.{option_map}
 use Rattle.st_linear.specs.Linear.{Linear, sum_of, scaled, variable}
 use Rattle.st_linear.specs.Linear as linear
 use Rattle.st_linear.specs.Simple.{negated}
+use Rattle.st_form.specs.Formula as forms
 use Rattle.st_form.specs.Formula.{Formula, Formulas, truth_value, row, equal, bool_var, negation, every, some, none, more}
 use Rattle.spl_parser.specs.declared.raw.Operator.{Operator}
 use Rattle.spl_parser.specs.declared.raw.Operator.TheVariants as operators
@@ -13,7 +14,7 @@ use Rattle.spl_parser.specs.ExpressionTree as raw
 use Rattle.spl_typer.specs.declared.fault.TypeFault.{TypeFault}
 use Rattle.spl_typer.specs.declared.fault.TypeFault.TheVariants as faults
 use Rattle.st_program.specs.Tree.{Term, number, truth}
-use Rattle.spl_typer.specs.Scope.{Known, find}
+use Rattle.spl_typer.specs.Scope.{Known, Names, only}
 use Rattle.spl_typer.specs.Typing.{variable_term, implied, is_implication}
 use Rattle.spl_typer.specs.Written.{is_writable, is_constant}
 
@@ -60,26 +61,26 @@ both (Some x) k = k x
 
 abbrev mutual
   -- what an expression means: nothing where a rule is broken in it
-  pub meaning : List Known → Expr → Option Term
-  meaning s (raw.node p k) = kind_meaning s k
+  pub meaning_by : Names → Expr → Option Term
+  meaning_by s (raw.node p k) = kind_meaning_by s k
 
-  pub kind_meaning : List Known → Kind → Option Term
-  kind_meaning s (raw.numeral n) = Some (number (linear.number (pos n)))
-  kind_meaning s (raw.truth b) = Some (truth (truth_value b))
-  kind_meaning s (raw.name n) = option_map variable_term (find n.text s)
-  kind_meaning s (raw.at n) = None
-  kind_meaning s (raw.negation e) = both (truth_in (meaning s e)) (λ f. Some (truth (negation f)))
-  kind_meaning s (raw.negative at e) = both (number_in (meaning s e)) (λ f. if_written (Some (scaled (negsuc 0) f)))
-  kind_meaning s (raw.all es) = both (meanings s es) (λ fs. Some (truth (every fs)))
-  kind_meaning s (raw.any es) = both (meanings s es) (λ fs. Some (truth (some fs)))
-  kind_meaning s (raw.pair o at l r) =
+  pub kind_meaning_by : Names → Kind → Option Term
+  kind_meaning_by s (raw.numeral n) = Some (number (linear.number (pos n)))
+  kind_meaning_by s (raw.truth b) = Some (truth (truth_value b))
+  kind_meaning_by s (raw.name n) = option_map variable_term (s.variable n.text)
+  kind_meaning_by s (raw.at n) = option_map (λ l. truth (forms.at l)) (s.place n.text)
+  kind_meaning_by s (raw.negation e) = both (truth_in (meaning_by s e)) (λ f. Some (truth (negation f)))
+  kind_meaning_by s (raw.negative at e) = both (number_in (meaning_by s e)) (λ f. if_written (Some (scaled (negsuc 0) f)))
+  kind_meaning_by s (raw.all es) = both (meanings_by s es) (λ fs. Some (truth (every fs)))
+  kind_meaning_by s (raw.any es) = both (meanings_by s es) (λ fs. Some (truth (some fs)))
+  kind_meaning_by s (raw.pair o at l r) =
       if is_implication o
-      then both (truth_in (meaning s l)) (λ f. both (truth_in (meaning s r)) (λ g. Some (truth (implied f g))))
-      else both (number_in (meaning s l)) (λ f. both (number_in (meaning s r)) (λ g. combined o f g))
+      then both (truth_in (meaning_by s l)) (λ f. both (truth_in (meaning_by s r)) (λ g. Some (truth (implied f g))))
+      else both (number_in (meaning_by s l)) (λ f. both (number_in (meaning_by s r)) (λ g. combined o f g))
 
-  pub meanings : List Known → Exprs → Option Formulas
-  meanings s raw.none = Some none
-  meanings s (raw.one_more e es) = both (truth_in (meaning s e)) (λ f. both (meanings s es) (λ fs. Some (more f fs)))
+  pub meanings_by : Names → Exprs → Option Formulas
+  meanings_by s raw.none = Some none
+  meanings_by s (raw.one_more e es) = both (truth_in (meaning_by s e)) (λ f. both (meanings_by s es) (λ fs. Some (more f fs)))
 
 -- an expression of known type that isn't of the wanted type
 abbrev pub not_number : ℕ → Option Term → List TypeFault
@@ -90,7 +91,7 @@ abbrev pub not_truth : ℕ → Option Term → List TypeFault
 not_truth place (Some (number f)) = faults.WrongType place ∷ []
 not_truth place _ = []
 
-abbrev pub unknown : ℕ → Option Known → List TypeFault
+abbrev pub unknown : {A : Type 0} → ℕ → Option A → List TypeFault
 unknown place None = faults.Unknown place ∷ []
 unknown place (Some k) = []
 
@@ -112,25 +113,32 @@ operator_faults _ at _ _ = []
 
 abbrev mutual
   -- the rules that are broken in an expression, with their places
-  pub faults_in : List Known → Expr → List TypeFault
-  faults_in s (raw.node p k) = kind_faults s k
+  pub faults_by : Names → Expr → List TypeFault
+  faults_by s (raw.node p k) = kind_faults_by s k
 
-  pub kind_faults : List Known → Kind → List TypeFault
-  kind_faults s (raw.numeral n) = []
-  kind_faults s (raw.truth b) = []
-  kind_faults s (raw.name n) = unknown n.place (find n.text s)
-  kind_faults s (raw.at n) = faults.Unknown n.place ∷ []
-  kind_faults s (raw.negation e) = faults_in s e ++ not_truth (start_of e) (meaning s e)
-  kind_faults s (raw.negative at e) =
-      faults_in s e ++ (not_number (start_of e) (meaning s e) ++ too_large at (option_map (scaled (negsuc 0)) (number_in (meaning s e))))
-  kind_faults s (raw.all es) = all_faults s es
-  kind_faults s (raw.any es) = all_faults s es
-  kind_faults s (raw.pair o at l r) =
+  pub kind_faults_by : Names → Kind → List TypeFault
+  kind_faults_by s (raw.numeral n) = []
+  kind_faults_by s (raw.truth b) = []
+  kind_faults_by s (raw.name n) = unknown n.place (s.variable n.text)
+  kind_faults_by s (raw.at n) = unknown n.place (s.place n.text)
+  kind_faults_by s (raw.negation e) = faults_by s e ++ not_truth (start_of e) (meaning_by s e)
+  kind_faults_by s (raw.negative at e) =
+      faults_by s e ++ (not_number (start_of e) (meaning_by s e) ++ too_large at (option_map (scaled (negsuc 0)) (number_in (meaning_by s e))))
+  kind_faults_by s (raw.all es) = all_faults_by s es
+  kind_faults_by s (raw.any es) = all_faults_by s es
+  kind_faults_by s (raw.pair o at l r) =
       if is_implication o
-      then faults_in s l ++ (not_truth (start_of l) (meaning s l) ++ (faults_in s r ++ not_truth (start_of r) (meaning s r)))
-      else faults_in s l ++ (not_number (start_of l) (meaning s l) ++ (faults_in s r ++ (not_number (start_of r) (meaning s r)
-      ++ operator_faults o at (number_in (meaning s l)) (number_in (meaning s r)))))
+      then faults_by s l ++ (not_truth (start_of l) (meaning_by s l) ++ (faults_by s r ++ not_truth (start_of r) (meaning_by s r)))
+      else faults_by s l ++ (not_number (start_of l) (meaning_by s l) ++ (faults_by s r ++ (not_number (start_of r) (meaning_by s r)
+      ++ operator_faults o at (number_in (meaning_by s l)) (number_in (meaning_by s r)))))
 
-  pub all_faults : List Known → Exprs → List TypeFault
-  all_faults s raw.none = []
-  all_faults s (raw.one_more e es) = faults_in s e ++ (not_truth (start_of e) (meaning s e) ++ all_faults s es)
+  pub all_faults_by : Names → Exprs → List TypeFault
+  all_faults_by s raw.none = []
+  all_faults_by s (raw.one_more e es) = faults_by s e ++ (not_truth (start_of e) (meaning_by s e) ++ all_faults_by s es)
+
+-- in programs, where names stand for variables alone
+abbrev pub meaning : List Known → Expr → Option Term
+meaning s e = meaning_by (only s) e
+
+abbrev pub faults_in : List Known → Expr → List TypeFault
+faults_in s e = faults_by (only s) e

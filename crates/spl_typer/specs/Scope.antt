@@ -1,5 +1,6 @@
--- The variables that are known at a place.
+-- What names stand for: variables that are known at a place, and in proofs places of control.
 use Rattle.std.specs.Prelude.{ℕ, Bool, List, [], ◌∷◌, Option, Some, None, map, if◌then◌else◌}
+use Rattle.std.specs.Option.{option_map}
 use Rattle.std.specs.Str.{bytes_eq}
 use Rattle.spl_typer.specs.declared.scope.Known as declared
 
@@ -18,3 +19,12 @@ scope_view ks = map known_view ks
 abbrev pub find : List ℕ → List Known → Option Known
 find name [] = None
 find name (k ∷ ks) = if bytes_eq k.name name then Some k else find name ks
+
+-- what each name stands for: as a variable its number and whether it is boolean, and behind `at` its location
+pub record Names : Type 0 where
+  pub variable : List ℕ → Option (ℕ × Bool)
+  pub place : List ℕ → Option ℕ
+
+-- in programs no name stands for a location
+abbrev pub only : List Known → Names
+only s = record { variable = λ name. option_map (λ k. (k.var, k.truth)) (find name s); place = λ name. None }

@@ -8,11 +8,11 @@ ghost use Rattle.st_reading.specs.Faults.{name_view};
 ghost use Rattle.spl_typer.specs.Answers.{Gives};
 ghost use Rattle.spl_typer.specs.Scope.{scope_view};
 ghost use Rattle.st_program.specs.Plain.{plain_term};
-ghost use Rattle.spl_typer.specs.Typing.{typed, all_typed, as_number, as_truth, named, combine, is_implication, implied};
+ghost use Rattle.spl_typer.specs.Typing.{typed, typed_by, all_typed_by, as_number, as_truth, named_by, placed_by, combine, is_implication, implied};
 
 use crate::fault::TypeFault;
 use crate::linear::{difference, less, lowered, negative, numeral, product, sum};
-use crate::scope::{Known, find};
+use crate::scope::{Known, Naming, Variables};
 use spl_parser::{Operator, RawExpr, RawExprKind, RawName};
 use st_form::{Form, Lin};
 use st_program::Value;
@@ -42,17 +42,21 @@ pub fn truth(value: bool) -> Form
     if value { Form::True } else { Form::False }
 }
 
-fn named<'a>(alloc: Global, scope: &[Known<'a>], name: &RawName<'a>) -> Result<Value, TypeFault>
-    ensures { Gives plain_term result (named (scope_view scope.now) (name_view name.now)) }
+fn named<N: Naming>(alloc: Global, names: &N, name: &RawName<'_>) -> Result<Value, TypeFault>
+    ensures { Gives plain_term result (named_by (name_view name.now).place ((N.told names.now).variable (name_view name.now).text)) }
 {
-    match find(scope, name.text) {
-        Some(known) => {
-            if known.truth {
-                Ok(Value::Truth(Form::BoolVar(known.var)))
-            } else {
-                Ok(Value::Number(Lin::variable(alloc, known.var)?))
-            }
-        }
+    match names.variable(name.text) {
+        Some((var, true)) => Ok(Value::Truth(Form::BoolVar(var))),
+        Some((var, false)) => Ok(Value::Number(Lin::variable(alloc, var)?)),
+        None => Err(TypeFault::Unknown(name.place)),
+    }
+}
+
+fn placed<N: Naming>(names: &N, name: &RawName<'_>) -> Result<Value, TypeFault>
+    ensures { Gives plain_term result (placed_by (name_view name.now).place ((N.told names.now).place (name_view name.now).text)) }
+{
+    match names.place(name.text) {
+        Some(location) => Ok(Value::Truth(Form::At(location))),
         None => Err(TypeFault::Unknown(name.place)),
     }
 }
@@ -108,28 +112,24 @@ fn combine(alloc: Global, operator: Operator, at: u64, f: &Lin, g: &Lin) -> Resu
 /// The meaning of an expression, or the first rule that is broken in it.
 #[cycle(typed)]
 #[tactic(auto, using(st_form::proofs::Nodes::nodes, spl_parser::proofs::Rows::kinds))]
-pub fn typed_expression<'a>(
-    alloc: Global,
-    scope: &[Known<'a>],
-    e: &RawExpr<'a>,
-) -> Result<Value, TypeFault>
-    ensures { Gives plain_term result (typed (scope_view scope.now) (expr_view e.now)) }
+pub fn typed_by<N: Naming>(alloc: Global, names: &N, e: &RawExpr<'_>) -> Result<Value, TypeFault>
+    ensures { Gives plain_term result (typed_by (N.told names.now) (expr_view e.now)) }
 {
     match &e.kind {
         RawExprKind::Numeral(n) => Ok(Value::Number(numeral(alloc, *n)?)),
         RawExprKind::Truth(b) => Ok(Value::Truth(truth(*b))),
-        RawExprKind::Name(n) => named(alloc, scope, n),
-        RawExprKind::At(n) => Err(TypeFault::Unknown(n.place)),
+        RawExprKind::Name(n) => named(alloc, names, n),
+        RawExprKind::At(n) => placed(names, n),
         RawExprKind::Not(of) => {
-            let f = as_truth(of.place, typed_expression(alloc, scope, of)?)?;
+            let f = as_truth(of.place, typed_by(alloc, names, of)?)?;
             Ok(Value::Truth(negation(alloc, f)?))
         }
         RawExprKind::Negate { at, of } => {
-            let f = as_number(of.place, typed_expression(alloc, scope, of)?)?;
+            let f = as_number(of.place, typed_by(alloc, names, of)?)?;
             Ok(Value::Number(negative(alloc, *at, &f)?))
         }
-        RawExprKind::All(items) => Ok(Value::Truth(Form::And(all_typed(alloc, scope, items)?))),
-        RawExprKind::Any(items) => Ok(Value::Truth(Form::Or(all_typed(alloc, scope, items)?))),
+        RawExprKind::All(items) => Ok(Value::Truth(Form::And(all_typed_by(alloc, names, items)?))),
+        RawExprKind::Any(items) => Ok(Value::Truth(Form::Or(all_typed_by(alloc, names, items)?))),
         RawExprKind::Pair {
             operator,
             at,
@@ -137,12 +137,12 @@ pub fn typed_expression<'a>(
             right,
         } => {
             if is_implication(*operator) {
-                let f = as_truth(left.place, typed_expression(alloc, scope, left)?)?;
-                let g = as_truth(right.place, typed_expression(alloc, scope, right)?)?;
+                let f = as_truth(left.place, typed_by(alloc, names, left)?)?;
+                let g = as_truth(right.place, typed_by(alloc, names, right)?)?;
                 Ok(Value::Truth(implication(alloc, f, g)?))
             } else {
-                let f = as_number(left.place, typed_expression(alloc, scope, left)?)?;
-                let g = as_number(right.place, typed_expression(alloc, scope, right)?)?;
+                let f = as_number(left.place, typed_by(alloc, names, left)?)?;
+                let g = as_number(right.place, typed_by(alloc, names, right)?)?;
                 combine(alloc, *operator, *at, &f, &g)
             }
         }
@@ -151,17 +151,28 @@ pub fn typed_expression<'a>(
 
 /// The parts of a chain, each of which is to be a truth value.
 #[cycle(typed)]
-fn all_typed<'a>(
+fn all_typed_by<N: Naming>(
     alloc: Global,
-    scope: &[Known<'a>],
-    items: &[RawExpr<'a>],
+    names: &N,
+    items: &[RawExpr<'_>],
 ) -> Result<Vec<Form>, TypeFault>
-    ensures { Gives (λ v. plain_list v.items) result (all_typed (scope_view scope.now) (exprs_view items.now)) }
+    ensures { Gives (λ v. plain_list v.items) result (all_typed_by (N.told names.now) (exprs_view items.now)) }
 {
     let mut out = Vec::new(alloc);
     for item in items {
-        let f = as_truth(item.place, typed_expression(alloc, scope, item)?)?;
+        let f = as_truth(item.place, typed_by(alloc, names, item)?)?;
         out.push(f)?;
     }
     Ok(out)
+}
+
+/// The meaning of an expression of a program, in which names stand for the variables of the scope.
+pub fn typed_expression<'a>(
+    alloc: Global,
+    scope: &[Known<'a>],
+    e: &RawExpr<'a>,
+) -> Result<Value, TypeFault>
+    ensures { Gives plain_term result (typed (scope_view scope.now) (expr_view e.now)) }
+{
+    typed_by(alloc, &Variables { known: scope }, e)
 }

@@ -7,9 +7,9 @@ ghost use Rattle.std.specs.Prelude.{List, ◌≡◌, ℕ, Err, ⊤};
 ghost use Rattle.spl_parser.specs.ExpressionTree.{Expr};
 ghost use Rattle.spl_parser.specs.ProgramTree.{Program};
 ghost use Rattle.spl_typer.specs.declared.fault.TypeFault.{TypeFault};
-ghost use Rattle.spl_typer.specs.Scope.{Known};
-ghost use Rattle.spl_typer.specs.Typing.{typed};
-ghost use Rattle.spl_typer.specs.Rules.{faults_in, meaning};
+ghost use Rattle.spl_typer.specs.Scope.{Known, Names};
+ghost use Rattle.spl_typer.specs.Typing.{typed, typed_by};
+ghost use Rattle.spl_typer.specs.Rules.{faults_in, faults_by, meaning, meaning_by};
 ghost use Rattle.spl_typer.specs.Told.{Told, Tells, IsWritten, IsModest};
 ghost use Rattle.spl_typer.specs.Placed.{IsPlaced, IsLeast};
 ghost use Rattle.spl_typer.specs.Programs.{typing};
@@ -25,6 +25,17 @@ pub fn first_is_told()
 pub fn least_is_told()
     ensures { (s : List Known) (e : Expr) (from to : ℕ) → IsModest e → IsPlaced e from to
         → (f : TypeFault) → typed s e ≡ Err f → IsLeast f (faults_in s e) }
+{}
+
+/// The same of an expression whatever its names stand for, as in proofs, where labels stand for locations.
+pub fn first_is_told_by_names()
+    ensures { (s : Names) (e : Expr) → IsModest e → Told IsWritten (typed_by s e) (faults_by s e) (meaning_by s e) }
+{}
+
+/// The same, whatever the names stand for.
+pub fn least_is_told_by_names()
+    ensures { (s : Names) (e : Expr) (from to : ℕ) → IsModest e → IsPlaced e from to
+        → (f : TypeFault) → typed_by s e ≡ Err f → IsLeast f (faults_by s e) }
 {}
 
 /// The walk over a program gives a program exactly where no rule is broken in it, and else the first of the faults.

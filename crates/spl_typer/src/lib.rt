@@ -15,10 +15,10 @@ mod scope;
 mod statement;
 mod walk;
 
-pub use expr::typed_expression;
+pub use expr::{as_number, as_truth, typed_by, typed_expression};
 pub use fault::TypeFault;
 pub use program::type_program;
-pub use scope::Known;
+pub use scope::{Known, Naming};
 
 #[cfg(test)]
 mod tests;

@@ -9,14 +9,14 @@ use Rattle.spl_parser.specs.ExpressionTree.{Expr, Kind, Exprs, start_of}
 use Rattle.spl_parser.specs.ExpressionTree as raw
 use Rattle.spl_typer.specs.declared.fault.TypeFault.{TypeFault}
 use Rattle.spl_typer.specs.declared.fault.TypeFault.TheVariants as faults
-use Rattle.spl_typer.specs.Scope.{Known, find}
+use Rattle.spl_typer.specs.Scope.{Known, Names, only}
 use Rattle.spl_typer.specs.Written.{is_writable}
 use Rattle.spl_typer.specs.Typing.{typed, is_implication}
-use Rattle.spl_typer.specs.Rules.{number_in, not_number, not_truth, unknown, too_large, not_linear, operator_faults, form_of, meaning, faults_in, kind_faults, all_faults}
+use Rattle.spl_typer.specs.Rules.{number_in, not_number, not_truth, unknown, too_large, not_linear, operator_faults, form_of, meaning, meaning_by, faults_in, faults_by, kind_faults_by, all_faults_by}
 use Rattle.spl_typer.specs.Told.{Told, IsWritten}
 use Rattle.spl_typer.specs.StatementRules.{test_faults, side_faults}
 use Rattle.spl_typer.proofs.Tells.{told}
-use Rattle.spl_typer.proofs.Rising.{rises}
+use Rattle.spl_typer.proofs.Rising.{rises_by}
 use Rattle.typing_laws.specs.Laws.{AreRules}
 use Rattle.typing_laws.proofs.Laying.{ExprLaid}
 use Rattle.typing_laws.proofs.Expressions.{start_behind, start_ahead}
@@ -36,7 +36,7 @@ number_rules p None = tt
 number_rules p (Some (number f)) = tt
 number_rules p (Some (truth f)) = (tt, tt)
 
-name_rules : (p : ℕ) (o : Option Known) → AreRules (unknown p o)
+name_rules : {A : Type 0} (p : ℕ) (o : Option A) → AreRules (unknown p o)
 name_rules p None = (tt, tt)
 name_rules p (Some k) = tt
 
@@ -94,38 +94,38 @@ operator_rules o at (Some f) None = right_rules o at f
 operator_rules o at (Some f) (Some g) = own_rules o at f g
 
 mutual
-  expression_rules : (s : List Known) (e : Expr) → AreRules (faults_in s e)
+  expression_rules : (s : Names) (e : Expr) → AreRules (faults_by s e)
   expression_rules s (raw.node p k) = kind_rules s k
 
-  kind_rules : (s : List Known) (k : Kind) → AreRules (kind_faults s k)
+  kind_rules : (s : Names) (k : Kind) → AreRules (kind_faults_by s k)
   kind_rules s (raw.numeral n) = tt
   kind_rules s (raw.truth b) = tt
-  kind_rules s (raw.name n) = name_rules n.place (find n.text s)
-  kind_rules s (raw.at n) = (tt, tt)
-  kind_rules s (raw.negation e) = rules_append (faults_in s e) _ (expression_rules s e) (truth_rules (start_of e) (meaning s e))
+  kind_rules s (raw.name n) = name_rules n.place (s.variable n.text)
+  kind_rules s (raw.at n) = name_rules n.place (s.place n.text)
+  kind_rules s (raw.negation e) = rules_append (faults_by s e) _ (expression_rules s e) (truth_rules (start_of e) (meaning_by s e))
   kind_rules s (raw.negative at e) =
-      rules_append (faults_in s e) _ (expression_rules s e)
-      (rules_append (not_number (start_of e) (meaning s e)) _ (number_rules (start_of e) (meaning s e)) (large_rules at (option_map (scaled (negsuc 0)) (number_in (meaning s e)))))
+      rules_append (faults_by s e) _ (expression_rules s e)
+      (rules_append (not_number (start_of e) (meaning_by s e)) _ (number_rules (start_of e) (meaning_by s e)) (large_rules at (option_map (scaled (negsuc 0)) (number_in (meaning_by s e)))))
   kind_rules s (raw.all es) = all_rules s es
   kind_rules s (raw.any es) = all_rules s es
   kind_rules s (raw.pair o at l r) =
       choose (is_implication o) _ _
-      (rules_append (faults_in s l) _ (expression_rules s l) (rules_append (not_truth (start_of l) (meaning s l)) _ (truth_rules (start_of l) (meaning s l))
-      (rules_append (faults_in s r) _ (expression_rules s r) (truth_rules (start_of r) (meaning s r)))))
-      (rules_append (faults_in s l) _ (expression_rules s l) (rules_append (not_number (start_of l) (meaning s l)) _ (number_rules (start_of l) (meaning s l))
-      (rules_append (faults_in s r) _ (expression_rules s r) (rules_append (not_number (start_of r) (meaning s r)) _ (number_rules (start_of r) (meaning s r))
-      (operator_rules o at (number_in (meaning s l)) (number_in (meaning s r)))))))
+      (rules_append (faults_by s l) _ (expression_rules s l) (rules_append (not_truth (start_of l) (meaning_by s l)) _ (truth_rules (start_of l) (meaning_by s l))
+      (rules_append (faults_by s r) _ (expression_rules s r) (truth_rules (start_of r) (meaning_by s r)))))
+      (rules_append (faults_by s l) _ (expression_rules s l) (rules_append (not_number (start_of l) (meaning_by s l)) _ (number_rules (start_of l) (meaning_by s l))
+      (rules_append (faults_by s r) _ (expression_rules s r) (rules_append (not_number (start_of r) (meaning_by s r)) _ (number_rules (start_of r) (meaning_by s r))
+      (operator_rules o at (number_in (meaning_by s l)) (number_in (meaning_by s r)))))))
     where
       choose : (b : Bool) (x y : List TypeFault) → AreRules x → AreRules y → AreRules (cond b x y)
       choose true x y a c = a
       choose false x y a c = c
 
-  all_rules : (s : List Known) (es : Exprs) → AreRules (all_faults s es)
+  all_rules : (s : Names) (es : Exprs) → AreRules (all_faults_by s es)
   all_rules s raw.none = tt
-  all_rules s (raw.one_more e es) = rules_append (faults_in s e) _ (expression_rules s e) (rules_append (not_truth (start_of e) (meaning s e)) _ (truth_rules (start_of e) (meaning s e)) (all_rules s es))
+  all_rules s (raw.one_more e es) = rules_append (faults_by s e) _ (expression_rules s e) (rules_append (not_truth (start_of e) (meaning_by s e)) _ (truth_rules (start_of e) (meaning_by s e)) (all_rules s es))
 
 pub expression_ordered : (s : List Known) (e : Expr) (from to : ℕ) → ExprLaid e from to → Ordered from to (faults_in s e)
-expression_ordered s e from to l = of_rising from to (faults_in s e) (rises s e from to l.modest l.placed) (expression_rules s e)
+expression_ordered s e from to l = of_rising from to (faults_in s e) (rises_by (only s) e from to l.modest l.placed) (expression_rules (only s) e)
 
 -- an expression and its own wrong type, which comes only where nothing in it is wrong
 typed_truth : (r : Result Term TypeFault) (fs : List TypeFault) (m : Option Term) (from to p : ℕ) → Told IsWritten r fs m → from ≤ p → p < to → Ordered from to fs → Ordered from to (fs ++ not_truth p m)

@@ -1,5 +1,5 @@
 -- Each problem of a division, by its number.
-use Rattle.std.proofs.Common.{◌≡◌, ℕ, ◌+◌, take, drop, ◌<◌, List, [], ◌∷◌, map, length, get_or, refl, ap, ◌∙◌, sym, Option, Some, None}
+use Rattle.std.proofs.Common.{◌≡◌, ℕ, ◌+◌, take, drop, ◌<◌, List, [], ◌∷◌, map, length, get_or, refl, ap, ◌∙◌, sym, Some}
 use Rattle.std.specs.Prelude.{slice_get, slice_set}
 use Rattle.std.specs.Option.{option_map}
 use Rattle.std.proofs.lemmas.List.{length-map}

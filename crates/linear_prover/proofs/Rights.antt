@@ -1,13 +1,12 @@
 -- What a verdict means, by the laws of the search.
-use Rattle.std.proofs.Common.{◌≡◌, ℕ, List, length, subst, sym, Option, Some, None}
-use Rattle.std.specs.Option.{option_map}
+use Rattle.std.proofs.Common.{◌≡◌, List, length, subst, sym, Option, Some, None}
 use Rattle.st_form.specs.Formula.{Formula}
 use Rattle.st_certificate.specs.Plain.{plain as tree_of}
 use Rattle.farkas_check.specs.Problem.{Setting, first_problem}
 use Rattle.row_elimination.specs.declared.top.WideStage.{WideStage}
 use Rattle.search_laws.specs.States.{State}
-use Rattle.search_laws.specs.Walks.{PathStep, Failure, left_open, given_up, Found, found, stopped, searched}
-use Rattle.search_laws.specs.Moves.{move_of, valid, open_at, wide_at, verdict_of, decided}
+use Rattle.search_laws.specs.Walks.{PathStep, left_open, given_up, Found, found, stopped, searched}
+use Rattle.search_laws.specs.Moves.{move_of, open_at, wide_at, verdict_of, decided}
 use Rattle.search_laws.specs.Forms.{AllForms, IsProper}
 use Rattle.search_laws.specs.Sizes.{IsShort, FailsShort}
 use Rattle.search_laws.proofs.Finding.{proved}

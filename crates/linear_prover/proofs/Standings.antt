@@ -1,12 +1,11 @@
 -- The loops of the state that is shown.
-use Rattle.std.proofs.Common.{◌≡◌, ℕ, ◌+◌, ◌<◌, List, [], ◌∷◌, ◌++◌, drop, length, get_or, refl, ap, ◌∙◌, sym, Option, Some, None, append_assoc}
+use Rattle.std.proofs.Common.{◌≡◌, ℕ, ◌+◌, ◌<◌, List, [], ◌∷◌, ◌++◌, drop, length, get_or, ap, ◌∙◌, sym, append_assoc}
 use Rattle.std.proofs.lemmas.List.{drop_more}
 use Rattle.control_states.specs.declared.alternative.Alternative.{Alternative}
-use Rattle.control_states.specs.Control.{ComponentFacts}
 use Rattle.st_form.specs.declared.variables.Variable.{Variable}
 use Rattle.st_form.specs.Formula.{Situation}
 use Rattle.st_program.specs.declared.residuals.Datum.{Datum}
-use Rattle.search_laws.specs.States.{State, next_standing, standing_from, listed, value_of, values_of}
+use Rattle.search_laws.specs.States.{State, value_of, values_of}
 
 -- one value more
 pub values-more : (store : List Datum) (variables : List Variable) (v : ℕ) (x : Variable) (d : Datum) (s : Situation) (whole : List Datum) → v < length variables → d ≡ value_of (get_or variables v x) v s

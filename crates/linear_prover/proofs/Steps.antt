@@ -1,6 +1,6 @@
 -- The loop over the problems of a division: the certificates so far, and then the walk of what is left, are the walk of all.
-use Rattle.std.proofs.Common.{◌≡◌, ℕ, zero, suc, ◌+◌, ◌<◌, ◌≤◌, List, [], ◌∷◌, ◌++◌, map, length, drop, refl, ap, ◌∙◌, sym, subst, Option, Some, None, arith}
-use Rattle.std.specs.Prelude.{slice_get, reverse}
+use Rattle.std.proofs.Common.{◌≡◌, ℕ, ◌+◌, ◌≤◌, List, [], ◌∷◌, ◌++◌, length, drop, refl, ap, ◌∙◌, sym, Some}
+use Rattle.std.specs.Prelude.{slice_get}
 use Rattle.std.proofs.lemmas.List.{drop_more}
 use Rattle.std.proofs.lemmas.Option.{slice_get_within, get_or_from_slice_get}
 use Rattle.std.proofs.Math.ListN.{drop_of_length-le}
@@ -8,8 +8,8 @@ use Rattle.st_certificate.specs.declared.Certificate.{Certificate}
 use Rattle.st_certificate.specs.Plain.{plain as tree_of, plain_trees}
 use Rattle.farkas_check.specs.Problem.{Problem}
 use Rattle.search_laws.specs.Walks.{Failure, PathStep, Found, found, stopped, FoundAll, all, broke, onto_trees, then_rest, walk_all}
-use Rattle.st_certificate.specs.Tree.{no_tree, with_tree}
-use Rattle.linear_prover.specs.Ready.{IfReady, AllReady, Rises}
+use Rattle.st_certificate.specs.Tree.{no_tree}
+use Rattle.linear_prover.specs.Ready.{IfReady, AllReady}
 use Rattle.linear_prover.specs.Loops.{onto_all}
 
 onto_all-push : (ts : List Certificate) (t : Certificate) (a : FoundAll) → onto_all (ts ++ t ∷ []) a ≡ onto_all ts (onto_trees (tree_of t) a)

@@ -5,16 +5,15 @@ use Rattle.std.proofs.lemmas.Bool.Decides.{nat_tests}
 use Rattle.st_form.specs.Formula.{Formulas}
 use Rattle.linear_prover.specs.declared.problems.Conjunct.{Conjunct}
 use Rattle.linear_prover.specs.Plain.{plain_each}
-use Rattle.farkas_check.specs.Problem.{Setting, Problem, divided_into}
+use Rattle.farkas_check.specs.Problem.{Setting, Problem}
 use Rattle.row_elimination.specs.declared.top.WideStage.TheVariants as stage
 use Rattle.search_laws.specs.Walks.{Found, found, stopped, given_up, Move, divides, walk_node, walk}
 use Rattle.search_laws.specs.Moves.{first_place_of, by_place, by_conjuncts, move_of}
 use Rattle.search_laws.proofs.Counting.{IsCounted, walk-counted}
-use Rattle.search_laws.proofs.Describing.{IsDivided}
 use Rattle.search_laws.proofs.Finding.{is-divided}
 use Rattle.linear_prover.specs.declared.divisions.Division.{Division}
 use Rattle.linear_prover.specs.Divisions.{step_of, children}
-use Rattle.linear_prover.specs.Ready.{AreReady, IfReady, AllReady, Rises}
+use Rattle.linear_prover.specs.Ready.{AreReady, AllReady, Rises}
 use Rattle.linear_prover.proofs.Readying.{division-ready}
 
 -- a problem is looked at where a level is left and the nodes are below the limit

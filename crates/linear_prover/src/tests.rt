@@ -97,8 +97,14 @@ fn leaves_open_with_a_path_and_a_state(rt: HostRuntime) -> Result<(), Fail> {
     for (step, (kind, number, branch)) in path.iter().zip(steps) {
         assert!(rt; step.kind == kind && step.number == number && step.branch == branch);
     }
-    assert_eq!(rt; shown.control.as_slice(), [(0, Alternative::Location(1))].as_slice());
-    assert_eq!(rt; shown.store.as_slice(), [Datum::Number(0), Datum::Truth(true)].as_slice());
+    assert_eq!(rt;
+        shown.control.as_slice(),
+        [(0, Alternative::Location(1))].as_slice()
+    );
+    assert_eq!(rt;
+        shown.store.as_slice(),
+        [Datum::Number(0), Datum::Truth(true)].as_slice()
+    );
     Ok(())
 }
 
@@ -121,12 +127,41 @@ fn shows_the_trial_point(rt: HostRuntime) -> Result<(), Fail> {
         return Err(Fail::new("not open"));
     };
     assert!(rt; path.is_empty());
-    assert_eq!(rt; shown.control.as_slice(), [(0, Alternative::Location(0))].as_slice());
+    assert_eq!(rt;
+        shown.control.as_slice(),
+        [(0, Alternative::Location(0))].as_slice()
+    );
     assert_eq!(rt; shown.store.as_slice(), [Datum::Number(-1)].as_slice());
     Ok(())
 }
 
-/// Each variable below a number, or not.
+/// A number that is at least 0, or is 0, is at least 0: the disjunction is split, and in each part the lines clash.
+#[tactic(auto, using(st_form::proofs::Nodes::nodes, crate::proofs::Small::variable_slight))]
+fn by_splitting(alloc: Global) -> Result<Verdict, Memory> {
+    let components = Components::one(alloc, 1)?;
+    let row = Form::Row(Lin::variable(alloc, 0)?);
+    let equation = Form::Equal(Lin::variable(alloc, 0)?);
+    let condition = Condition {
+        given: Form::Or(vec![in alloc; row, equation]?),
+        shown: Form::Row(Lin::variable(alloc, 0)?),
+        name: NAME,
+    };
+    decide(alloc, &components, &[NUMBER], &condition)
+}
+
+#[test]
+fn proves_by_splitting_and_lines(rt: HostRuntime) -> Result<(), Fail> {
+    let verdict = by_splitting(rt.alloc())?;
+    let Verdict::Valid(Certificate::Split(0, parts)) = &verdict else {
+        return Err(Fail::new("not proved"));
+    };
+    assert_eq!(rt; parts.len(), 2);
+    assert!(rt; matches!(&parts[0], Certificate::Linear(picks) if picks.len() == 2));
+    assert!(rt; matches!(&parts[1], Certificate::Linear(picks) if picks.len() == 2));
+    Ok(())
+}
+
+/// A boolean variable, or its opposite.
 #[tactic(auto, using(st_form::proofs::Nodes::nodes))]
 fn choice(alloc: Global, var: u32) -> Result<Form, Memory>
     requires { var < 401 }

@@ -1,5 +1,5 @@
 use Rattle.std.proofs.Common.{length}
-use Rattle.linear_prover.specs.Plain.{plain_each, plain_node}
+use Rattle.linear_prover.specs.Plain.{plain_each}
 use Rattle.linear_prover.proofs.Leaves.{lines-within, lines-below}
 use Rattle.linear_prover.proofs.moves.by_lines.Goals as goal
 

@@ -1,5 +1,5 @@
-use Rattle.std.proofs.Common.{◌≡◌, ℕ, suc, ◌-◌, arith, sym, ◌∙◌, ap}
-use Rattle.search_laws.specs.Moves.{or_else, outermost}
+use Rattle.std.proofs.Common.{◌-◌, arith, sym, ◌∙◌, ap}
+use Rattle.search_laws.specs.Moves.{or_else}
 use Rattle.linear_prover.proofs.Choices.{outer}
 use Rattle.linear_prover.proofs.moves.outermost.Goals as goal
 

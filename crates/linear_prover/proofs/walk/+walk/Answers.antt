@@ -1,13 +1,12 @@
-use Rattle.std.proofs.Common.{◌≡◌, ◌∙◌, ◌+◌, ◌-◌, List, arith, sym, ap, length}
+use Rattle.std.proofs.Common.{List, arith, length}
 use Rattle.std.proofs.lemmas.Result.{IfOk-weaker}
 use Rattle.linear_prover.specs.Plain.{plain_each, plain_node}
 use Rattle.farkas_check.specs.Problem.{Problem}
 use Rattle.farkas_check.specs.PlainProblem.{setting}
-use Rattle.search_laws.specs.Walks.{walk, walk_node}
+use Rattle.search_laws.specs.Walks.{walk}
 use Rattle.search_laws.specs.Moves.{move_of}
 use Rattle.linear_prover.specs.Plain.{plain_outcome}
 use Rattle.linear_prover.specs.Divisions.{children}
-use Rattle.linear_prover.specs.Ready.{Rises}
 use Rattle.linear_prover.proofs.Children.{children-size}
 use Rattle.linear_prover.proofs.Steps.{found-more, stopped-here, all-done, ready-here}
 use Rattle.linear_prover.proofs.Walking.{walk-here, rises-from, moved, children-ready}

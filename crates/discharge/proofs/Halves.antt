@@ -1,5 +1,5 @@
 -- The answers of two halves are those of the whole.
-use Rattle.std.proofs.Common.{◌≡◌, ℕ, zero, suc, ◌+◌, ◌-◌, ◌<◌, ◌≤◌, List, [], ◌∷◌, ◌++◌, length, take, drop, get_or, refl, ap, ◌∙◌, sym, subst, Option, Some, None, arith, inl, inr, ◌⊎◌}
+use Rattle.std.proofs.Common.{◌≡◌, ℕ, zero, suc, ◌+◌, ◌-◌, ◌<◌, ◌≤◌, List, [], ◌∷◌, ◌++◌, length, take, drop, get_or, refl, ap, ◌∙◌, sym, subst, Some, None, arith, inl, inr, ◌⊎◌}
 use Rattle.std.specs.Prelude.{slice_get, Result, Ok, IfOk}
 use Rattle.std.proofs.lemmas.List.{length-drop, take-append-drop, take_more, drop_more}
 use Rattle.std.proofs.lemmas.Option.{slice_get_within, slice_get_read}
@@ -7,7 +7,7 @@ use Rattle.st_form.specs.declared.conditions.Condition.{Condition}
 use Rattle.cert_text.specs.declared.reader.Block.{Block}
 use Rattle.farkas_check.specs.Problem.{Setting}
 use Rattle.linear_prover.specs.declared.verdict.Verdict.{Verdict}
-use Rattle.discharge.specs.First.{IsCheckable, AreCheckable, Proves, ProveBefore, Fails, IsFirstFailing}
+use Rattle.discharge.specs.First.{IsCheckable, AreCheckable, Proves, ProveBefore, IsFirstFailing}
 use Rattle.discharge.specs.Verdicts.{IsSearchable, AreSearchable, IsAnswer, AreAnswers}
 
 -- ---- elements of halves

@@ -1,4 +1,4 @@
-use Rattle.std.proofs.Common.{arith, sym, rules}
+use Rattle.std.proofs.Common.{arith}
 use Rattle.farkas_check.specs.PlainProblem.{setting}
 use Rattle.discharge.proofs.Halves.{here-checkable, checkable-sizes, before-more}
 use Rattle.discharge.proofs.checking.check_piece.Goals as goal

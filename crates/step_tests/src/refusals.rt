@@ -1,6 +1,6 @@
 //! Texts that are refused, each at its first fault, and limits.
 
-use crate::fixture::{CERTS, PROGRAM, PROOF, check_words, sink, stored};
+use crate::fixture::{CERTS, PROGRAM, PROOF, check_words, repeated, sink, stored};
 use st_outside::OpenGate;
 use std::test::Fail;
 use step_run::step_run;
@@ -97,22 +97,6 @@ fn programs_are_refused_at_their_first_fault(rt: HostRuntime) -> Result<(), Fail
         assert_eq!(rt; ended.number(), *status, "at {program}");
     }
     Ok(())
-}
-
-/// A text with a part that stands several times in it.
-fn repeated(
-    rt: &HostRuntime,
-    first: &str,
-    part: &str,
-    count: u32,
-    last: &str,
-) -> Result<String, Fail> {
-    let mut text = String::from_str(rt.alloc(), first)?;
-    for _ in 0..count {
-        text.push_str(part)?;
-    }
-    text.push_str(last)?;
-    Ok(text)
 }
 
 #[test]

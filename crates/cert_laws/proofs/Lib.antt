@@ -1,0 +1,4 @@
+pub mod Givens
+pub mod Prefixes
+pub mod Lexing
+pub mod BlockRead

@@ -241,10 +241,13 @@ block_tokens_read number second header ts bs rest at built s b n z r h =
 led : (number : ℕ) (second : Bool) (w : Written) → IsBlock number second w → run (block_tokens number w []) (scan_at number second (wants.Block false) 0 0) (built_at [] []) ≡ on (scan_at number second wants.Whole 0 (0 + tree_count w)) (built_at (meaning w ∷ []) [])
 led number second w p = block_read number false second w [] p.proper ∙ ap (λ c. cond c passed (on (scan_at number second wants.Whole 0 (0 + tree_count w)) (built_at (meaning w ∷ []) []))) p.within
 
-pub spelled-read : (number : ℕ) (second : Bool) (w : Written) (bs rest : List ℕ) (at : ℕ) → number < 2 ^ 32 → IsBlock number second w → Spells bs (block_tokens number w []) → after at (start number second) (bs ++ rest) ≡ whole (at + length bs) (scan_at number second wants.Whole 0 (0 + tree_count w)) (built_at (meaning w ∷ []) [])
-spelled-read number second w bs rest at n p h = block_tokens_read number second (nat_lt number 2 && cond second false true) (tokens.Number number ∷ tree_tokens w (tokens.Sign 59 ∷ [])) bs rest at (built_at [] []) (scan_at number second wants.Whole 0 (0 + tree_count w)) (built_at (meaning w ∷ []) []) n refl (led number second w p) h
+pub spelled-from : (header : Bool) (number : ℕ) (second : Bool) (w : Written) (bs rest : List ℕ) (at : ℕ) → number < 2 ^ 32 → IsBlock number second w → Spells bs (block_tokens number w []) → after at (going (scan_at number second (wants.Block header) 0 0) (built_at [] []) idle) (bs ++ rest) ≡ whole (at + length bs) (scan_at number second wants.Whole 0 (0 + tree_count w)) (built_at (meaning w ∷ []) [])
+spelled-from header number second w bs rest at n p h = block_tokens_read number second header (tokens.Number number ∷ tree_tokens w (tokens.Sign 59 ∷ [])) bs rest at (built_at [] []) (scan_at number second wants.Whole 0 (0 + tree_count w)) (built_at (meaning w ∷ []) []) n refl (led number second w p) h
 
-only_last : (t : Tree) → last_tree (t ∷ []) ≡ t
+spelled-read : (number : ℕ) (second : Bool) (w : Written) (bs rest : List ℕ) (at : ℕ) → number < 2 ^ 32 → IsBlock number second w → Spells bs (block_tokens number w []) → after at (start number second) (bs ++ rest) ≡ whole (at + length bs) (scan_at number second wants.Whole 0 (0 + tree_count w)) (built_at (meaning w ∷ []) [])
+spelled-read number second w bs rest at n p h = spelled-from (nat_lt number 2 && cond second false true) number second w bs rest at n p h
+
+pub only_last : (t : Tree) → last_tree (t ∷ []) ≡ t
 unfolding last_tree
 only_last t = refl
 

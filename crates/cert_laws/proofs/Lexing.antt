@@ -77,7 +77,7 @@ grown_is : (n d : ℕ) → n * 10 + (d - 48) < 2 ^ 64 → grown n d ≡ n * 10 +
 unfolding grown
 grown_is n d h = grind arith
 
-digit_step : (at place n d : ℕ) (scan : Scan) (built : Built) → is_digit d ≡ true → n * 10 + (d - 48) < 2 ^ 64 → fits_number scan (n * 10 + (d - 48)) ≡ true → step at (going scan built (digits place n)) d ≡ going scan built (digits place (n * 10 + (d - 48)))
+pub digit_step : (at place n d : ℕ) (scan : Scan) (built : Built) → is_digit d ≡ true → n * 10 + (d - 48) < 2 ^ 64 → fits_number scan (n * 10 + (d - 48)) ≡ true → step at (going scan built (digits place n)) d ≡ going scan built (digits place (n * 10 + (d - 48)))
 unfolding step
 digit_step at place n d scan built k s f =
     ap (λ x. cond x (number_grown place scan built n d) (and_begun at d (token_taken place at (give scan (tokens.Number n)) built))) k
@@ -100,7 +100,7 @@ digit_no_blank d h = grind (arith, nat_tests)
 digit_no_letter : (d : ℕ) → is_digit d ≡ true → is_letter d ≡ false
 digit_no_letter d h = grind (arith, nat_tests)
 
-first_digit : (at d : ℕ) (scan : Scan) (built : Built) → is_digit d ≡ true → step at (going scan built idle) d ≡ step at (going scan built (digits at 0)) d
+pub first_digit : (at d : ℕ) (scan : Scan) (built : Built) → is_digit d ≡ true → step at (going scan built idle) d ≡ step at (going scan built (digits at 0)) d
 unfolding step
 first_digit at d scan built k =
     let taken = token_taken at (at + 1) (give scan (tokens.Sign d)) built in

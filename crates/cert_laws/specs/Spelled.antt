@@ -50,3 +50,10 @@ Spells bs [] = bs ≡ []
 Spells bs (t ∷ ts) =
     (blanks : List ℕ) × (cs : List ℕ) × (rest : List ℕ) × (bs ≡ blanks ++ (cs ++ rest))
     × AreAll is_blank blanks × IsSpelling cs t × EndsAt t rest × Spells rest ts
+
+-- the header of version 2, with any blanks in front of each token; its number is one digit
+abbrev pub IsHeader : List ℕ → Type 0
+IsHeader head =
+    (front : List ℕ) × (between : List ℕ) × (behind : List ℕ)
+    × (head ≡ front ++ (codes "version" ++ (between ++ 50 ∷ (behind ++ 59 ∷ []))))
+    × AreAll is_blank front × AreAll is_blank between × AreAll is_blank behind

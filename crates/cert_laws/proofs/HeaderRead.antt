@@ -1,19 +1,18 @@
 -- A header before the first block leads on to it, by the rules of version 2.
-use Rattle.std.proofs.Common.{◌≡◌, ℕ, ◌+◌, ◌^◌, ◌<◌, Bool, true, false, cond, ◌&&◌, List, [], ◌∷◌, ◌++◌, length, drop, refl, sym, ap, ◌∙◌, subst, arith, append_assoc, codes, nat_lt, ◌-◌}
+use Rattle.std.proofs.Common.{◌≡◌, ℕ, ◌+◌, ◌^◌, ◌<◌, Bool, true, false, cond, ◌&&◌, List, [], ◌∷◌, ◌++◌, length, drop, refl, sym, ap, ◌∙◌, arith, append_assoc, codes, nat_lt, ◌-◌}
 use Rattle.std.proofs.lemmas.List.{length-append}
 use Rattle.std.proofs.Math.Seq.{drop-append_seam}
 use Rattle.std.proofs.lemmas.Bool.Decides.{nat_tests}
 use Rattle.cert_text.specs.declared.scan.Word.TheVariants as words
-use Rattle.cert_text.specs.declared.scan.Token.TheVariants as tokens
 use Rattle.cert_text.specs.declared.scan.Want.TheVariants as wants
 use Rattle.cert_text.specs.declared.scan.Action.TheVariants as actions
 use Rattle.cert_text.specs.declared.scan.Scan.{Scan}
 use Rattle.cert_text.specs.Letters.{is_blank, is_letter, is_digit}
 use Rattle.cert_text.specs.Control.{begins}
 use Rattle.cert_text.specs.Tree.{Built}
-use Rattle.cert_text.specs.Reading.{State, going, idle, letters, digits, step, after, start, whole}
+use Rattle.cert_text.specs.Reading.{State, going, idle, letters, digits, step, after, start}
 use Rattle.cert_text.specs.Run.{scan_at}
-use Rattle.cert_text.specs.Grammar.{Written, IsBlock, block_tokens, meaning, tree_count}
+use Rattle.cert_text.specs.Grammar.{Written, IsBlock, block_tokens, meaning}
 use Rattle.cert_text.specs.Held.{Held, answer_of, answer_at, taken_from, taken_at}
 use Rattle.cert_text.specs.Answer.{block}
 use Rattle.cert_text.proofs.Stopping.{after-append}
@@ -119,9 +118,10 @@ pub header-answered : (h : Held) (w : Written) (head bs rest : List ℕ) → nat
 header-answered h w head bs rest l f i p s e =
     let q = h.place + length head in
     let done =
-        ap (after h.place (start h.number h.second)) e
-        ∙ ap (λ t. after h.place t (head ++ (bs ++ rest))) (first_start h.number h.second l f)
-        ∙ header_taken h.number (built_at [] []) head (bs ++ rest) h.place i
-        ∙ spelled-from false h.number true w bs rest q (first_small h.number l) p s in
-    (ap (λ t. answer_at t h) done ∙ ap (block h.number) (only_last (meaning w)),
-    ap (λ t. taken_at t h) done ∙ ap (λ xs. record h { bytes = drop (q + length bs - h.place) xs; place = q + length bs; number = h.number + 1; second = true }) e ∙ ap (λ xs. record h { bytes = xs; place = q + length bs; number = h.number + 1; second = true }) (left_over h.place head bs rest))
+    ap (after h.place (start h.number h.second)) e
+    ∙ ap (λ t. after h.place t (head ++ (bs ++ rest))) (first_start h.number h.second l f)
+    ∙ header_taken h.number (built_at [] []) head (bs ++ rest) h.place i
+    ∙ spelled-from false h.number true w bs rest q (first_small h.number l) p s in (
+      ap (λ t. answer_at t h) done ∙ ap (block h.number) (only_last (meaning w)),
+      ap (λ t. taken_at t h) done ∙ ap (λ xs. record h { bytes = drop (q + length bs - h.place) xs; place = q + length bs; number = h.number + 1; second = true }) e ∙ ap (λ xs. record h { bytes = xs; place = q + length bs; number = h.number + 1; second = true }) (left_over h.place head bs rest),
+    )

@@ -5,3 +5,4 @@ pub mod BlockRead
 pub mod HeaderRead
 pub mod Writing
 pub mod WrittenRead
+pub mod OneRead

@@ -1,8 +1,7 @@
 -- The text that is written of a tree spells a tree of that meaning: the one with no minus before a zero.
-use Rattle.std.proofs.Common.{◌≡◌, ℕ, zero, suc, ◌+◌, ◌-◌, ◌*◌, ◌/◌, ◌%◌, ◌^◌, ◌<◌, ◌≤◌, Bool, true, false, cond, ◌||◌, List, [], ◌∷◌, ◌++◌, map, length, refl, sym, ap, ◌∙◌, subst, arith, nat_lt, nat_le, codes, append_assoc, inl, inr, ℤ}
+use Rattle.std.proofs.Common.{◌≡◌, ℕ, zero, suc, ◌+◌, ◌-◌, ◌*◌, ◌/◌, ◌%◌, ◌^◌, ◌<◌, ◌≤◌, Bool, true, false, cond, ◌||◌, List, [], ◌∷◌, ◌++◌, map, refl, sym, ap, ◌∙◌, subst, arith, nat_le, codes, append_assoc, inl, inr, ℤ}
 use Rattle.std.proofs.lemmas.Bool.Decides.{nat_tests}
 use Rattle.std.proofs.lemmas.Bool.{cases_lt}
-use Rattle.std.proofs.lemmas.List.{append-nil}
 use Rattle.std.proofs.Math.Nat.{pow-suc}
 use Rattle.cert_text.specs.declared.scan.Word.{Word}
 use Rattle.cert_text.specs.declared.scan.Word.TheVariants as words
@@ -10,11 +9,11 @@ use Rattle.cert_text.specs.declared.scan.Branching.{Branching}
 use Rattle.cert_text.specs.declared.scan.Branching.TheVariants as nodes
 use Rattle.cert_text.specs.declared.scan.Token.{Token}
 use Rattle.cert_text.specs.declared.scan.Token.TheVariants as tokens
-use Rattle.cert_text.specs.Letters.{is_blank, is_letter, is_digit}
+use Rattle.cert_text.specs.Letters.{is_digit}
 use Rattle.st_certificate.specs.Tree.{Tree, Trees, no_tree, with_tree, branch, by_cut, linear}
 use Rattle.cert_text.specs.Tree.{branching_of, signed_of}
 use Rattle.cert_text.specs.Grammar.{Int, int_value, int_tokens, entry_of, Written, w_absurd, w_farkas, w_linear, w_node, w_cut, Rows, w_last, w_and, pick_tokens, picks_tokens, line_tokens, lines_tokens, term_tokens, more_terms, terms_tokens, tree_tokens, rows_tokens, meaning, meanings, IsProper, AreProper, AreTerms, IsBlock, tree_count, row_count, none_left, terms_over, is_long, is_long_entry, is_long_pick, picks_over, lines_over, tree_over, rows_over, word_of_node, block_tokens}
-use Rattle.cert_text.specs.Spelling.{digits_in, decimal, int_text, pick_text, more_picks_text, picks_text, line_text, more_lines_text, lines_text, term_text, more_terms_text, terms_text, head_text, cut_text, tree_text, trees_text, block_text}
+use Rattle.cert_text.specs.Spelling.{digits_in, decimal, int_text, pick_text, more_picks_text, picks_text, line_text, more_lines_text, lines_text, term_text, more_terms_text, terms_text, tree_text, trees_text, block_text}
 use Rattle.cert_text.proofs.Digits.{digits_short, digits_more}
 use Rattle.cert_laws.specs.Spelled.{letters_of, AreAll, IsSpelling, EndsAt, Spells, IsSign, value_behind}
 
@@ -40,9 +39,13 @@ one_digit n h = (48 + n % 10, [], refl, (digit_is n, tt), omega arith)
 
 more_digits : (n : ℕ) (ds : List ℕ) → AreOf (n / 10) ds → AreOf n (ds ++ (48 + n % 10) ∷ [])
 more_digits n ds h =
-    let last = 48 + n % 10 in
-    (h.0, h.1 ++ last ∷ [], ap (λ xs. xs ++ last ∷ []) h.2, all_more is_digit (h.0 ∷ h.1) last h.3 (digit_is n),
-    value_last 0 last (h.0 ∷ h.1) ∙ ap (λ m. m * 10 + (last - 48)) h.4 ∙ omega arith)
+    let last = 48 + n % 10 in (
+      h.0,
+      h.1 ++ last ∷ [],
+      ap (λ xs. xs ++ last ∷ []) h.2,
+      all_more is_digit (h.0 ∷ h.1) last h.3 (digit_is n),
+      value_last 0 last (h.0 ∷ h.1) ∙ ap (λ m. m * 10 + (last - 48)) h.4 ∙ omega arith,
+    )
 
 tenth : (left n : ℕ) → n < 10 ^ (suc left + 1) → n / 10 < 10 ^ (left + 1)
 tenth left n b =

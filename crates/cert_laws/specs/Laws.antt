@@ -32,3 +32,11 @@ WrittenIsRead =
     (text : List ℕ) × (block_text h.number (meaning w) ≡ text ++ 10 ∷ [])
     × (answer_of h ≡ block h.number (meaning w))
     × (taken_from h ≡ record h { bytes = 10 ∷ rest; place = h.place + length text; number = h.number + 1 })
+
+-- no bytes begin with two blocks: the one is spelled by the same bytes as the other, and means the same
+abbrev pub OneBlock : Type 0
+OneBlock =
+    (number : ℕ) (second : Bool) (w v : Written) (bs cs rest more : List ℕ) →
+    number < 2 ^ 32 → IsBlock number second w → IsBlock number second v →
+    Spells bs (block_tokens number w []) → Spells cs (block_tokens number v []) → bs ++ rest ≡ cs ++ more →
+    (bs ≡ cs) × (meaning w ≡ meaning v)

@@ -1,6 +1,6 @@
 //! The laws. Each is a function that does nothing; its contract is the law.
 
-ghost use Rattle.cert_laws.specs.Laws.{SpelledIsRead, HeaderIsRead, WrittenIsRead};
+ghost use Rattle.cert_laws.specs.Laws.{SpelledIsRead, HeaderIsRead, WrittenIsRead, OneBlock};
 
 /// Bytes that spell a block are read as that block, wherever they stand and whatever follows them.
 pub fn spelled_is_read()
@@ -15,4 +15,9 @@ pub fn header_is_read()
 /// What is written is read.
 pub fn written_is_read()
     ensures { WrittenIsRead }
+{}
+
+/// No text begins with two blocks.
+pub fn one_block()
+    ensures { OneBlock }
 {}

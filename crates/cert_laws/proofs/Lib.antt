@@ -6,3 +6,4 @@ pub mod HeaderRead
 pub mod Writing
 pub mod WrittenRead
 pub mod OneRead
+pub mod LexBack

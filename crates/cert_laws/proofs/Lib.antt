@@ -7,3 +7,4 @@ pub mod Writing
 pub mod WrittenRead
 pub mod OneRead
 pub mod LexBack
+pub mod TokensBack

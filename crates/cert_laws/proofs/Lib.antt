@@ -8,3 +8,4 @@ pub mod WrittenRead
 pub mod OneRead
 pub mod LexBack
 pub mod TokensBack
+pub mod TreesBack

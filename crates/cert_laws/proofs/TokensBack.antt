@@ -24,7 +24,7 @@ no_truth h = cc
 
 -- lengths
 
-int_longer : (i : Int) (k : List Token) → length k ≤ length (int_tokens i k)
+pub int_longer : (i : Int) (k : List Token) → length k ≤ length (int_tokens i k)
 int_longer i k = by i.0 where
   by : (c : Bool) → length k ≤ length (cond c (tokens.Sign 45 ∷ tokens.Number i.1 ∷ k) (tokens.Number i.1 ∷ k))
   by true = omega arith
@@ -42,7 +42,7 @@ more_longer : (ts : List (ℕ × Int)) (k : List Token) → length k ≤ length 
 more_longer [] k = omega arith
 more_longer (t ∷ ts) k = let e = more_longer ts k in let f = int_longer t.1 (tokens.Sign 58 ∷ tokens.Number (t.0 + 1) ∷ more_terms ts k) in omega (arith, e, f)
 
-terms_longer : (ts : List (ℕ × Int)) (k : List Token) → length k ≤ length (terms_tokens ts k)
+pub terms_longer : (ts : List (ℕ × Int)) (k : List Token) → length k ≤ length (terms_tokens ts k)
 terms_longer [] k = omega arith
 terms_longer (t ∷ ts) k = let e = more_longer ts k in let f = int_longer t.1 (tokens.Sign 58 ∷ tokens.Number (t.0 + 1) ∷ more_terms ts k) in omega (arith, e, f)
 
@@ -294,7 +294,7 @@ module _ (number : ℕ) (second : Bool) (depth trees : ℕ) (s : Scan) (b : Buil
   abbrev Terms : List Token → Type 0
   Terms ts = (us : List (ℕ × Int)) × (k : List Token) × (ts ≡ terms_tokens us (tokens.Sign 59 ∷ k)) × AreTerms 0 us
 
-  terms_back : (ts : List Token) (built : Built) → run ts (Sc (wants.Coefficient true false 0)) built ≡ on s b → Terms ts
+  pub terms_back : (ts : List Token) (built : Built) → run ts (Sc (wants.Coefficient true false 0)) built ≡ on s b → Terms ts
   terms_back ts built r = by (term_back true 0 ts built r) where
     by : ATerm 0 ts ⊎ AnEnd true ts → Terms ts
     by (inr e) = ([], e.1, e.2, tt)
@@ -319,7 +319,7 @@ module _ (number : ℕ) (second : Bool) (depth trees : ℕ) (s : Scan) (b : Buil
   abbrev AConstant : List Token → Type 0
   AConstant ts = (i : Int) × (k : List Token) × (ts ≡ int_tokens i (tokens.Sign 93 ∷ k))
 
-  constant_back : (ts : List Token) (built : Built) → run ts (Sc (wants.Constant false)) built ≡ on s b → AConstant ts
+  pub constant_back : (ts : List Token) (built : Built) → run ts (Sc (wants.Constant false)) built ≡ on s b → AConstant ts
   constant_back [] built r = absurd (not_yet (Sc (wants.Constant false)) s built b r refl z)
   constant_back (tokens.Word w ∷ ts) built r = absurd (not_wrong s b r)
   constant_back (tokens.Sign c ∷ ts) built r =
@@ -331,14 +331,14 @@ module _ (number : ℕ) (second : Bool) (depth trees : ℕ) (s : Scan) (b : Buil
 
   -- leaves, from the bracket on
 
-  farkas_back : (ts : List Token) (built : Built) → run ts (Sc (wants.Picks false)) built ≡ on s b → (p : ℕ × ℕ) × (ps : List (ℕ × ℕ)) × (k : List Token) × (ts ≡ tokens.Sign 91 ∷ pick_tokens p (picks_tokens ps (tokens.Sign 93 ∷ k)))
+  pub farkas_back : (ts : List Token) (built : Built) → run ts (Sc (wants.Picks false)) built ≡ on s b → (p : ℕ × ℕ) × (ps : List (ℕ × ℕ)) × (k : List Token) × (ts ≡ tokens.Sign 91 ∷ pick_tokens p (picks_tokens ps (tokens.Sign 93 ∷ k)))
   farkas_back ts built r =
       let c = only_back 91 (Sc (wants.Picks false)) (givens.On (Sc (wants.Row false 0)) actions.Nothing) ts built s b refl z (λ t. refl) r in
       let p = pick_back 0 c.0 built c.2 in
       let m = picks_back (length p.1) p.3.0 p.1 p.3.1.0 (omega arith) p.3.1.1 in
       (p.0, m.0, m.1, c.1 ∙ ap (λ k. tokens.Sign 91 ∷ k) (p.2 ∙ ap (pick_tokens p.0) m.2))
 
-  linear_back : (ts : List Token) (built : Built) → run ts (Sc (wants.Picks true)) built ≡ on s b → (p : ℕ × Int) × (ps : List (ℕ × Int)) × (k : List Token) × (ts ≡ tokens.Sign 91 ∷ line_tokens p (lines_tokens ps (tokens.Sign 93 ∷ k)))
+  pub linear_back : (ts : List Token) (built : Built) → run ts (Sc (wants.Picks true)) built ≡ on s b → (p : ℕ × Int) × (ps : List (ℕ × Int)) × (k : List Token) × (ts ≡ tokens.Sign 91 ∷ line_tokens p (lines_tokens ps (tokens.Sign 93 ∷ k)))
   linear_back ts built r =
       let c = only_back 91 (Sc (wants.Picks true)) (givens.On (Sc (wants.Row true 0)) actions.Nothing) ts built s b refl z (λ t. refl) r in
       let p = line_back 0 c.0 built c.2 in
@@ -347,7 +347,7 @@ module _ (number : ℕ) (second : Bool) (depth trees : ℕ) (s : Scan) (b : Buil
 
   -- what a node names, and its brace
 
-  subject_back : (branching : Branching) (ts : List Token) (built : Built) → run ts (Sc (wants.Subject branching)) built ≡ on s b → (n : ℕ) × (k : List Token) × (ts ≡ tokens.Number (n + 1) ∷ k) × (run k (Sc (wants.Branches branching (n + 1))) built ≡ on s b)
+  pub subject_back : (branching : Branching) (ts : List Token) (built : Built) → run ts (Sc (wants.Subject branching)) built ≡ on s b → (n : ℕ) × (k : List Token) × (ts ≡ tokens.Number (n + 1) ∷ k) × (run k (Sc (wants.Branches branching (n + 1))) built ≡ on s b)
   subject_back branching [] built r = absurd (not_yet (Sc (wants.Subject branching)) s built b r refl z)
   subject_back branching (tokens.Word w ∷ ts) built r = absurd (not_wrong s b r)
   subject_back branching (tokens.Sign c ∷ ts) built r = absurd (not_wrong s b r)

@@ -1,0 +1,11 @@
+pub mod Givens
+pub mod Prefixes
+pub mod Lexing
+pub mod BlockRead
+pub mod HeaderRead
+pub mod Writing
+pub mod WrittenRead
+pub mod OneRead
+pub mod LexBack
+pub mod TokensBack
+pub mod TreesBack

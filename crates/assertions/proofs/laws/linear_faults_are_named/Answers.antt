@@ -1,0 +1,9 @@
+use Rattle.spl_parser.specs.Reading.{below, sum_of}
+use Rattle.std.proofs.Common.{true}
+use Rattle.assertions.specs.Reading.{linear_of}
+use Rattle.assertions.proofs.Named.{numbers_named}
+use Rattle.assertions.proofs.laws.linear_faults_are_named.Goals as goal
+
+pub returns : goal.returns
+unfolding linear_of
+returns c = λ names s e. numbers_named names (sum_of true (below true 32) s) e

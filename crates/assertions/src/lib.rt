@@ -1,0 +1,14 @@
+//! Formulas and integer expressions of proofs, from tokens: read by the grammar, with `at` names, and typed by a program's
+//! table of names.
+#![tactic(auto)]
+
+mod fault;
+pub mod laws;
+mod names;
+mod reading;
+
+pub use fault::FormFault;
+pub use reading::{read_form, read_linear};
+
+#[cfg(test)]
+mod tests;

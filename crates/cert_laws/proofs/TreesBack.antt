@@ -28,7 +28,7 @@ one_deeper : (depth : ℕ) → want_behind (depth + 1) ≡ wants.Tree true
 one_deeper depth = ap (λ c. cond c wants.End (wants.Tree true)) (not_none depth)
 
 -- what was read to its end passed no limit
-kept_within : (c : Bool) (x : Run) (s : Scan) (b : Built) → cond c passed x ≡ on s b → (c ≡ false) × (x ≡ on s b)
+pub kept_within : (c : Bool) (x : Run) (s : Scan) (b : Built) → cond c passed x ≡ on s b → (c ≡ false) × (x ≡ on s b)
 kept_within true x s b h = absurd (not_passed s b h)
 kept_within false x s b h = (refl, h)
 

@@ -1,6 +1,6 @@
 -- Only what is spelled is read: from the answer to the machine's end, from there to tokens, and from them to a tree.
 use Rattle.std.proofs.Common.{◌≡◌, ℕ, ◌+◌, ◌<◌, ◌^◌, Bool, true, false, cond, ◌&&◌, ◌||◌, List, [], ◌∷◌, ◌++◌, length, refl, sym, ap, ◌∙◌, subst, nat_lt, ◌==◌, Option, Some, None}
-use Rattle.st_certificate.specs.Tree.{Tree, impossible}
+use Rattle.st_certificate.specs.Tree.{Tree}
 use Rattle.cert_text.specs.declared.scan.Word.{Word}
 use Rattle.cert_text.specs.declared.scan.Word.TheVariants as words
 use Rattle.cert_text.specs.declared.scan.Token.{Token}
@@ -17,7 +17,7 @@ use Rattle.cert_text.specs.Reading.{State, Pending, going, malformed, over, whol
 use Rattle.cert_text.specs.Answer.{Answer, block, need, no_more, malformed_at, limit_at, at_end, judged, word_judged, blank_end}
 use Rattle.cert_text.specs.Held.{Held, answer_of, answer_at, outcome}
 use Rattle.cert_text.specs.Grammar.{Written, IsBlock, block_tokens, meaning, IsProper, tree_over, tree_count}
-use Rattle.cert_text.specs.Run.{Run, on, wrong, passed, go, run, scan_at}
+use Rattle.cert_text.specs.Run.{Run, on, wrong, passed, run, scan_at}
 use Rattle.cert_text.proofs.LeafReads.{built_at}
 use Rattle.cert_text.proofs.TreeReads.{block_read}
 use Rattle.cert_laws.specs.Spelled.{Spells}

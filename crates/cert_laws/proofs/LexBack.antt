@@ -1,6 +1,5 @@
 -- The way back from bytes to tokens: where the machine reads a block, the bytes up to its end spell tokens that lead there.
-use Rattle.std.proofs.Common.{◌≡◌, ℕ, suc, ◌+◌, ◌-◌, ◌*◌, ◌^◌, ◌<◌, ◌≤◌, Bool, true, false, cond, ◌&&◌, ◌||◌, ◌⊎◌, inl, inr, List, [], ◌∷◌, ◌++◌, length, refl, sym, ap, ◌∙◌, subst, arith, nat_lt, nat_le, ◌==◌, min, Option, Some, None, append_assoc, codes}
-use Rattle.std.proofs.lemmas.List.{append-nil}
+use Rattle.std.proofs.Common.{◌≡◌, ℕ, suc, ◌+◌, ◌-◌, ◌*◌, ◌^◌, ◌<◌, Bool, true, false, cond, ◌&&◌, ◌||◌, List, [], ◌∷◌, ◌++◌, length, refl, sym, ap, ◌∙◌, subst, arith, nat_lt, nat_le, ◌==◌, Option, Some, None, append_assoc, codes}
 use Rattle.std.proofs.lemmas.Bool.Decides.{nat_tests}
 use Rattle.std.specs.Str.{bytes_eq}
 use Rattle.std.proofs.lemmas.Slice.Eq.{bytes_eq-Decides}
@@ -21,7 +20,7 @@ use Rattle.cert_text.specs.Control.{give, give_at, fits_word, fits_number, word_
 use Rattle.cert_text.specs.Letters.{is_blank, is_letter, is_digit, grown}
 use Rattle.cert_text.specs.Tree.{Built, applied}
 use Rattle.cert_text.specs.Reading.{State, Pending, going, malformed, over, whole, idle, letters, digits, step, after, begun, staged, is_whole, word_grown, number_grown, token_taken, word_ended, and_begun}
-use Rattle.cert_text.specs.Run.{Run, on, wrong, passed, go, run}
+use Rattle.cert_text.specs.Run.{on, go, run}
 use Rattle.cert_text.proofs.Stopping.{stopped_after}
 use Rattle.cert_laws.specs.Spelled.{letters_of, AreAll, value_behind, IsSign, IsSpelling, EndsAt, Spells}
 use Rattle.cert_laws.proofs.Givens.{OnlyOn, on_if}
@@ -298,8 +297,8 @@ value_told n (d ∷ ds) h =
 shifted : (cs : List ℕ) (x : ℕ) (bs : List ℕ) (at : ℕ) (scan : Scan) (built : Built) (end : ℕ) (s : Scan) (b : Built) → Leads (cs ++ x ∷ []) bs (at + 1) scan built end s b → Leads cs (x ∷ bs) at scan built end s b
 shifted cs x bs at scan built end s b r =
     (r.0, r.1, x ∷ r.2, r.3, ap (λ xs. x ∷ xs) r.4, r.5 ∙ one_more at (length r.2), subst (λ xs. Spells xs (r.0 ∷ r.1)) (append_assoc cs (x ∷ []) r.2) r.6, r.7, r.8) where
-  one_more : (n m : ℕ) → n + 1 + m ≡ n + suc m
-  one_more n m = omega arith
+      one_more : (n m : ℕ) → n + 1 + m ≡ n + suc m
+      one_more n m = omega arith
 
 blank_front : (x : ℕ) (rest : List ℕ) (t : Token) (k : List Token) → is_blank x ≡ true → Spells rest (t ∷ k) → Spells (x ∷ rest) (t ∷ k)
 blank_front x rest t k e h = (x ∷ h.0, h.1, h.2, ap (λ xs. x ∷ xs) h.3, (e, h.4), h.5, h.6, h.7)
@@ -307,8 +306,8 @@ blank_front x rest t k e h = (x ∷ h.0, h.1, h.2, ap (λ xs. x ∷ xs) h.3, (e,
 blank_back : (x : ℕ) (bs : List ℕ) (at : ℕ) (scan : Scan) (built : Built) (end : ℕ) (s : Scan) (b : Built) → is_blank x ≡ true → Leads [] bs (at + 1) scan built end s b → Leads [] (x ∷ bs) at scan built end s b
 blank_back x bs at scan built end s b e r =
     (r.0, r.1, x ∷ r.2, r.3, ap (λ xs. x ∷ xs) r.4, r.5 ∙ one_more at (length r.2), blank_front x r.2 r.0 r.1 e r.6, r.7, r.8) where
-  one_more : (n m : ℕ) → n + 1 + m ≡ n + suc m
-  one_more n m = omega arith
+      one_more : (n m : ℕ) → n + 1 + m ≡ n + suc m
+      one_more n m = omega arith
 
 word_more : (grows : Bool) (ls : List ℕ) (x : ℕ) (bs : List ℕ) (start at : ℕ) (scan : Scan) (built : Built) (end : ℕ) (s : Scan) (b : Built) → scan.number < 2 ^ 32 → Back bs → after (at + 1) (cond grows (going scan built (letters start (ls ++ x ∷ []))) (malformed start)) bs ≡ whole end s b → Leads ls (x ∷ bs) at scan built end s b
 word_more true ls x bs start at scan built end s b n more h = shifted ls x bs at scan built end s b (more (at + 1) scan built (letters start (ls ++ x ∷ [])) (ls ++ x ∷ []) end s b n refl h)
@@ -336,8 +335,8 @@ sign_on true x bs at scan built s1 a end s b w n e sign more h =
 sign_on false x bs at scan built s1 a end s b w n e sign more h =
     let r = more (at + 1) s1 (applied a built) idle [] end s b n refl h in
     (tokens.Sign x, r.0 ∷ r.1, x ∷ r.2, r.3, ap (λ xs. x ∷ xs) r.4, r.5 ∙ one_more at (length r.2), ([], x ∷ [], r.2, refl, tt, (refl, sign), ends_sign x r.2, r.6), more_run (tokens.Sign x) r.0 r.1 scan built s1 s a b e r.7, r.8) where
-  one_more : (n m : ℕ) → n + 1 + m ≡ n + suc m
-  one_more n m = omega arith
+      one_more : (n m : ℕ) → n + 1 + m ≡ n + suc m
+      one_more n m = omega arith
 
 sign_back : (g : Given) (x : ℕ) (bs : List ℕ) (at : ℕ) (scan : Scan) (built : Built) (end : ℕ) (s : Scan) (b : Built) → give scan (tokens.Sign x) ≡ g → OnlyOn (Keeps scan.number) g → scan.number < 2 ^ 32 → IsSign x → Back bs → after (at + 1) (token_taken at (at + 1) g built) bs ≡ whole end s b → Leads [] (x ∷ bs) at scan built end s b
 sign_back (givens.On s1 a) x bs at scan built end s b e k n sign more h = sign_on (is_whole s1.want) x bs at scan built s1 a end s b refl (subst (λ m. m < 2 ^ 32) (sym k) n) e sign more h
@@ -361,10 +360,11 @@ pending_on : (ends : Bool) (t : Token) (cs : List ℕ) (x : ℕ) (bs : List ℕ)
 pending_on true t cs x bs start at scan built s1 a end s b w n e sp f more h =
     let k = same_whole (at + 1) at end s1 s (applied a built) b bs h in
     (t, [], [], x ∷ bs, refl, sym k.0 ∙ none at, ([], cs, [], refl, tt, sp, nothing t, refl), one_run t scan built s1 s a b e k.1 k.2, subst (λ q. is_whole q.want ≡ true) k.1 w) where
-  none : (m : ℕ) → m ≡ m + 0
-  none m = omega arith
-  nothing : (u : Token) → EndsAt u []
-  nothing u = tt
+      none : (m : ℕ) → m ≡ m + 0
+      none m = omega arith
+
+      nothing : (u : Token) → EndsAt u []
+      nothing u = tt
 pending_on false t cs x bs start at scan built s1 a end s b w n e sp f more h =
     let r = idle_back x bs at s1 (applied a built) end s b n more h in
     (t, r.0 ∷ r.1, r.2, r.3, r.4, r.5, ([], cs, r.2, refl, tt, sp, f r.2 r.3 r.4, r.6), more_run t r.0 r.1 scan built s1 s a b e r.7, r.8)

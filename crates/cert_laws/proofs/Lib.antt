@@ -9,3 +9,4 @@ pub mod OneRead
 pub mod LexBack
 pub mod TokensBack
 pub mod TreesBack
+pub mod ReadBack

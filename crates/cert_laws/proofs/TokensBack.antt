@@ -1,10 +1,7 @@
 -- The way back from tokens to trees: tokens that lead to the end of a block begin with those of a tree.
-use Rattle.std.proofs.Common.{◌≡◌, ℕ, zero, suc, ◌+◌, ◌-◌, ◌<◌, ◌≤◌, Bool, true, false, cond, ◌&&◌, ◌||◌, ◌⊎◌, inl, inr, List, [], ◌∷◌, ◌++◌, map, length, refl, sym, ap, ◌∙◌, subst, arith, nat_lt, nat_le, ◌==◌}
+use Rattle.std.proofs.Common.{◌≡◌, ℕ, zero, suc, ◌+◌, ◌-◌, ◌<◌, ◌≤◌, Bool, true, false, cond, ◌||◌, ◌⊎◌, inl, inr, List, [], ◌∷◌, length, refl, sym, ap, ◌∙◌, subst, arith, nat_lt, nat_le, ◌==◌}
 use Rattle.std.proofs.lemmas.Bool.Decides.{nat_tests}
-use Rattle.cert_text.specs.declared.scan.Word.{Word}
-use Rattle.cert_text.specs.declared.scan.Word.TheVariants as words
 use Rattle.cert_text.specs.declared.scan.Branching.{Branching}
-use Rattle.cert_text.specs.declared.scan.Branching.TheVariants as nodes
 use Rattle.cert_text.specs.declared.scan.Token.{Token}
 use Rattle.cert_text.specs.declared.scan.Token.TheVariants as tokens
 use Rattle.cert_text.specs.declared.scan.Want.{Want}
@@ -14,7 +11,7 @@ use Rattle.cert_text.specs.declared.scan.Action.TheVariants as actions
 use Rattle.cert_text.specs.declared.scan.Given.{Given}
 use Rattle.cert_text.specs.declared.scan.Given.TheVariants as givens
 use Rattle.cert_text.specs.Control.{give, only_sign}
-use Rattle.cert_text.specs.Tree.{Built, Open}
+use Rattle.cert_text.specs.Tree.{Built}
 use Rattle.cert_text.specs.Reading.{is_whole}
 use Rattle.cert_text.specs.Grammar.{Int, int_tokens, pick_tokens, picks_tokens, line_tokens, lines_tokens, term_tokens, more_terms, terms_tokens, AreTerms, Written, Rows, w_absurd, w_farkas, w_linear, w_node, w_cut, w_last, w_and, tree_tokens, rows_tokens}
 use Rattle.cert_text.specs.Run.{Run, on, wrong, passed, go, run, scan_at}

@@ -1,5 +1,5 @@
 -- The way back from tokens to trees, by the depth of what is open: tokens that lead to the end of a block are those of one.
-use Rattle.std.proofs.Common.{◌≡◌, ℕ, zero, suc, ◌+◌, ◌-◌, ◌<◌, ◌≤◌, Bool, true, false, cond, ◌&&◌, ◌||◌, List, [], ◌∷◌, ◌++◌, map, length, refl, sym, ap, ◌∙◌, subst, arith, nat_lt, nat_le, ◌==◌}
+use Rattle.std.proofs.Common.{◌≡◌, ℕ, zero, suc, ◌+◌, ◌<◌, ◌≤◌, Bool, true, false, cond, List, [], ◌∷◌, ◌++◌, map, length, refl, sym, ap, ◌∙◌, arith, nat_le, ◌==◌}
 use Rattle.cert_text.specs.declared.scan.Word.{Word}
 use Rattle.cert_text.specs.declared.scan.Word.TheVariants as words
 use Rattle.cert_text.specs.declared.scan.Branching.{Branching}
@@ -10,25 +10,24 @@ use Rattle.cert_text.specs.declared.scan.Want.{Want}
 use Rattle.cert_text.specs.declared.scan.Want.TheVariants as wants
 use Rattle.cert_text.specs.declared.scan.Scan.{Scan}
 use Rattle.cert_text.specs.declared.scan.Action.TheVariants as actions
-use Rattle.cert_text.specs.declared.scan.Given.{Given}
 use Rattle.cert_text.specs.declared.scan.Given.TheVariants as givens
-use Rattle.cert_text.specs.Control.{give, only_sign, entered, is_full, next_want}
+use Rattle.cert_text.specs.Control.{entered, is_full}
 use Rattle.st_certificate.specs.Tree.{Tree}
 use Rattle.cert_text.specs.Tree.{Built, Open, cut_entered}
 use Rattle.cert_text.specs.Reading.{is_whole}
-use Rattle.cert_text.specs.Grammar.{Int, int_value, entry_of, int_tokens, pick_tokens, picks_tokens, line_tokens, lines_tokens, terms_tokens, AreTerms, Written, Rows, w_absurd, w_farkas, w_linear, w_node, w_cut, w_last, w_and, tree_tokens, rows_tokens, block_tokens, word_of_node, meaning, IsProper, AreProper, IsBlock, tree_over, tree_count, terms_over, is_long_entry}
-use Rattle.cert_text.specs.Run.{Run, on, wrong, passed, go, run, scan_at, want_behind}
+use Rattle.cert_text.specs.Grammar.{Int, entry_of, int_tokens, terms_tokens, AreTerms, Written, Rows, w_absurd, w_farkas, w_linear, w_node, w_cut, w_last, w_and, tree_tokens, rows_tokens, word_of_node, meaning, IsProper, AreProper, tree_over, tree_count, terms_over, is_long_entry}
+use Rattle.cert_text.specs.Run.{Run, on, passed, go, run, scan_at, want_behind}
 use Rattle.cert_text.proofs.PickReads.{not_none}
 use Rattle.cert_text.proofs.LeafReads.{built_at, built_with, terms_read, constant_read}
 use Rattle.cert_text.proofs.CutReads.{cut_form}
-use Rattle.cert_text.proofs.TreeReads.{tree_read, block_read}
+use Rattle.cert_text.proofs.TreeReads.{tree_read}
 use Rattle.cert_laws.proofs.TokensBack.{tree_longer, int_longer, terms_longer, not_yet, not_wrong, not_passed, if_taken, same_if, only_back, terms_back, constant_back, farkas_back, linear_back, subject_back}
 
 one_deeper : (depth : ℕ) → want_behind (depth + 1) ≡ wants.Tree true
 one_deeper depth = ap (λ c. cond c wants.End (wants.Tree true)) (not_none depth)
 
 -- what was read to its end passed no limit
-kept_within : (c : Bool) (x : Run) (s : Scan) (b : Built) → cond c passed x ≡ on s b → (c ≡ false) × (x ≡ on s b)
+pub kept_within : (c : Bool) (x : Run) (s : Scan) (b : Built) → cond c passed x ≡ on s b → (c ≡ false) × (x ≡ on s b)
 kept_within true x s b h = absurd (not_passed s b h)
 kept_within false x s b h = (refl, h)
 
@@ -81,7 +80,7 @@ module _ (number : ℕ) (second : Bool) (s : Scan) (b : Built) (z : is_whole s.w
       let e5 = terms_longer vs (tokens.Sign 59 ∷ t.1) in
       let e6 = int_longer c (tokens.Sign 93 ∷ i.1) in
       let found = if_taken (ARow d.0) (nat_le 400 depth) _ _ form d.0 s b (λ q p. absurd (not_passed s b p))
-          (λ q p. rows d.0 depth trees [] _ os (omega (arith, e1, e2, e3, e4, e5, e6)) (ap (λ x. run d.0 (At (wants.Tree false) (depth + 1) trees) (cut_entered x form)) (sym (cut_form vs c t.3 one.0 two.0)) ∙ p)) d.2 in
+      (λ q p. rows d.0 depth trees [] _ os (omega (arith, e1, e2, e3, e4, e5, e6)) (ap (λ x. run d.0 (At (wants.Tree false) (depth + 1) trees) (cut_entered x form)) (sym (cut_form vs c t.3 one.0 two.0)) ∙ p)) d.2 in
       (vs, c, found.0, found.1, o.1 ∙ ap (λ k. tokens.Sign 91 ∷ k) (t.2 ∙ ap (λ k. terms_tokens vs (tokens.Sign 59 ∷ k)) (i.2 ∙ ap (λ k. int_tokens c (tokens.Sign 93 ∷ k)) (d.1 ∙ ap (λ k. tokens.Sign 123 ∷ k) found.2))), t.3, found.3)
 
   node_tree : (branching : Branching) (ts : List Token) (depth trees : ℕ) (us : List Tree) (os : List Open) (full : Bool) → RowsBelow (length ts) → go (cond full givens.Over (givens.On (At (wants.Subject branching) depth trees) actions.Nothing)) (built_at us os) (run ts) ≡ on s b → ATree (tokens.Word (word_of_node branching) ∷ ts)

@@ -1,6 +1,6 @@
 //! The laws. Each is a function that does nothing; its contract is the law.
 
-ghost use Rattle.cert_laws.specs.Laws.{SpelledIsRead, HeaderIsRead, WrittenIsRead, OneBlock};
+ghost use Rattle.cert_laws.specs.Laws.{SpelledIsRead, HeaderIsRead, WrittenIsRead, OneBlock, ReadIsSpelled};
 
 /// Bytes that spell a block are read as that block, wherever they stand and whatever follows them.
 pub fn spelled_is_read()
@@ -20,4 +20,9 @@ pub fn written_is_read()
 /// No text begins with two blocks.
 pub fn one_block()
     ensures { OneBlock }
+{}
+
+/// Only what is spelled is read as a block.
+pub fn read_is_spelled()
+    ensures { ReadIsSpelled }
 {}

@@ -1,5 +1,5 @@
--- The laws of certificate texts: what is spelled is read, so is what is written, and what is read is spelled. What is held begins with bytes; the answer is
--- that of next_block, and what is held behind it begins right behind them, whatever follows.
+-- The laws of certificate texts: what is spelled is read, so is what is written, and only what is spelled is read. What is held
+-- begins with bytes; the answer is that of next_block, and what is held behind it begins right behind them, whatever follows.
 use Rattle.std.specs.Prelude.{◌≡◌, ℕ, ◌+◌, ◌^◌, ◌<◌, Bool, true, false, nat_lt, ◌||◌, List, [], ◌∷◌, ◌++◌, length}
 use Rattle.st_certificate.specs.Tree.{Tree}
 use Rattle.cert_text.specs.declared.scan.Word.TheVariants as words

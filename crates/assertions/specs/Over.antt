@@ -7,6 +7,9 @@ use Rattle.st_form.specs.Formula.{Formula, Formulas, truth_value, row, equal, bo
 use Rattle.st_form.specs.declared.variables.Variable.{Variable}
 use Rattle.st_program.specs.Types.{type_of, LinearFits}
 use Rattle.spl_typer.specs.Scope.{Names}
+use Rattle.spl_parser.specs.ProgramTree.{Program}
+use Rattle.spl_typer.specs.Programs.{Typed, typing}
+use Rattle.assertions.specs.Naming.{names_of}
 use Rattle.assertions.specs.Reading.{form_of, linear_of}
 
 abbrev mutual
@@ -40,3 +43,7 @@ abbrev pub LinearsAreOver : Type 0
 LinearsAreOver =
     (vs : List Variable) (locations : ℕ) (names : Names) → NamesOver vs locations names
     → (s : Stream) (f : Linear) (rest : Stream) → linear_of names s ≡ Ok (f, rest) → LinearFits vs (suc (2 ^ 30)) f
+
+-- The names of a typed program stand for its variables and its locations.
+abbrev pub NamesStand : Type 0
+NamesStand = (p : Program) (t : Typed) → typing p ≡ Ok t → NamesOver t.variables t.locations (names_of t.names)

@@ -1,1 +1,4 @@
 pub mod Named
+pub mod Over
+pub mod Kept
+pub mod Tabled

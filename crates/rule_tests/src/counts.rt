@@ -8,7 +8,7 @@ ghost use Rattle.vc_generator.specs.Walks.{HasFewModes};
 ghost use Rattle.rule_laws.specs.Fitting.{NodesFit, NestedFit};
 ghost use Rattle.ranked_net.specs.Asked.{AreModest};
 ghost use Rattle.nested_net.specs.Asked.{NodeModest, AreModest as NestedModest};
-ghost use Rattle.net_tests.specs.Systems.{always as always_of};
+ghost use Rattle.rule_tests.specs.Systems.{always as always_of};
 
 use crate::two_steps;
 use nested_net::{Nested, make_nested};

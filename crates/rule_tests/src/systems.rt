@@ -2,7 +2,7 @@
 
 ghost use Rattle.std.specs.Prelude.{◌≡◌, IfOk};
 ghost use Rattle.transition_system.specs.Plain.{plain_mode, plain_transition, plain_system};
-ghost use Rattle.net_tests.specs.Systems.{passing as passing_of, idling as idling_of, stepping as stepping_of, two_steps as two_steps_of};
+ghost use Rattle.rule_tests.specs.Systems.{passing as passing_of, idling as idling_of, stepping as stepping_of, two_steps as two_steps_of};
 
 use st_form::{Change, Form, Part, TransName};
 use st_memory::Memory;

@@ -1,4 +1,4 @@
-//! The conditions of a diagram that aren't about one of its nodes, and names and formulas that its conditions share.
+//! The conditions of a diagram that aren't about one of its nodes, and formulas that its conditions share.
 
 ghost use Rattle.std.specs.Prelude.{◌≡◌, [], ◌∷◌, false, map, Some, None, unwrap_or};
 ghost use Rattle.std.specs.Option.{option_map};
@@ -13,24 +13,11 @@ ghost use Rattle.rule_laws.specs.Diagrams.{level_goal as level_goal_of, wait_for
 ghost use Rattle.diagram_conditions.specs.Asked.{CanFall};
 
 use crate::starts::{on_some_link, on_some_node, on_some_rank};
-use st_form::{CondName, Form, Premise};
+use st_form::{Form, Premise};
 use st_linear::Lin;
 use std::alloc::Global;
 use temporal_goals::Diagram;
-use vc_generator::{Conditions, VcFault, entails};
-
-/// The name of a condition that isn't about a mode.
-pub fn plainly(step: u32, premise: Premise, node: Option<u32>) -> CondName
-    ensures { result ≡ plainly_named step premise node }
-{
-    CondName {
-        step,
-        premise,
-        node,
-        trans: None,
-        mode: 0,
-    }
-}
+use vc_generator::{Conditions, VcFault, entails, plainly};
 
 /// The formula of a level, of formulas from the highest level down to level 0; `None` above the highest.
 fn level_goal<'a>(goals: &'a [Form], level: u32) -> Option<&'a Form>

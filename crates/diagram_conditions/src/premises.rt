@@ -6,7 +6,7 @@ ghost use Rattle.st_form.specs.Plain.{plain};
 ghost use Rattle.transition_system.specs.Plain.{plain_system};
 ghost use Rattle.rule_laws.specs.Names.{enabled_of};
 
-use crate::ends::{implies_level, plainly};
+use crate::ends::implies_level;
 use crate::moves::{Origin, steps_lead};
 use crate::nodes::PerNode;
 use crate::ranks::rank;
@@ -15,7 +15,7 @@ use st_memory::Memory;
 use std::alloc::Global;
 use temporal_goals::{Diagram, DiagramKind, DiagramNode};
 use transition_system::{Fts, enabled};
-use vc_generator::{Conditions, VcFault, entails};
+use vc_generator::{Conditions, VcFault, entails, plainly};
 
 /// Where the helper is enabled.
 fn helper_enabled(alloc: Global, fts: &Fts, helper: Option<u32>) -> Result<Form, Memory>

@@ -7,7 +7,7 @@ ghost use Rattle.st_form.specs.Plain.{plain};
 ghost use Rattle.transition_system.specs.Plain.{plain_system};
 ghost use Rattle.vc_generator.specs.Plain.{plain_list};
 ghost use Rattle.vc_generator.specs.Refusing.{Grows};
-ghost use Rattle.vc_generator.specs.Walks.{HasFewModes, plainly as plainly_named};
+ghost use Rattle.vc_generator.specs.Walks.{HasFewModes};
 ghost use Rattle.rule_laws.specs.Invariance.{kept_always, invariance_list};
 ghost use Rattle.invariance_rules.specs.Asked.{plain_stronger};
 
@@ -16,7 +16,7 @@ use std::alloc::Global;
 use temporal_goals::Goal;
 use transition_system::{Fts, Mode, Transition};
 use vc_generator::{
-    Conditions, PerMode, Rule, VcFault, each_mode, entails, start, take_back, triple,
+    Conditions, PerMode, Rule, VcFault, each_mode, entails, plainly, start, take_back, triple,
 };
 
 /// An invariance, perhaps by a stronger formula, with the formulas of the steps that it cites.
@@ -72,19 +72,6 @@ impl PerMode for Keeping<'_> {
     }
 }
 
-/// The name of a condition that isn't about a mode.
-fn plainly(step: u32, premise: Premise) -> CondName
-    ensures { result ≡ plainly_named step premise None }
-{
-    CondName {
-        step,
-        premise,
-        node: None,
-        trans: None,
-        mode: 0,
-    }
-}
-
 /// The formula holds at the start, and each mode keeps it.
 fn keep_always(
     alloc: Global,
@@ -97,7 +84,7 @@ fn keep_always(
     requires { HasFewModes (plain_system fts.now) }
     ensures { Grows result (plain_list out.old) (plain_list out.new) (kept_always step (plain_system fts.now) (map plain lemmas.now) (plain form.now)) }
 {
-    start(alloc, fts, lemmas, form, plainly(step, Premise::Start), out)?;
+    start(alloc, fts, lemmas, form, plainly(step, Premise::Start, None), out)?;
     let keeping = Keeping { step, lemmas, form };
     each_mode(alloc, fts, &keeping, out)
 }
@@ -117,7 +104,7 @@ fn invariant(
     match &rule.stronger {
         None => keep_always(alloc, fts, step, &rule.lemmas, form, out),
         Some(stronger) => {
-            let name = plainly(step, Premise::Implies);
+            let name = plainly(step, Premise::Implies, None);
             entails(alloc, &rule.lemmas, stronger, form, name, out)?;
             keep_always(alloc, fts, step, &rule.lemmas, stronger, out)
         }

@@ -17,7 +17,6 @@ ghost use Rattle.nested_net.specs.Asked.{NodeModest, AreModest};
 use crate::cases::{chosen, depth_cases, group_cases, push_stay};
 use crate::levels::top_at;
 use ranked_net::fairness::enabled_of;
-use ranked_net::plainly;
 use st_form::{CondName, Form, Premise};
 use st_linear::Lin;
 use st_memory::Memory;
@@ -25,7 +24,7 @@ use std::alloc::Global;
 use temporal_goals::{Level, NestedNode};
 use transition_system::{Fts, Mode, Transition};
 use vc_generator::numbers::{at_least, at_least_both};
-use vc_generator::{Case, Conditions, PerMode, VcFault, each_mode, entails, moved};
+use vc_generator::{Case, Conditions, PerMode, VcFault, each_mode, entails, moved, plainly};
 
 /// The state is on the node, and `below` is at least its outermost top.
 fn starts_on(alloc: Global, below: &Lin, node: &NestedNode) -> Result<Form, Memory>

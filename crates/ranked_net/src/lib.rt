@@ -11,6 +11,5 @@ mod making;
 mod rule;
 
 pub use faults::NetFault;
-pub use listing::plainly;
 pub use making::make_net;
 pub use rule::Ranked;

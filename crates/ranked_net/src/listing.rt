@@ -14,7 +14,7 @@ ghost use Rattle.temporal_goals.specs.Plain.{plain_node};
 ghost use Rattle.vc_generator.specs.Building.{at_least as at_least_of};
 ghost use Rattle.vc_generator.specs.Plain.{plain_list};
 ghost use Rattle.vc_generator.specs.Refusing.{Grows};
-ghost use Rattle.vc_generator.specs.Walks.{HasFewModes, numbered_from, plainly as plainly_named};
+ghost use Rattle.vc_generator.specs.Walks.{HasFewModes, numbered_from};
 ghost use Rattle.rule_laws.specs.RankedNet.{starts_on as starts_on_of, ranked_form as ranked_form_of, helped_form as helped_form_of, rank_of, help_of, move_of, ranked_list};
 ghost use Rattle.ranked_net.specs.Asked.{IsModest, AreModest};
 
@@ -27,20 +27,7 @@ use std::alloc::Global;
 use temporal_goals::Node;
 use transition_system::{Fts, Mode, Transition};
 use vc_generator::numbers::{at_least, at_least_both};
-use vc_generator::{Case, Conditions, PerMode, VcFault, each_mode, entails, moved};
-
-/// The name of a condition that isn't about a mode.
-pub fn plainly(step: u32, premise: Premise, node: Option<u32>) -> CondName
-    ensures { result ≡ plainly_named step premise node }
-{
-    CondName {
-        step,
-        premise,
-        node,
-        trans: None,
-        mode: 0,
-    }
-}
+use vc_generator::{Case, Conditions, PerMode, VcFault, each_mode, entails, moved, plainly};
 
 /// The state is on the node, and `below` is at least its top.
 fn starts_on(alloc: Global, below: &Lin, node: &Node) -> Result<Form, Memory>

@@ -1,9 +1,9 @@
 -- What a change makes of a formula.
-use Rattle.std.specs.Prelude.{ℕ, Bool, true, false, not, ◌&&◌, ◌||◌, ◌==◌, List, [], ◌∷◌, Option, Some, option_and_then, if◌then◌else◌}
+use Rattle.std.specs.Prelude.{ℕ, ◌+◌, ◌≡◌, Bool, true, false, not, ◌&&◌, ◌||◌, ◌==◌, List, [], ◌∷◌, Option, Some, option_and_then, if◌then◌else◌}
 use Rattle.std.specs.Option.{option_map}
 use Rattle.std.specs.List.{list_any}
 use Rattle.st_linear.specs.Linear.{Linear, replaced, changed}
-use Rattle.st_form.specs.Formula.{Formula, Formulas, truth_value, row, equal, bool_var, at, negation, every, some, none, more, Situation, truth}
+use Rattle.st_form.specs.Formula.{Formula, Formulas, truth_value, row, equal, bool_var, at, negation, every, some, none, more, Situation, truth, atoms}
 
 -- what is put in the place of variables, and which locations are left and entered
 pub record Exchange : Type 0 where
@@ -48,3 +48,23 @@ before s x = record {
   truths = λ v. truth s (truth_for v x.truths);
   located = λ l. is_listed l x.enters || (not (is_listed l x.leaves) && s.located l);
 }
+
+abbrev mutual
+  -- how many atoms the formula has once it is put before the change
+  pub atoms_behind : Exchange → Formula → ℕ
+  atoms_behind x (truth_value b) = 0
+  atoms_behind x (row f) = 1
+  atoms_behind x (equal f) = 1
+  atoms_behind x (bool_var v) = atoms (truth_for v x.truths)
+  atoms_behind x (at l) = atoms (location_after l x)
+  atoms_behind x (negation f) = atoms_behind x f
+  atoms_behind x (every fs) = all_behind x fs
+  atoms_behind x (some fs) = all_behind x fs
+
+  pub all_behind : Exchange → Formulas → ℕ
+  all_behind x none = 0
+  all_behind x (more f fs) = atoms_behind x f + all_behind x fs
+
+-- atoms are counted without the exchanged formula
+abbrev pub CountsBehind : Type 0
+CountsBehind = (x : Exchange) (f g : Formula) → exchanged x f ≡ Some g → atoms g ≡ atoms_behind x f

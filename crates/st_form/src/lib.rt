@@ -1,6 +1,7 @@
 //! Formulas over linear forms, their change and simplification, and the conditions that are made of them.
 #![tactic(auto)]
 
+mod behind;
 mod conditions;
 mod conjuncts;
 mod counts;

@@ -128,3 +128,18 @@ one_then (Err fault) old mid new d ds none is grows = (
 pub taken_back : (r : Result (Unit {0}) VcFault) (old mid new : List Implication) (ds : List Draft) → Grows r old mid ds → (IsErr r → new ≡ take (length old) mid) → (IsOk r → new ≡ mid) → AppendsAll r old new ds
 taken_back (Ok x) old mid new ds grows back kept = (grows.0, kept refl ∙ grows.1)
 taken_back (Err fault) old mid new ds grows back kept = (grows.0, back refl ∙ grows.1)
+
+-- some conditions, and then others
+pub grow-both : (r : Result (Unit {0}) VcFault) (old mid new : List Implication) (ds es : List Draft) → refusals old ds ≡ None → mid ≡ old ++ conditions ds → Grows r mid new es → Grows r old new (ds ++ es)
+grow-both (Ok x) old mid new ds es none is grows = (
+  refusals-then old ds es none ∙ ap (λ cs. refusals cs es) (sym is) ∙ grows.0,
+  grows.1 ∙ ap (λ cs. cs ++ conditions es) is ∙ append_assoc old (conditions ds) (conditions es) ∙ ap (λ cs. old ++ cs) (sym (conditions-append ds es)),
+)
+grow-both (Err fault) old mid new ds es none is grows = left-refused old mid new (ds ++ es) es [] fault (left-es old mid ds es none is) (grows.0) grows.1
+  where
+    left-es : (old mid : List Implication) (ds es : List Draft) → refusals old ds ≡ None → mid ≡ old ++ conditions ds → Left old mid (ds ++ es) (es ++ [])
+    left-es old mid ds es none is = left-on old old mid (ds ++ es) ds (es ++ []) (subst (Left old old (ds ++ es)) (ap (λ zs. ds ++ zs) (sym (append-nil es))) (left-all old (ds ++ es))) none is
+
+-- a refusal among the first conditions refuses all
+pub refused-among-the-first : (fault : VcFault) (old new : List Implication) (ds es : List Draft) → Grows (Err fault) old new ds → Grows (Err fault) old new (ds ++ es)
+refused-among-the-first fault old new ds es grows = left-refused old old new (ds ++ es) ds es fault (left-all old (ds ++ es)) grows.0 grows.1

@@ -12,7 +12,7 @@ ghost use Rattle.vc_generator.specs.Plain.{plain_list, plain_case};
 ghost use Rattle.vc_generator.specs.Refusing.{Appends};
 
 use crate::conditions::{Conditions, append, room_for};
-use crate::counts::{atoms_behind, atoms_in_all};
+use crate::counts::atoms_in_all;
 use crate::faults::VcFault;
 use crate::numbers::{after, falls_to};
 use st_form::{CondName, Condition, Form, copy_all};
@@ -81,7 +81,7 @@ pub fn triple(
     ensures { Appends result (plain_list out.old) (plain_list out.new)
         (triple_of (plain_mode mode.now) (map plain lemmas.now) (plain before.now) (plain behind.now) (plain now.now) name) }
 {
-    let shown = atoms_behind(behind, &mode.change).saturating_add(now.atoms());
+    let shown = behind.atoms_behind(&mode.change).saturating_add(now.atoms());
     let atoms = given_atoms(mode, lemmas, before).saturating_add(shown);
     room_for(out, atoms)?;
     let condition = make_triple(alloc, mode, lemmas, before, behind, now, name)?;
@@ -129,7 +129,7 @@ fn shown_atoms(mode: &Mode, cases: &[Case]) -> u64
 {
     let mut sum: u64 = 0;
     for case in cases {
-        let behind = atoms_behind(&case.behind, &mode.change).saturating_add(
+        let behind = case.behind.atoms_behind(&mode.change).saturating_add(
             case.falls.len() as u64,
         );
         let whole = case.now.atoms().saturating_add(behind);

@@ -5,6 +5,7 @@ pub mod building;
 pub mod conditions;
 mod counts;
 mod faults;
+mod naming;
 pub mod numbers;
 pub mod rule;
 pub mod walk;
@@ -12,6 +13,7 @@ pub mod walk;
 pub use building::{Case, entails, moved, start, triple};
 pub use conditions::{Conditions, take_back};
 pub use faults::VcFault;
+pub use naming::plainly;
 pub use rule::Rule;
 pub use walk::{PerMode, each_mode};
 

@@ -1,5 +1,5 @@
 -- The next level of a walk over levels.
-use Rattle.std.proofs.Common.{arith, ◌≡◌, ◌∙◌, ap, sym, subst, refl, ℕ, ◌+◌, ◌-◌, ◌<◌, ◌≤◌, List, [], ◌∷◌, ◌++◌, length, map, take, drop, get_or, Some, None, Result, Ok, Err, append_assoc, append-nil}
+use Rattle.std.proofs.Common.{arith, ◌≡◌, ◌∙◌, ap, sym, subst, refl, ℕ, ◌+◌, ◌-◌, ◌<◌, ◌≤◌, List, [], ◌∷◌, ◌++◌, length, map, take, drop, get_or, Some, None, Result}
 use Rattle.std.proofs.lemmas.List.{drop_more, length-map, length-drop, take_rest}
 use Rattle.st_form.specs.Formula.{Formula, some, formulas}
 use Rattle.st_form.specs.Plain.{plain}
@@ -59,21 +59,6 @@ none-fall step system lemmas levels i few = by-list (map plain (drop i levels)) 
     by-list [] h = refl
     by-list (f ∷ []) h = refl
     by-list (f ∷ g ∷ fs) h = absurd (omega arith)
-
--- some conditions, and then others
-pub grow-both : (r : Result (Unit {0}) VcFault) (old mid new : List Implication) (ds es : List Draft) → refusals old ds ≡ None → mid ≡ old ++ map (λ d. d.condition) ds → Grows r mid new es → Grows r old new (ds ++ es)
-grow-both (Ok x) old mid new ds es none is grows = (
-  refusals-then old ds es none ∙ ap (λ cs. refusals cs es) (sym is) ∙ grows.0,
-  grows.1 ∙ ap (λ cs. cs ++ conditions es) is ∙ append_assoc old (conditions ds) (conditions es) ∙ ap (λ cs. old ++ cs) (sym (conditions-append ds es)),
-)
-grow-both (Err fault) old mid new ds es none is grows = left-refused old mid new (ds ++ es) es [] fault (left-es old mid ds es none is) (grows.0) grows.1
-  where
-    left-es : (old mid : List Implication) (ds es : List Draft) → refusals old ds ≡ None → mid ≡ old ++ conditions ds → Left old mid (ds ++ es) (es ++ [])
-    left-es old mid ds es none is = left-on old old mid (ds ++ es) ds (es ++ []) (subst (Left old old (ds ++ es)) (ap (λ zs. ds ++ zs) (sym (append-nil es))) (left-all old (ds ++ es))) none is
-
--- a refusal among the first conditions refuses all
-pub refused-among-the-first : (fault : VcFault) (old new : List Implication) (ds es : List Draft) → Grows (Err fault) old new ds → Grows (Err fault) old new (ds ++ es)
-refused-among-the-first fault old new ds es grows = left-refused old old new (ds ++ es) ds es fault (left-all old (ds ++ es)) grows.0 grows.1
 
 -- the first condition by its parts
 pub first-of : (r : Result (Unit {0}) VcFault) (old new : List Implication) (step : ℕ) (lemmas levels : List Formula) (p q : Formula) (name : CondName) (ds : List Draft) → q ≡ some (formulas levels) → name ≡ plainly step Cover None

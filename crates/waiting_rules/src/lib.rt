@@ -8,7 +8,7 @@ ghost use Rattle.st_form.specs.Plain.{plain};
 ghost use Rattle.transition_system.specs.Plain.{plain_system};
 ghost use Rattle.vc_generator.specs.Plain.{plain_list};
 ghost use Rattle.vc_generator.specs.Refusing.{Grows};
-ghost use Rattle.vc_generator.specs.Walks.{HasFewModes, plainly as plainly_named};
+ghost use Rattle.vc_generator.specs.Walks.{HasFewModes};
 ghost use Rattle.rule_laws.specs.WaitingFor.{level_list, move_list, waiting_list};
 
 use st_form::{CondName, Form, Premise, copy_all};
@@ -16,7 +16,7 @@ use st_memory::Memory;
 use std::alloc::Global;
 use temporal_goals::Goal;
 use transition_system::{Fts, Mode, Transition};
-use vc_generator::{Conditions, PerMode, Rule, VcFault, each_mode, entails, take_back, triple};
+use vc_generator::{Conditions, PerMode, Rule, VcFault, each_mode, entails, plainly, take_back, triple};
 
 /// Nested waiting-for, with a formula for each level, the highest first, and the formulas of the steps that it cites.
 #[derive(Drop)]
@@ -70,19 +70,6 @@ impl PerMode for Falling<'_> {
             name,
             out,
         )
-    }
-}
-
-/// The name of a condition that isn't about a mode.
-fn plainly(step: u32, premise: Premise, node: Option<u32>) -> CondName
-    ensures { result ≡ plainly_named step premise node }
-{
-    CondName {
-        step,
-        premise,
-        node,
-        trans: None,
-        mode: 0,
     }
 }
 

@@ -4,9 +4,9 @@ use Rattle.st_form.specs.Plain.{plain}
 use Rattle.transition_system.specs.Plain.{plain_system}
 use Rattle.vc_generator.specs.Plain.{plain_list}
 use Rattle.vc_generator.specs.Building.{entails_of}
-use Rattle.vc_generator.proofs.Growing.{one_then}
+use Rattle.vc_generator.proofs.Growing.{one_then, grow-both, refused-among-the-first}
 use Rattle.rule_laws.specs.WaitingFor.{level_list, move_list}
-use Rattle.waiting_rules.proofs.Nexts.{grow-both, refused-among-the-first, first-of}
+use Rattle.waiting_rules.proofs.Nexts.{first-of}
 use Rattle.waiting_rules.proofs.waiting.Goals as goal
 
 pub returns-in_err-levels_imply : goal.returns-in_err-levels_imply

@@ -6,7 +6,7 @@ use Rattle.temporal_goals.specs.Plain.{plain_nested_node}
 use Rattle.vc_generator.specs.Plain.{plain_list}
 use Rattle.vc_generator.specs.Walks.{numbered_from}
 use Rattle.rule_laws.specs.NestedNet.{nested_rank, nested_help, nested_move}
-use Rattle.ranked_net.proofs.Walked.{grow-both, refused-among-the-first}
+use Rattle.vc_generator.proofs.Growing.{grow-both, refused-among-the-first}
 use Rattle.nested_net.proofs.Walked.{cover-then}
 use Rattle.nested_net.proofs.listing.push_all.Goals as goal
 

@@ -6,7 +6,8 @@ use Rattle.temporal_goals.specs.Plain.{plain_node}
 use Rattle.vc_generator.specs.Plain.{plain_list}
 use Rattle.vc_generator.specs.Walks.{numbered_from}
 use Rattle.rule_laws.specs.RankedNet.{rank_of, help_of, move_of}
-use Rattle.ranked_net.proofs.Walked.{grow-both, refused-among-the-first, cover-then}
+use Rattle.vc_generator.proofs.Growing.{grow-both, refused-among-the-first}
+use Rattle.ranked_net.proofs.Walked.{cover-then}
 use Rattle.ranked_net.proofs.listing.push_all.Goals as goal
 
 pub returns-in_err-push_ranks : goal.returns-in_err-push_ranks

@@ -10,8 +10,7 @@ use Rattle.transition_system.specs.Systems.{System}
 use Rattle.st_form.specs.Condition.{Implication}
 use Rattle.vc_generator.specs.Building.{Draft, entails_of}
 use Rattle.vc_generator.specs.declared.faults.VcFault.{VcFault}
-use Rattle.vc_generator.specs.Refusing.{refusals, Grows}
-use Rattle.vc_generator.proofs.Growing.{conditions, conditions-append, refusals-then, Left, left-all, left-on, left-refused}
+use Rattle.vc_generator.specs.Refusing.{Grows}
 use Rattle.waiting_rules.specs.Asked.{falls}
 use Rattle.vc_generator.specs.Walks.{each_mode, plainly}
 use Rattle.rule_laws.specs.WaitingFor.{level_list, move_list}

@@ -84,7 +84,8 @@ fn keep_always(
     requires { HasFewModes (plain_system fts.now) }
     ensures { Grows result (plain_list out.old) (plain_list out.new) (kept_always step (plain_system fts.now) (map plain lemmas.now) (plain form.now)) }
 {
-    start(alloc, fts, lemmas, form, plainly(step, Premise::Start, None), out)?;
+    let name = plainly(step, Premise::Start, None);
+    start(alloc, fts, lemmas, form, name, out)?;
     let keeping = Keeping { step, lemmas, form };
     each_mode(alloc, fts, &keeping, out)
 }

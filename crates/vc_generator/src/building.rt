@@ -81,7 +81,9 @@ pub fn triple(
     ensures { Appends result (plain_list out.old) (plain_list out.new)
         (triple_of (plain_mode mode.now) (map plain lemmas.now) (plain before.now) (plain behind.now) (plain now.now) name) }
 {
-    let shown = behind.atoms_behind(&mode.change).saturating_add(now.atoms());
+    let shown = behind
+        .atoms_behind(&mode.change)
+        .saturating_add(now.atoms());
     let atoms = given_atoms(mode, lemmas, before).saturating_add(shown);
     room_for(out, atoms)?;
     let condition = make_triple(alloc, mode, lemmas, before, behind, now, name)?;
@@ -129,9 +131,10 @@ fn shown_atoms(mode: &Mode, cases: &[Case]) -> u64
 {
     let mut sum: u64 = 0;
     for case in cases {
-        let behind = case.behind.atoms_behind(&mode.change).saturating_add(
-            case.falls.len() as u64,
-        );
+        let behind = case
+            .behind
+            .atoms_behind(&mode.change)
+            .saturating_add(case.falls.len() as u64);
         let whole = case.now.atoms().saturating_add(behind);
         sum = sum.saturating_add(whole);
     }

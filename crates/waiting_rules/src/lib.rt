@@ -16,7 +16,9 @@ use st_memory::Memory;
 use std::alloc::Global;
 use temporal_goals::Goal;
 use transition_system::{Fts, Mode, Transition};
-use vc_generator::{Conditions, PerMode, Rule, VcFault, each_mode, entails, plainly, take_back, triple};
+use vc_generator::{
+    Conditions, PerMode, Rule, VcFault, each_mode, entails, plainly, take_back, triple,
+};
 
 /// Nested waiting-for, with a formula for each level, the highest first, and the formulas of the steps that it cites.
 #[derive(Drop)]

@@ -10,3 +10,7 @@ pub mod LexBack
 pub mod TokensBack
 pub mod TreesBack
 pub mod ReadBack
+pub mod Ends
+pub mod Leads
+pub mod Follows
+pub mod TreeFollows

@@ -1,0 +1,117 @@
+-- Why no block is answered. What is held is compared with the texts of the next block: its number is the next one, a header
+-- may stand before it where one may, and limits are left aside. Each answer says how far what is held begins such a text.
+use Rattle.std.specs.Prelude.{◌≡◌, ℕ, ◌+◌, ◌<◌, ◌^◌, Bool, true, false, ◌&&◌, ◌||◌, nat_lt, if◌then◌else◌, ◌⊎◌, List, [], ◌∷◌, ◌++◌, length}
+use Rattle.cert_text.specs.declared.scan.Token.{Token}
+use Rattle.cert_text.specs.Letters.{is_blank, is_letter, is_digit}
+use Rattle.cert_text.specs.Grammar.{Written, IsProper, block_tokens}
+use Rattle.cert_text.specs.Held.{Held, answer_of}
+use Rattle.cert_text.specs.Answer.{need, no_more, malformed_at, limit_at}
+use Rattle.cert_laws.specs.Spelled.{AreAll, IsSign, IsSpelling, Spells, IsHeader}
+use Rattle.cert_laws.specs.Limits.{block_marks}
+
+-- nothing, or a header where one may stand: before the first block of a text of version 1
+abbrev pub IsFront : Bool → Held → List ℕ → Type 0
+IsFront false h head = head ≡ []
+IsFront true h head = (nat_lt h.number 2 ≡ true) × (h.second ≡ false) × IsHeader head
+
+-- a text of the next block, limits aside
+abbrev pub IsNext : Held → List ℕ → Type 0
+IsNext h text =
+    (header : Bool) × (head : List ℕ) × (bs : List ℕ) × (w : Written) × (text ≡ head ++ bs)
+    × IsFront header h head × IsProper (header || h.second) w × Spells bs (block_tokens h.number w [])
+
+-- bytes with which such a text begins
+abbrev pub Begins : Held → List ℕ → Type 0
+Begins h bs = (more : List ℕ) × IsNext h (bs ++ more)
+
+abbrev pub HoldsNone : Held → Type 0
+HoldsNone h = (bs rest : List ℕ) → h.bytes ≡ bs ++ rest → IsNext h bs → ⊥
+
+-- only blanks, a whole header counting as one
+abbrev pub IsBlankOnly : Held → Type 0
+IsBlankOnly h = (header : Bool) × (head : List ℕ) × (blanks : List ℕ) × (h.bytes ≡ head ++ blanks) × IsFront header h head × AreAll is_blank blanks
+
+-- what is held as it stands: a token is ended where a byte stands behind it, and the end of a finished text ends one as a
+-- blank does, so a blank is put there
+abbrev pub standing : Held → List ℕ
+standing h = if h.finished then h.bytes ++ 32 ∷ [] else h.bytes
+
+-- one word or number goes on from the first bytes into the second
+abbrev pub runs_on : List ℕ → List ℕ → Bool
+runs_on [] ys = false
+runs_on (x ∷ []) [] = false
+runs_on (x ∷ []) (y ∷ ys) = (is_letter x && is_letter y) || (is_digit x && is_digit y)
+runs_on (x ∷ z ∷ xs) ys = runs_on (z ∷ xs) ys
+
+-- bytes of one token: letters, digits, or a sign
+abbrev pub IsOfToken : List ℕ → Type 0
+IsOfToken cs = (c : ℕ) × (more : List ℕ) × (cs ≡ c ∷ more) × (AreAll is_letter (c ∷ more) ⊎ (AreAll is_digit (c ∷ more) ⊎ (IsSign c × (more ≡ []))))
+
+-- the token behind these is the first that passes a limit
+abbrev pub IsFirstMarked : List Token → List Bool → Type 0
+IsFirstMarked ts [] = ⊥
+IsFirstMarked [] (m ∷ ms) = m ≡ true
+IsFirstMarked (t ∷ ts) (m ∷ ms) = (m ≡ false) × IsFirstMarked ts ms
+
+-- with these bytes and then the token cs a text of the next block begins in which cs is the first token that passes a limit
+abbrev pub PassesLimit : Held → List ℕ → List ℕ → Type 0
+PassesLimit h front cs =
+    (header : Bool) × (head : List ℕ) × (bs : List ℕ) × (blanks : List ℕ) × (w : Written) × (ts : List Token) × (t : Token) × (us : List Token)
+    × (front ≡ head ++ (bs ++ blanks)) × IsFront header h head × Spells bs ts × AreAll is_blank blanks × IsSpelling cs t
+    × (block_tokens h.number w [] ≡ ts ++ t ∷ us) × IsProper (header || h.second) w × IsFirstMarked ts (block_marks w)
+
+-- at this place of the bytes an ended token is the first that passes a limit
+abbrev pub LimitAt : Held → List ℕ → ℕ → Type 0
+LimitAt h bytes place =
+    (front : List ℕ) × (cs : List ℕ) × (behind : ℕ) × (rest : List ℕ) × (bytes ≡ front ++ (cs ++ behind ∷ rest))
+    × (runs_on front cs ≡ false) × (runs_on cs (behind ∷ rest) ≡ false) × PassesLimit h front cs × (place ≡ h.place + length front)
+
+abbrev pub HasNoLimit : Held → List ℕ → Type 0
+HasNoLimit h bytes = (place : ℕ) → LimitAt h bytes place → ⊥
+
+-- a token's bytes with which no block goes on from those before it: however the token goes on, or, where it has ended, as it is
+abbrev pub NoneGoesOn : Held → List ℕ → List ℕ → List ℕ → Type 0
+NoneGoesOn h front cs rest =
+    (Begins h (front ++ cs) → ⊥)
+    ⊎ ((behind : ℕ) × (more : List ℕ) × (rest ≡ behind ∷ more) × (runs_on cs rest ≡ false) × (Begins h (front ++ (cs ++ 32 ∷ [])) → ⊥))
+
+-- at this place stands the first token with which no block is begun: those before it begin one
+abbrev pub WrongAt : Held → ℕ → Type 0
+WrongAt h place =
+    (front : List ℕ) × (cs : List ℕ) × (rest : List ℕ) × (standing h ≡ front ++ (cs ++ rest)) × IsOfToken cs × (runs_on front cs ≡ false)
+    × Begins h (front ++ 32 ∷ []) × HasNoLimit h (front ++ 32 ∷ []) × NoneGoesOn h front cs rest × (place ≡ h.place + length front)
+
+-- the text is finished in the midst of a block: all tokens together begin one
+abbrev pub BreaksOffAt : Held → ℕ → Type 0
+BreaksOffAt h place =
+    (h.finished ≡ true) × (IsBlankOnly h → ⊥) × Begins h (h.bytes ++ 32 ∷ []) × HasNoLimit h (h.bytes ++ 32 ∷ []) × (place ≡ h.place + length h.bytes)
+
+-- the text is open, and what is held begins a block, limits aside; no block is whole, and no ended token passes a limit
+abbrev pub NeedsMore : Held → Type 0
+NeedsMore h = (h.finished ≡ false) × Begins h h.bytes × HoldsNone h × HasNoLimit h h.bytes
+
+-- The laws, each way round.
+
+abbrev pub NeedIsTrue : Type 0
+NeedIsTrue = (h : Held) → h.number < 2 ^ 32 → answer_of h ≡ need → NeedsMore h
+
+abbrev pub EndIsTrue : Type 0
+EndIsTrue = (h : Held) → h.number < 2 ^ 32 → answer_of h ≡ no_more → (h.finished ≡ true) × IsBlankOnly h
+
+abbrev pub LimitIsTrue : Type 0
+LimitIsTrue = (h : Held) (place : ℕ) → h.number < 2 ^ 32 → answer_of h ≡ limit_at place → LimitAt h (standing h) place
+
+abbrev pub MalformedIsTrue : Type 0
+MalformedIsTrue = (h : Held) (place : ℕ) → h.number < 2 ^ 32 → answer_of h ≡ malformed_at place → WrongAt h place ⊎ BreaksOffAt h place
+
+abbrev pub NeedIsAnswered : Type 0
+NeedIsAnswered = (h : Held) → h.number < 2 ^ 32 → NeedsMore h → answer_of h ≡ need
+
+abbrev pub EndIsAnswered : Type 0
+EndIsAnswered = (h : Held) → h.number < 2 ^ 32 → h.finished ≡ true → IsBlankOnly h → answer_of h ≡ no_more
+
+abbrev pub LimitIsAnswered : Type 0
+LimitIsAnswered = (h : Held) (place : ℕ) → h.number < 2 ^ 32 → LimitAt h (standing h) place → answer_of h ≡ limit_at place
+
+abbrev pub MalformedIsAnswered : Type 0
+MalformedIsAnswered = (h : Held) (place : ℕ) → h.number < 2 ^ 32 → WrongAt h place ⊎ BreaksOffAt h place → answer_of h ≡ malformed_at place

@@ -29,7 +29,7 @@ no_truth : false ≡ true → ⊥
 no_truth h = cc
 
 -- the value of digits as the machine has it
-abbrev grown_behind : ℕ → List ℕ → ℕ
+abbrev pub grown_behind : ℕ → List ℕ → ℕ
 grown_behind n [] = n
 grown_behind n (d ∷ ds) = grown_behind (grown n d) ds
 
@@ -86,7 +86,7 @@ same_whole at place end s1 s b1 b bs h =
     (ap (end_in place) e, ap (scan_of s1) e, ap (built_of b1) e)
 
 -- a number that is taken is below where the machine's numbers stand still
-abbrev IsSmall : ℕ → Scan → Type 0
+abbrev pub IsSmall : ℕ → Scan → Type 0
 IsSmall n s = n < 2 ^ 63
 
 as_small : (number n : ℕ) → number < 2 ^ 32 → (n == number) ≡ true → n < 2 ^ 63
@@ -110,7 +110,7 @@ multiplier_small n e = grind (arith, nat_tests)
 entry_small : (n : ℕ) → nat_lt 1152921504606846976 n ≡ false → n < 2 ^ 63
 entry_small n e = grind (arith, nat_tests)
 
-small_number : (want : Want) (scan : Scan) (n : ℕ) → scan.number < 2 ^ 32 → OnlyOn (IsSmall n) (give_at want scan (tokens.Number n))
+pub small_number : (want : Want) (scan : Scan) (n : ℕ) → scan.number < 2 ^ 32 → OnlyOn (IsSmall n) (give_at want scan (tokens.Number n))
 small_number (wants.Block header) scan n h = tt
 small_number wants.HeaderNumber scan n h = on_if (IsSmall n) (n == 2) _ _ (λ e. two_small n e) (λ e. tt)
 small_number wants.HeaderEnd scan n h = tt
@@ -136,7 +136,7 @@ small_number wants.End scan n h = tt
 small_number wants.Whole scan n h = tt
 
 -- a token changes no block's number
-abbrev Keeps : ℕ → Scan → Type 0
+abbrev pub Keeps : ℕ → Scan → Type 0
 Keeps number s = s.number ≡ number
 
 behind_keeps : (scan : Scan) (depth : ℕ) (action : Action) → OnlyOn (Keeps scan.number) (behind scan depth action)
@@ -172,7 +172,7 @@ block_keeps scan header words.Truth = tt
 block_keeps scan header words.Split = tt
 block_keeps scan header words.Cut = tt
 
-number_keeps : (want : Want) (scan : Scan) (t : Token) → OnlyOn (Keeps scan.number) (give_at want scan t)
+pub number_keeps : (want : Want) (scan : Scan) (t : Token) → OnlyOn (Keeps scan.number) (give_at want scan t)
 number_keeps (wants.Block header) scan (tokens.Word w) = block_keeps scan header w
 number_keeps (wants.Block header) scan (tokens.Number n) = tt
 number_keeps (wants.Block header) scan (tokens.Sign c) = tt
@@ -258,7 +258,7 @@ or_next false ls v w next f g h = g h
 no_word : (ls : List ℕ) (w : Word) → None ≡ Some w → IsWord ls w
 no_word ls w h = cc
 
-spelled_word : (ls : List ℕ) (w : Word) → word_of ls ≡ Some w → IsWord ls w
+pub spelled_word : (ls : List ℕ) (w : Word) → word_of ls ≡ Some w → IsWord ls w
 unfolding word_of
 spelled_word ls w =
     or_next (bytes_eq ls (codes "version")) ls words.Version w _ (λ e. same_bytes ls (codes "version") e) (
@@ -272,11 +272,11 @@ spelled_word ls w =
     or_next (bytes_eq ls (codes "cut")) ls words.Cut w _ (λ e. same_bytes ls (codes "cut") e) (
     no_word ls w)))))))))
 
-digits_more : (ds : List ℕ) (x n : ℕ) → grown_behind n (ds ++ x ∷ []) ≡ grown (grown_behind n ds) x
+pub digits_more : (ds : List ℕ) (x n : ℕ) → grown_behind n (ds ++ x ∷ []) ≡ grown (grown_behind n ds) x
 digits_more [] x n = refl
 digits_more (d ∷ ds) x n = digits_more ds x (grown n d)
 
-all_more : (test : ℕ → Bool) (bs : List ℕ) (b : ℕ) → AreAll test bs → test b ≡ true → AreAll test (bs ++ b ∷ [])
+pub all_more : (test : ℕ → Bool) (bs : List ℕ) (b : ℕ) → AreAll test bs → test b ≡ true → AreAll test (bs ++ b ∷ [])
 all_more test [] b h k = (k, tt)
 all_more test (c ∷ bs) b h k = (h.0, all_more test bs b h.1 k)
 
@@ -317,7 +317,7 @@ number_more : (grows : Bool) (cs : List ℕ) (m x : ℕ) (bs : List ℕ) (start 
 number_more true cs m x bs start at scan built end s b n p more h = shifted cs x bs at scan built end s b (more (at + 1) scan built (digits start m) (cs ++ x ∷ []) end s b n p h)
 number_more false cs m x bs start at scan built end s b n p more h = absurd (never_wrong (at + 1) start end s b bs h)
 
-ends_sign : (c : ℕ) (rest : List ℕ) → EndsAt (tokens.Sign c) rest
+pub ends_sign : (c : ℕ) (rest : List ℕ) → EndsAt (tokens.Sign c) rest
 ends_sign c [] = tt
 ends_sign c (b ∷ bs) = tt
 
@@ -374,7 +374,7 @@ pending_back (givens.On s1 a) t cs x bs start at scan built end s b e k sp n f m
 pending_back givens.Wrong t cs x bs start at scan built end s b e k sp n f more h = absurd (never_wrong (at + 1) start end s b bs h)
 pending_back givens.Over t cs x bs start at scan built end s b e k sp n f more h = absurd (never_over (at + 1) start end s b bs h)
 
-on_then : (p q : Scan → Type 0) (g : Given) → ((s : Scan) → p s → q s) → OnlyOn p g → OnlyOn q g
+pub on_then : (p q : Scan → Type 0) (g : Given) → ((s : Scan) → p s → q s) → OnlyOn p g → OnlyOn q g
 on_then p q (givens.On s a) f h = f s h
 on_then p q givens.Wrong f h = tt
 on_then p q givens.Over f h = tt

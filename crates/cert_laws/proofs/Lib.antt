@@ -14,3 +14,7 @@ pub mod Ends
 pub mod Leads
 pub mod Follows
 pub mod TreeFollows
+pub mod Stays
+pub mod Seams
+pub mod Told
+pub mod Telling

@@ -206,7 +206,7 @@ token_read (tokens.Sign c) cs ts more rest at scan built s b n i r z sp f h next
     ∙ ap (λ xs. whole (at + length xs + length more) s b) (sym sp.0)
 
 -- the bytes of a token with its blanks, and what follows
-regrouped : (blanks cs more rest : List ℕ) → (blanks ++ (cs ++ more)) ++ rest ≡ blanks ++ (cs ++ (more ++ rest))
+pub regrouped : (blanks cs more rest : List ℕ) → (blanks ++ (cs ++ more)) ++ rest ≡ blanks ++ (cs ++ (more ++ rest))
 regrouped blanks cs more rest = append_assoc blanks (cs ++ more) rest ∙ ap (λ xs. blanks ++ xs) (append_assoc cs more rest)
 
 reached : (at : ℕ) (bs blanks cs more : List ℕ) → bs ≡ blanks ++ (cs ++ more) → at + length blanks + length cs + length more ≡ at + length bs

@@ -80,7 +80,7 @@ header_read number built front bs cs rest at g h k =
     ∙ number_part number built bs cs rest (p + 7) h k
 
 -- a header's bytes and what follows
-regrouped : (front bs cs rest : List ℕ) → (front ++ (codes "version" ++ (bs ++ 50 ∷ (cs ++ 59 ∷ [])))) ++ rest ≡ front ++ (codes "version" ++ (bs ++ 50 ∷ (cs ++ 59 ∷ rest)))
+pub regrouped : (front bs cs rest : List ℕ) → (front ++ (codes "version" ++ (bs ++ 50 ∷ (cs ++ 59 ∷ [])))) ++ rest ≡ front ++ (codes "version" ++ (bs ++ 50 ∷ (cs ++ 59 ∷ rest)))
 regrouped front bs cs rest =
     append_assoc front (codes "version" ++ (bs ++ 50 ∷ (cs ++ 59 ∷ []))) rest
     ∙ ap (λ xs. front ++ (codes "version" ++ xs)) (append_assoc bs (50 ∷ (cs ++ 59 ∷ [])) rest)

@@ -18,3 +18,4 @@ pub mod Stays
 pub mod Seams
 pub mod Told
 pub mod Telling
+pub mod Tails

@@ -53,7 +53,7 @@ tenth left n b =
     let p : 10 ^ (suc left + 1) ≡ 10 ^ (left + 1) * 10 = ap (λ m. 10 ^ m) e ∙ pow-suc 10 (left + 1) in
     omega (arith, p)
 
-digits_are : (left n : ℕ) → n < 10 ^ (left + 1) → AreOf n (digits_in left n)
+pub digits_are : (left n : ℕ) → n < 10 ^ (left + 1) → AreOf n (digits_in left n)
 unfolding digits_in
 digits_are zero n b = one_digit n (ten n b) where
   ten : (m : ℕ) → m < 10 ^ (0 + 1) → m < 10
@@ -89,7 +89,7 @@ word w rest k e h = ([], letters_of w, rest, refl, tt, refl, e, h)
 number : (n : ℕ) (rest : List ℕ) (k : List Token) → n < 2 ^ 64 → EndsAt (tokens.Number n) rest → Spells rest k → Spells (decimal n ++ rest) (tokens.Number n ∷ k)
 number n rest k s e h = ([], decimal n, rest, refl, tt, decimal_is n s, e, h)
 
-blank : (t : Token) (rest : List ℕ) (k : List Token) → Spells rest (t ∷ k) → Spells (32 ∷ rest) (t ∷ k)
+pub blank : (t : Token) (rest : List ℕ) (k : List Token) → Spells rest (t ∷ k) → Spells (32 ∷ rest) (t ∷ k)
 blank t rest k h = (32 ∷ h.0, h.1, h.2, ap (λ xs. 32 ∷ xs) h.3, (refl, h.4), h.5, h.6, h.7)
 
 blank_tree : (w : Written) (rest : List ℕ) (k : List Token) → Spells rest (tree_tokens w k) → Spells (32 ∷ rest) (tree_tokens w k)

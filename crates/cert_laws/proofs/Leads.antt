@@ -20,7 +20,7 @@ use Rattle.cert_text.specs.Run.{scan_at}
 use Rattle.cert_text.specs.Grammar.{Int, int_tokens, pick_tokens, picks_tokens, line_tokens, lines_tokens, more_terms, w_absurd, w_farkas, w_linear, w_node, w_cut, word_of_node}
 use Rattle.cert_laws.proofs.Givens.{is_inside}
 use Rattle.cert_laws.proofs.TokensBack.{same_if, one_more}
-use Rattle.cert_laws.proofs.Ends.{Goes, g_end, g_leave, g_tree, goes, ARow, row_from, ATree, ABrace, IsAllowed, AreAllowed, AMore, AnInt, APick, AConstant, SomeTerms, AVariable, AColon, ACoefficient, AnEnd, Brackets, Completes, ending}
+use Rattle.cert_laws.proofs.Ends.{Goes, g_end, g_leave, g_tree, goes, ARow, row_from, ATree, ABrace, IsAllowed, AreAllowed, AMore, AnInt, APick, AConstant, SomeTerms, AVariable, AColon, ACoefficient, AnEnd, Brackets, Completes, AreSpellable, ending}
 
 no_truth : false ≡ true → ⊥
 no_truth h = cc
@@ -65,7 +65,7 @@ module _ (number : ℕ) (second : Bool) where
   abbrev pub Leads : (List Token → Type 0) → Token → Given → Type 0
   Leads p t (givens.On s a) = (ks : List Token) → Done s ks → p (t ∷ ks)
   Leads p t givens.Wrong = Unit {0}
-  Leads p t givens.Over = (ks : List Token) × p (t ∷ ks)
+  Leads p t givens.Over = (ks : List Token) × p (t ∷ ks) × AreSpellable ks
 
   leads_if : (p : List Token → Type 0) (t : Token) (c : Bool) (x y : Given) → (c ≡ true → Leads p t x) → (c ≡ false → Leads p t y) → Leads p t (cond c x y)
   leads_if p t true x y f g = f refl
@@ -73,7 +73,7 @@ module _ (number : ℕ) (second : Bool) where
 
   -- a limit, or on
   or_on : (p : List Token → Type 0) (t : Token) (c : Bool) (s : Scan) (a : Action) → ((ks : List Token) → Done s ks → p (t ∷ ks)) → Leads p t (cond c givens.Over (givens.On s a))
-  or_on p t true s a f = let e = ending number second s.want s.depth in (e.0, f e.0 e.1)
+  or_on p t true s a f = let e = ending number second s.want s.depth in (e.0, f e.0 e.1, e.2)
   or_on p t false s a f = f
 
   sign_leads : (p : List Token → Type 0) (t : Token) (sign : ℕ) (g : Given) → (t ≡ tokens.Sign sign → Leads p t g) → Leads p t (only_sign t sign g)
@@ -95,7 +95,7 @@ module _ (number : ℕ) (second : Bool) where
       (λ e ks h. f ks (goes_on d ks (not_zero d e) h))
 
   over_behind : (p : List Token → Type 0) (t : Token) (full : Bool) (want : Want) (d0 d trees : ℕ) (a : Action) → ((ks : List Token) → Goes second d ks → p (t ∷ ks)) → Leads p t (cond full givens.Over (behind (At want d0 trees) d a))
-  over_behind p t true want d0 d trees a f = let g = goes second d in (g.0, f g.0 g.1)
+  over_behind p t true want d0 d trees a f = let g = goes second d in (g.0, f g.0 g.1, g.2)
   over_behind p t false want d0 d trees a f = behind_leads p t want d0 d trees a f
 
   a_row : (d : ℕ) (ks : List Token) → ATree second (d + 1) ks ⊎ ABrace second false (d + 1) ks → ARow second d ks

@@ -19,3 +19,5 @@ pub mod Seams
 pub mod Told
 pub mod Telling
 pub mod Tails
+pub mod Opens
+pub mod OpenTokens

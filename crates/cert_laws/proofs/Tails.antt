@@ -103,13 +103,13 @@ module _ (number : ℕ) where
       let k = inside_of second s1.want s1.depth rest st.2 (subst (λ v. Tail v s1.want s1.depth rest) st.1 h) in
       inside_to second want d (blanks ++ (cs ++ rest)) i (t ∷ k.0, in_front blanks cs rest t k.0 f.0 f.1 f.2 k.1, l k.0 k.2)
 
-  begins_block : (second : Bool) (d : ℕ) (blanks cs rest : List ℕ) → AreAll is_blank blanks → IsSpelling cs (tokens.Word words.Cert) → EndsAt (tokens.Word words.Cert) rest → Inside second wants.BlockNumber d rest → ABlock second d (blanks ++ (cs ++ rest))
+  pub begins_block : (second : Bool) (d : ℕ) (blanks cs rest : List ℕ) → AreAll is_blank blanks → IsSpelling cs (tokens.Word words.Cert) → EndsAt (tokens.Word words.Cert) rest → Inside second wants.BlockNumber d rest → ABlock second d (blanks ++ (cs ++ rest))
   begins_block second d blanks cs rest b sp f h =
       let c = h.2 in
       let t = c.2 in
       (t.0, t.1, t.3, t.4, in_front blanks cs rest (tokens.Word words.Cert) (tokens.Number number ∷ tree_tokens t.0 t.1) b sp f (subst (Spells rest) (c.1 ∙ ap (λ k. tokens.Number number ∷ k) t.2) h.1))
 
-  begins_header : (d : ℕ) (blanks cs rest : List ℕ) → AreAll is_blank blanks → IsSpelling cs (tokens.Word words.Version) → ANumber d rest → AHeaded d (blanks ++ (cs ++ rest))
+  pub begins_header : (d : ℕ) (blanks cs rest : List ℕ) → AreAll is_blank blanks → IsSpelling cs (tokens.Word words.Version) → ANumber d rest → AHeaded d (blanks ++ (cs ++ rest))
   begins_header d blanks cs rest b sp n =
       let e = n.4 in
       let between = n.0 in

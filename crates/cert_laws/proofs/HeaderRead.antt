@@ -25,10 +25,10 @@ version_reads : (at : ℕ) (number : ℕ) (built : Built) → after at (going (s
 unfolding step begins
 version_reads at number built = refl
 
-blank_no_letter : (x : ℕ) → is_blank x ≡ true → is_letter x ≡ false
+pub blank_no_letter : (x : ℕ) → is_blank x ≡ true → is_letter x ≡ false
 blank_no_letter x h = grind (arith, nat_tests)
 
-blank_no_digit : (x : ℕ) → is_blank x ≡ true → is_digit x ≡ false
+pub blank_no_digit : (x : ℕ) → is_blank x ≡ true → is_digit x ≡ false
 blank_no_digit x h = grind (arith, nat_tests)
 
 -- behind a word or number, where blanks and then another byte follow

@@ -21,3 +21,4 @@ pub mod Telling
 pub mod Tails
 pub mod Opens
 pub mod OpenTokens
+pub mod Begun

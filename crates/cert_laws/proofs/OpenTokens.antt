@@ -93,12 +93,12 @@ module _ (number : ℕ) (second : Bool) (d trees : ℕ) (blanks : List ℕ) (b :
   opened_block header ls = either (Opened (wants.Block header) ls) _ _ cert (both (Opened (wants.Block header) ls) _ _ version) where
     cert : begins ls (codes "cert") ≡ true → Opened (wants.Block header) ls
     cert g =
-        let n = number_starts number second d in
+        let n = number_starts number second d (32 ∷ []) (refl, tt) in
         opened_word (wants.Block header) ls words.Cert (32 ∷ n.0, inl (begins_block number second d blanks (letters_of words.Cert) (32 ∷ n.0) b refl refl n.1)) (begun_by ls (codes "cert") g)
 
     version : header ≡ true → begins ls (codes "version") ≡ true → Opened (wants.Block header) ls
     version e g =
-        let n = header_number_starts number d in
+        let n = header_number_starts number d (32 ∷ []) (refl, tt) in
         opened_word (wants.Block header) ls words.Version (32 ∷ n.0, inr (e, begins_header number d blanks (letters_of words.Version) (32 ∷ n.0) b refl n.1)) (begun_by ls (codes "version") g)
 
   pub opens_word : (want : Want) (ls : List ℕ) → fits_word_at want second ls ≡ true → Opened want ls
@@ -241,7 +241,7 @@ module _ (number : ℕ) (second : Bool) (d trees : ℕ) (blanks : List ℕ) (b :
       by_digits wants.BlockNumber l.0 refl l.1 (ap (λ m. is_wrong (cond (m == number) (givens.On (scan_at number second (wants.Tree false) d trees) actions.Nothing) givens.Wrong)) (ap (λ m. value_behind m l.0) (sym same) ∙ l.2) ∙ ap (λ x. is_wrong (cond x (givens.On (scan_at number second (wants.Tree false) d trees) actions.Nothing) givens.Wrong)) (itself_is number))
 
   header_number : IsDigits wants.HeaderNumber (c ∷ cs) → Opens wants.HeaderNumber
-  header_number e = let n = behind_starts number d in (32 ∷ n.0, (blanks, 32 ∷ n.0, ap (λ xs. blanks ++ (xs ++ 32 ∷ n.0)) e, b, n.1))
+  header_number e = let n = behind_starts number d (32 ∷ []) (refl, tt) in (32 ∷ n.0, (blanks, 32 ∷ n.0, ap (λ xs. blanks ++ (xs ++ 32 ∷ n.0)) e, b, n.1))
 
   pub opens_number : (want : Want) (n : ℕ) → number < 2 ^ 32 → n ≡ stopped value → IsDigits want (c ∷ cs) → fits_number_at want number n ≡ true → Opens want
   opens_number wants.HeaderNumber n k e i f = header_number i

@@ -54,58 +54,58 @@ clear_ends t bs (inr e) = subst (EndsAt t) (sym e.1) (blank t e.0) where
 abbrev Text : List Token → Type 0
 Text ks = (bs : List ℕ) × Spells bs ks × IsClear bs
 
-abbrev Started : List Token → Type 0
-Started ks = (bs : List ℕ) × Spells (32 ∷ bs) ks
+abbrev Started : List ℕ → List Token → Type 0
+Started blanks ks = (bs : List ℕ) × Spells (blanks ++ bs) ks
 
-spell_one : (t : Token) (cs : List ℕ) (ks : List Token) → IsSpelling cs t → Text ks → Started (t ∷ ks)
-spell_one t cs ks sp h = (cs ++ h.0, in_front (32 ∷ []) cs h.0 t ks (refl, tt) sp (clear_ends t h.0 h.2) h.1)
+spell_one : (blanks : List ℕ) (t : Token) (cs : List ℕ) (ks : List Token) → AreAll is_blank blanks → IsSpelling cs t → Text ks → Started blanks (t ∷ ks)
+spell_one blanks t cs ks b sp h = (cs ++ h.0, in_front blanks cs h.0 t ks b sp (clear_ends t h.0 h.2) h.1)
 
-spell_first : (t : Token) (ks : List Token) → AreSpellable (t ∷ ks) → (AreSpellable ks → Text ks) → Started (t ∷ ks)
-spell_first (tokens.Word w) ks h more = spell_one (tokens.Word w) (letters_of w) ks refl (more h)
-spell_first (tokens.Number n) ks h more = spell_one (tokens.Number n) (digits_in n n) ks (digits_are n n (wide n)) (more h)
-spell_first (tokens.Sign c) ks h more = spell_one (tokens.Sign c) (c ∷ []) ks (refl, h.0) (more h.1)
+spell_first : (blanks : List ℕ) (t : Token) (ks : List Token) → AreAll is_blank blanks → AreSpellable (t ∷ ks) → (AreSpellable ks → Text ks) → Started blanks (t ∷ ks)
+spell_first blanks (tokens.Word w) ks b h more = spell_one blanks (tokens.Word w) (letters_of w) ks b refl (more h)
+spell_first blanks (tokens.Number n) ks b h more = spell_one blanks (tokens.Number n) (digits_in n n) ks b (digits_are n n (wide n)) (more h)
+spell_first blanks (tokens.Sign c) ks b h more = spell_one blanks (tokens.Sign c) (c ∷ []) ks b (refl, h.0) (more h.1)
 
 pub spell : (ks : List Token) → AreSpellable ks → Text ks
 spell [] h = ([], refl, inl refl)
-spell (t ∷ ks) h = let f = spell_first t ks h (spell ks) in (32 ∷ f.0, f.1, inr (f.0, refl))
+spell (t ∷ ks) h = let f = spell_first (32 ∷ []) t ks (refl, tt) h (spell ks) in (32 ∷ f.0, f.1, inr (f.0, refl))
 
-spell_starts : (ks : List Token) → AreSpellable ks → IsStarted ks → Started ks
-spell_starts ks h s = subst Started (sym s.2) (spell_first s.0 s.1 (subst AreSpellable s.2 h) (spell s.1))
+spell_starts : (blanks : List ℕ) (ks : List Token) → AreAll is_blank blanks → AreSpellable ks → IsStarted ks → Started blanks ks
+spell_starts blanks ks b h s = subst (Started blanks) (sym s.2) (spell_first blanks s.0 s.1 b (subst AreSpellable s.2 h) (spell s.1))
 
 abbrev pub is_wrong : Given → Bool
 is_wrong (givens.On s a) = false
 is_wrong givens.Wrong = true
 is_wrong givens.Over = false
 
--- what completes a text, behind a blank
-
 module _ (number : ℕ) where
-  pub number_starts : (second : Bool) (d : ℕ) → (bs : List ℕ) × Inside number second wants.BlockNumber d (32 ∷ bs)
-  number_starts second d =
+  -- what completes a text, behind blanks
+
+  pub number_starts : (second : Bool) (d : ℕ) (blanks : List ℕ) → AreAll is_blank blanks → (bs : List ℕ) × Inside number second wants.BlockNumber d (blanks ++ bs)
+  number_starts second d blanks b =
       let e = ending number second wants.BlockNumber d in
-      let s = spell_starts e.0 e.2 (ending_starts number second wants.BlockNumber d refl refl) in
+      let s = spell_starts blanks e.0 b e.2 (ending_starts number second wants.BlockNumber d refl refl) in
       (s.0, (e.0, s.1, e.1))
 
-  block_starts : (second : Bool) (d : ℕ) → (bs : List ℕ) × ABlock number second d (32 ∷ bs)
-  block_starts second d = let n = number_starts second d in (letters_of words.Cert ++ 32 ∷ n.0, begins_block number second d (32 ∷ []) (letters_of words.Cert) (32 ∷ n.0) (refl, tt) refl refl n.1)
+  block_starts : (second : Bool) (d : ℕ) (blanks : List ℕ) → AreAll is_blank blanks → (bs : List ℕ) × ABlock number second d (blanks ++ bs)
+  block_starts second d blanks b = let n = number_starts second d (32 ∷ []) (refl, tt) in (letters_of words.Cert ++ 32 ∷ n.0, begins_block number second d blanks (letters_of words.Cert) (32 ∷ n.0) b refl refl n.1)
 
-  pub behind_starts : (d : ℕ) → (bs : List ℕ) × ABehind number d (32 ∷ bs)
-  behind_starts d = let b = block_starts true d in (59 ∷ 32 ∷ b.0, (32 ∷ [], 32 ∷ b.0, refl, (refl, tt), b.1))
+  pub behind_starts : (d : ℕ) (blanks : List ℕ) → AreAll is_blank blanks → (bs : List ℕ) × ABehind number d (blanks ++ bs)
+  behind_starts d blanks b = let c = block_starts true d (32 ∷ []) (refl, tt) in (59 ∷ 32 ∷ c.0, (blanks, 32 ∷ c.0, refl, b, c.1))
 
-  pub header_number_starts : (d : ℕ) → (bs : List ℕ) × ANumber number d (32 ∷ bs)
-  header_number_starts d = let b = behind_starts d in (50 ∷ 32 ∷ b.0, (32 ∷ [], 32 ∷ b.0, refl, (refl, tt), b.1))
+  pub header_number_starts : (d : ℕ) (blanks : List ℕ) → AreAll is_blank blanks → (bs : List ℕ) × ANumber number d (blanks ++ bs)
+  header_number_starts d blanks b = let c = behind_starts d (32 ∷ []) (refl, tt) in (50 ∷ 32 ∷ c.0, (blanks, 32 ∷ c.0, refl, b, c.1))
 
-  inside_starts : (second : Bool) (want : Want) (d : ℕ) → is_inside want ≡ true → is_whole want ≡ false → (bs : List ℕ) × Tail number second want d (32 ∷ bs)
-  inside_starts second want d i w =
+  inside_starts : (second : Bool) (want : Want) (d : ℕ) (blanks : List ℕ) → AreAll is_blank blanks → is_inside want ≡ true → is_whole want ≡ false → (bs : List ℕ) × Tail number second want d (blanks ++ bs)
+  inside_starts second want d blanks b i w =
       let e = ending number second want d in
-      let s = spell_starts e.0 e.2 (ending_starts number second want d i w) in
-      (s.0, inside_to number second want d (32 ∷ s.0) i (e.0, s.1, e.1))
+      let s = spell_starts blanks e.0 b e.2 (ending_starts number second want d i w) in
+      (s.0, inside_to number second want d (blanks ++ s.0) i (e.0, s.1, e.1))
 
-  pub tail_starts : (second : Bool) (want : Want) (d : ℕ) → is_whole want ≡ false → (bs : List ℕ) × Tail number second want d (32 ∷ bs)
-  tail_starts second (wants.Block header) d w = let b = block_starts second d in (b.0, inl b.1)
-  tail_starts second wants.HeaderNumber d w = header_number_starts d
-  tail_starts second wants.HeaderEnd d w = behind_starts d
-  tail_starts second want d w = inside_starts second want d refl w
+  pub tail_starts : (second : Bool) (want : Want) (d : ℕ) (blanks : List ℕ) → AreAll is_blank blanks → is_whole want ≡ false → (bs : List ℕ) × Tail number second want d (blanks ++ bs)
+  tail_starts second (wants.Block header) d blanks b w = let c = block_starts second d blanks b in (c.0, inl c.1)
+  tail_starts second wants.HeaderNumber d blanks b w = header_number_starts d blanks b
+  tail_starts second wants.HeaderEnd d blanks b w = behind_starts d blanks b
+  tail_starts second want d blanks b w = inside_starts second want d blanks b refl w
 
   -- behind a token that may stand next, or passes a limit
 

@@ -165,7 +165,7 @@ headed_back number second (tokens.Number n ∷ ts) s b z r =
     (f.0, ap (λ m. tokens.Number m ∷ ts) (same_if n 2 e) ∙ ap (λ k. tokens.Number 2 ∷ k) (c.1 ∙ ap (λ k. tokens.Sign 59 ∷ k) f.1), f.2))
     (λ e q. absurd (not_wrong s b q)) r
 
-both : (a second : Bool) → (a && cond second false true) ≡ true → (a ≡ true) × (second ≡ false)
+pub both : (a second : Bool) → (a && cond second false true) ≡ true → (a ≡ true) × (second ≡ false)
 both true false h = (refl, refl)
 both true true h = absurd (no h) where
   no : false ≡ true → ⊥
@@ -177,7 +177,7 @@ both false false h = absurd (no h) where
   no : false ≡ true → ⊥
   no e = cc
 
-abbrev first_of : Held → Bool
+abbrev pub first_of : Held → Bool
 first_of h = nat_lt h.number 2 && cond h.second false true
 
 abbrev Found : Held → List Token → Built → Type 0

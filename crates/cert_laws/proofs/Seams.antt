@@ -31,6 +31,20 @@ digits_stop [] x bs h k = refl
 digits_stop (c ∷ []) x bs h k = digit_then c x h.0 k
 digits_stop (c ∷ d ∷ ds) x bs h k = digits_stop (d ∷ ds) x bs h.1 k
 
+letter_ends : (c x : ℕ) → is_letter c ≡ true → ((is_letter c && is_letter x) || (is_digit c && is_digit x)) ≡ false → is_letter x ≡ false
+letter_ends c x h k = grind (arith, nat_tests)
+
+digit_ends : (c x : ℕ) → is_digit c ≡ true → ((is_letter c && is_letter x) || (is_digit c && is_digit x)) ≡ false → is_digit x ≡ false
+digit_ends c x h k = grind (arith, nat_tests)
+
+pub letters_end : (c : ℕ) (ls : List ℕ) (x : ℕ) (bs : List ℕ) → AreAll is_letter (c ∷ ls) → runs_on (c ∷ ls) (x ∷ bs) ≡ false → is_letter x ≡ false
+letters_end c [] x bs h k = letter_ends c x h.0 k
+letters_end c (d ∷ ls) x bs h k = letters_end d ls x bs h.1 k
+
+pub digits_end : (c : ℕ) (ds : List ℕ) (x : ℕ) (bs : List ℕ) → AreAll is_digit (c ∷ ds) → runs_on (c ∷ ds) (x ∷ bs) ≡ false → is_digit x ≡ false
+digits_end c [] x bs h k = digit_ends c x h.0 k
+digits_end c (d ∷ ds) x bs h k = digits_end d ds x bs h.1 k
+
 -- a digit more of a number that stands still
 pub stopped_grown : (n d : ℕ) → grown (stopped n) d ≡ stopped (n * 10 + (d - 48))
 unfolding grown stopped

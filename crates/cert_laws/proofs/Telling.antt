@@ -20,7 +20,7 @@ use Rattle.cert_laws.specs.Refused.{runs_on, IsOfToken}
 use Rattle.cert_laws.proofs.Givens.{OnlyOn}
 use Rattle.cert_laws.proofs.LexBack.{grown_behind, spelled_word, digits_more, all_more, ends_sign, IsSmall, small_number, Keeps, number_keeps, on_then}
 use Rattle.cert_laws.proofs.Follows.{stopped, as_read}
-use Rattle.cert_laws.proofs.Seams.{letters_stop, digits_stop, stopped_value, stopped_none, stopped_small, IsDigits, IsExact, first_exact, more_exact}
+use Rattle.cert_laws.proofs.Seams.{letters_stop, digits_stop, letters_end, digits_end, stopped_value, stopped_none, stopped_small, IsDigits, IsExact, first_exact, more_exact}
 use Rattle.cert_laws.proofs.Told.{Reads, IsOpen, IsRefused, HasEnded, Last, l_open, l_wrong, l_over, l_whole, Told, last_told, blank_told, token_told}
 
 no_truth : false ≡ true → ⊥
@@ -111,7 +111,7 @@ pending_on true t cs x bs start at scan built s1 a w z n l sp f i e more = whole
 pending_on false t cs x bs start at scan built s1 a w z n l sp f i e more =
     token_told cs t (x ∷ bs) start at scan built s1 a (after (at + 1) (begun at x s1 (applied a built)) bs) l sp f i e (idle_told x bs at s1 (applied a built) (n, z) more)
 
-pending_told : (g : Given) (t : Token) (cs : List ℕ) (x : ℕ) (bs : List ℕ) (start at : ℕ) (scan : Scan) (built : Built) → is_whole scan.want ≡ false → OnlyOn (λ s. s.number < 2 ^ 32) g → at ≡ start + length cs → IsSpelling cs t → EndsAt t (x ∷ bs) → IsExact t scan.want cs → ((s1 : Scan) (a : Action) → g ≡ givens.On s1 a → give scan t ≡ givens.On s1 a) → (g ≡ givens.Over → give scan (as_read t) ≡ givens.Over) → HasEnded t (x ∷ bs) → IsOfToken cs → runs_on cs (x ∷ bs) ≡ false → after start (going scan built idle) (cs ++ 32 ∷ []) ≡ and_begun at 32 (token_taken start at g built) → Tells bs → Told (cs ++ x ∷ bs) start scan built (after (at + 1) (and_begun at x (token_taken start at g built)) bs)
+pending_told : (g : Given) (t : Token) (cs : List ℕ) (x : ℕ) (bs : List ℕ) (start at : ℕ) (scan : Scan) (built : Built) → is_whole scan.want ≡ false → OnlyOn (λ s. s.number < 2 ^ 32) g → at ≡ start + length cs → IsSpelling cs t → EndsAt t (x ∷ bs) → IsExact t scan.want cs → ((s1 : Scan) (a : Action) → g ≡ givens.On s1 a → give scan t ≡ givens.On s1 a) → (g ≡ givens.Over → give scan (as_read t) ≡ givens.Over) → HasEnded t (x ∷ bs) → IsOfToken cs → runs_on cs (x ∷ bs) ≡ false → ((z : ℕ) → runs_on cs (z ∷ []) ≡ false → after start (going scan built idle) (cs ++ z ∷ []) ≡ and_begun at z (token_taken start at g built)) → Tells bs → Told (cs ++ x ∷ bs) start scan built (after (at + 1) (and_begun at x (token_taken start at g built)) bs)
 pending_told (givens.On s1 a) t cs x bs start at scan built w n l sp f i on_is over_is e o r blank more = pending_on (is_whole s1.want) t cs x bs start at scan built s1 a w refl n l sp f i (on_is s1 a refl) more
 pending_told givens.Wrong t cs x bs start at scan built w n l sp f i on_is over_is e o r blank more = wrong_told cs (x ∷ bs) start (at + 1) scan built w o (inr (x, bs, refl, r, blank)) bs
 pending_told givens.Over t cs x bs start at scan built w n l sp f i on_is over_is e o r blank more = over_told cs (x ∷ bs) t start (at + 1) scan built w sp f e (over_is refl) bs
@@ -128,10 +128,10 @@ regrouped cs x bs start scan built q r = subst (λ xs. Told xs start scan built 
 
 -- words
 
-none_told : (cs : List ℕ) (x : ℕ) (bs : List ℕ) (start at : ℕ) (scan : Scan) (built : Built) → is_whole scan.want ≡ false → IsOfToken cs → runs_on cs (x ∷ bs) ≡ false → after start (going scan built idle) (cs ++ 32 ∷ []) ≡ malformed start → Told (cs ++ x ∷ bs) start scan built (after (at + 1) (malformed start) bs)
+none_told : (cs : List ℕ) (x : ℕ) (bs : List ℕ) (start at : ℕ) (scan : Scan) (built : Built) → is_whole scan.want ≡ false → IsOfToken cs → runs_on cs (x ∷ bs) ≡ false → ((z : ℕ) → runs_on cs (z ∷ []) ≡ false → after start (going scan built idle) (cs ++ z ∷ []) ≡ malformed start) → Told (cs ++ x ∷ bs) start scan built (after (at + 1) (malformed start) bs)
 none_told cs x bs start at scan built w o r blank = wrong_told cs (x ∷ bs) start (at + 1) scan built w o (inr (x, bs, refl, r, blank)) bs
 
-word_by : (w : Option Word) (ls : List ℕ) (x : ℕ) (bs : List ℕ) (start at : ℕ) (scan : Scan) (built : Built) → word_of ls ≡ w → IsFine scan → at ≡ start + length ls → AreAll is_letter ls → IsOfToken ls → is_letter x ≡ false → after start (going scan built idle) (ls ++ 32 ∷ []) ≡ and_begun at 32 (word_ended start at scan built w) → Tells bs → Told (ls ++ x ∷ bs) start scan built (after (at + 1) (and_begun at x (word_ended start at scan built w)) bs)
+word_by : (w : Option Word) (ls : List ℕ) (x : ℕ) (bs : List ℕ) (start at : ℕ) (scan : Scan) (built : Built) → word_of ls ≡ w → IsFine scan → at ≡ start + length ls → AreAll is_letter ls → IsOfToken ls → is_letter x ≡ false → ((z : ℕ) → runs_on ls (z ∷ []) ≡ false → after start (going scan built idle) (ls ++ z ∷ []) ≡ and_begun at z (word_ended start at scan built w)) → Tells bs → Told (ls ++ x ∷ bs) start scan built (after (at + 1) (and_begun at x (word_ended start at scan built w)) bs)
 word_by (Some w) ls x bs start at scan built e n l h o k blank more =
     pending_told (give scan (tokens.Word w)) (tokens.Word w) ls x bs start at scan built n.1 (below scan (tokens.Word w) n.0) l (spelled_word ls w e) k tt (λ s a g. g) (λ g. g) (x, bs, refl) o (letters_stop ls x bs h k) blank more
 word_by None ls x bs start at scan built e n l h o k blank more = none_told ls x bs start at scan built n.1 o (letters_stop ls x bs h k) blank
@@ -145,7 +145,7 @@ longer_letters scan start ls c x more e h k f = (refl, refl, c, more ++ x ∷ []
   both true b g = g
   both false b g = absurd (no_truth g)
 
-letters_by : (letter : Bool) (ls : List ℕ) (c : ℕ) (tail : List ℕ) (x : ℕ) (bs : List ℕ) (start at : ℕ) (scan : Scan) (built : Built) → is_letter x ≡ letter → ls ≡ c ∷ tail → AreAll is_letter ls → IsFine scan → at ≡ start + length ls → after start (going scan built idle) (ls ++ x ∷ []) ≡ cond letter (word_grown start scan built ls x) (and_begun at x (word_ended start at scan built (word_of ls))) → after start (going scan built idle) (ls ++ 32 ∷ []) ≡ and_begun at 32 (word_ended start at scan built (word_of ls)) → Tells bs → Told (ls ++ x ∷ bs) start scan built (after (at + 1) (cond letter (word_grown start scan built ls x) (and_begun at x (word_ended start at scan built (word_of ls)))) bs)
+letters_by : (letter : Bool) (ls : List ℕ) (c : ℕ) (tail : List ℕ) (x : ℕ) (bs : List ℕ) (start at : ℕ) (scan : Scan) (built : Built) → is_letter x ≡ letter → ls ≡ c ∷ tail → AreAll is_letter ls → IsFine scan → at ≡ start + length ls → after start (going scan built idle) (ls ++ x ∷ []) ≡ cond letter (word_grown start scan built ls x) (and_begun at x (word_ended start at scan built (word_of ls))) → ((z : ℕ) → runs_on ls (z ∷ []) ≡ false → after start (going scan built idle) (ls ++ z ∷ []) ≡ and_begun at z (word_ended start at scan built (word_of ls))) → Tells bs → Told (ls ++ x ∷ bs) start scan built (after (at + 1) (cond letter (word_grown start scan built ls x) (and_begun at x (word_ended start at scan built (word_of ls)))) bs)
 letters_by true ls c tail x bs start at scan built k e h n l r blank more =
     regrouped ls x bs start scan built _ (more_told (nat_lt (length ls) 8 && fits_word scan (ls ++ x ∷ [])) (letters start (ls ++ x ∷ [])) (ls ++ x ∷ []) bs start (at + 1) scan built n more (longer start at x ls l) r (longer_letters scan start ls c x tail e h k)
     (some_letters (ls ++ x ∷ []) c (tail ++ x ∷ []) (ap (λ xs. xs ++ x ∷ []) e) (all_more is_letter ls x h k)))
@@ -159,7 +159,7 @@ longer_digits scan start n x d ds h v i k f =
     let machine : n ≡ grown_behind 0 (d ∷ ds) = v ∙ sym at_first ∙ ap (λ m. grown_behind m (d ∷ ds)) stopped_none in
     (refl, d, ds ++ x ∷ [], refl, all_more is_digit (d ∷ ds) x h k, ap (λ m. grown m x) machine ∙ sym (digits_more (d ∷ ds) x 0) ∙ ap (λ m. grown_behind m ((d ∷ ds) ++ x ∷ [])) (sym stopped_none) ∙ stopped_value ((d ∷ ds) ++ x ∷ []) 0, f, more_exact scan.want scan.number n x (d ∷ ds) k i machine f)
 
-digits_by : (digit : Bool) (d : ℕ) (ds : List ℕ) (n x : ℕ) (bs : List ℕ) (start at : ℕ) (scan : Scan) (built : Built) → is_digit x ≡ digit → AreAll is_digit (d ∷ ds) → n ≡ stopped (value_behind 0 (d ∷ ds)) → IsDigits scan.want (d ∷ ds) → IsFine scan → at ≡ start + length (d ∷ ds) → after start (going scan built idle) ((d ∷ ds) ++ x ∷ []) ≡ cond digit (number_grown start scan built n x) (and_begun at x (token_taken start at (give scan (tokens.Number n)) built)) → after start (going scan built idle) ((d ∷ ds) ++ 32 ∷ []) ≡ and_begun at 32 (token_taken start at (give scan (tokens.Number n)) built) → Tells bs → Told ((d ∷ ds) ++ x ∷ bs) start scan built (after (at + 1) (cond digit (number_grown start scan built n x) (and_begun at x (token_taken start at (give scan (tokens.Number n)) built))) bs)
+digits_by : (digit : Bool) (d : ℕ) (ds : List ℕ) (n x : ℕ) (bs : List ℕ) (start at : ℕ) (scan : Scan) (built : Built) → is_digit x ≡ digit → AreAll is_digit (d ∷ ds) → n ≡ stopped (value_behind 0 (d ∷ ds)) → IsDigits scan.want (d ∷ ds) → IsFine scan → at ≡ start + length (d ∷ ds) → after start (going scan built idle) ((d ∷ ds) ++ x ∷ []) ≡ cond digit (number_grown start scan built n x) (and_begun at x (token_taken start at (give scan (tokens.Number n)) built)) → ((z : ℕ) → runs_on (d ∷ ds) (z ∷ []) ≡ false → after start (going scan built idle) ((d ∷ ds) ++ z ∷ []) ≡ and_begun at z (token_taken start at (give scan (tokens.Number n)) built)) → Tells bs → Told ((d ∷ ds) ++ x ∷ bs) start scan built (after (at + 1) (cond digit (number_grown start scan built n x) (and_begun at x (token_taken start at (give scan (tokens.Number n)) built))) bs)
 digits_by true d ds n x bs start at scan built k h v i m l r blank more =
     regrouped (d ∷ ds) x bs start scan built _ (more_told (fits_number scan (grown n x)) (digits start (grown n x)) ((d ∷ ds) ++ x ∷ []) bs start (at + 1) scan built m more (longer start at x (d ∷ ds) l) r (longer_digits scan start n x d ds h v i k)
     (d, ds ++ x ∷ [], refl, inr (inl (all_more is_digit (d ∷ ds) x h k))))
@@ -177,11 +177,11 @@ digits_by false d ds n x bs start at scan built k h v i m l r blank more =
 
 letters_told : (ls : List ℕ) (c : ℕ) (tail : List ℕ) (x : ℕ) (bs : List ℕ) (start at : ℕ) (scan : Scan) (built : Built) → ls ≡ c ∷ tail → AreAll is_letter ls → IsFine scan → at ≡ start + length ls → after start (going scan built idle) ls ≡ going scan built (letters start ls) → Tells bs → Told (ls ++ x ∷ bs) start scan built (after (at + 1) (step at (going scan built (letters start ls)) x) bs)
 unfolding step
-letters_told ls c tail x bs start at scan built e h n l r more = letters_by (is_letter x) ls c tail x bs start at scan built refl e h n l (one_more start at scan built (letters start ls) ls x l r) (one_more start at scan built (letters start ls) ls 32 l r) more
+letters_told ls c tail x bs start at scan built e h n l r more = letters_by (is_letter x) ls c tail x bs start at scan built refl e h n l (one_more start at scan built (letters start ls) ls x l r) (λ z e2. one_more start at scan built (letters start ls) ls z l r ∙ ap (λ y. cond y (word_grown start scan built ls z) (and_begun at z (word_ended start at scan built (word_of ls)))) (letters_end c tail z [] (subst (AreAll is_letter) e h) (ap (λ xs. runs_on xs (z ∷ [])) (sym e) ∙ e2))) more
 
 digits_told : (d : ℕ) (ds : List ℕ) (m x : ℕ) (bs : List ℕ) (start at : ℕ) (scan : Scan) (built : Built) → AreAll is_digit (d ∷ ds) → m ≡ stopped (value_behind 0 (d ∷ ds)) → IsDigits scan.want (d ∷ ds) → IsFine scan → at ≡ start + length (d ∷ ds) → after start (going scan built idle) (d ∷ ds) ≡ going scan built (digits start m) → Tells bs → Told ((d ∷ ds) ++ x ∷ bs) start scan built (after (at + 1) (step at (going scan built (digits start m)) x) bs)
 unfolding step
-digits_told d ds m x bs start at scan built h v i n l r more = digits_by (is_digit x) d ds m x bs start at scan built refl h v i n l (one_more start at scan built (digits start m) (d ∷ ds) x l r) (one_more start at scan built (digits start m) (d ∷ ds) 32 l r) more
+digits_told d ds m x bs start at scan built h v i n l r more = digits_by (is_digit x) d ds m x bs start at scan built refl h v i n l (one_more start at scan built (digits start m) (d ∷ ds) x l r) (λ z e2. one_more start at scan built (digits start m) (d ∷ ds) z l r ∙ ap (λ y. cond y (number_grown start scan built m z) (and_begun at z (token_taken start at (give scan (tokens.Number m)) built))) (digits_end d ds z [] h e2)) more
 
 idle_step : (x : ℕ) (bs : List ℕ) (at : ℕ) (scan : Scan) (built : Built) → IsFine scan → Tells bs → Told (x ∷ bs) at scan built (after (at + 1) (step at (going scan built idle) x) bs)
 unfolding step

@@ -36,7 +36,8 @@ IsOpen scan (digits at n) cs start =
 abbrev pub IsRefused : Scan → Built → ℕ → List ℕ → List ℕ → Type 0
 IsRefused scan built place cs rest =
     (after place (going scan built idle) cs ≡ malformed place)
-    ⊎ ((behind : ℕ) × (more : List ℕ) × (rest ≡ behind ∷ more) × (runs_on cs rest ≡ false) × (after place (going scan built idle) (cs ++ 32 ∷ []) ≡ malformed place))
+    ⊎ ((behind : ℕ) × (more : List ℕ) × (rest ≡ behind ∷ more) × (runs_on cs rest ≡ false)
+    × ((z : ℕ) → runs_on cs (z ∷ []) ≡ false → after place (going scan built idle) (cs ++ z ∷ []) ≡ malformed place))
 
 abbrev pub HasEnded : Token → List ℕ → Type 0
 HasEnded (tokens.Word w) rest = (behind : ℕ) × (more : List ℕ) × (rest ≡ behind ∷ more)

@@ -69,11 +69,15 @@ LimitAt h bytes place =
 abbrev pub HasNoLimit : Held → List ℕ → Type 0
 HasNoLimit h bytes = (place : ℕ) → LimitAt h bytes place → ⊥
 
+-- such a text begins with these bytes, and their last token has ended there
+abbrev pub BeginsEnded : Held → List ℕ → Type 0
+BeginsEnded h bs = (more : List ℕ) × (runs_on bs more ≡ false) × IsNext h (bs ++ more)
+
 -- a token's bytes with which no block goes on from those before it: however the token goes on, or, where it has ended, as it is
 abbrev pub NoneGoesOn : Held → List ℕ → List ℕ → List ℕ → Type 0
 NoneGoesOn h front cs rest =
     (Begins h (front ++ cs) → ⊥)
-    ⊎ ((behind : ℕ) × (more : List ℕ) × (rest ≡ behind ∷ more) × (runs_on cs rest ≡ false) × (Begins h (front ++ (cs ++ 32 ∷ [])) → ⊥))
+    ⊎ ((behind : ℕ) × (more : List ℕ) × (rest ≡ behind ∷ more) × (runs_on cs rest ≡ false) × (BeginsEnded h (front ++ cs) → ⊥))
 
 -- at this place stands the first token with which no block is begun: those before it begin one
 abbrev pub WrongAt : Held → ℕ → Type 0

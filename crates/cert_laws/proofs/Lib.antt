@@ -22,3 +22,4 @@ pub mod Tails
 pub mod Opens
 pub mod OpenTokens
 pub mod Begun
+pub mod TokenReads

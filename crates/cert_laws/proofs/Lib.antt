@@ -23,3 +23,4 @@ pub mod Opens
 pub mod OpenTokens
 pub mod Begun
 pub mod TokenReads
+pub mod Forward

@@ -65,14 +65,14 @@ same_first (tokens.Word w) xs ys zs x e h = subst (λ l. EndsAt (tokens.Word w) 
 same_first (tokens.Number n) xs ys zs x e h = subst (λ l. EndsAt (tokens.Number n) (l ++ zs)) (sym e) (subst (EndsAt (tokens.Number n)) e h)
 same_first (tokens.Sign c) xs ys zs x e h = subst (λ l. EndsAt (tokens.Sign c) (l ++ zs)) (sym e) tt
 
-abbrev IsSome : List ℕ → Type 0
+abbrev pub IsSome : List ℕ → Type 0
 IsSome bs = (x : ℕ) × (xs : List ℕ) × (bs ≡ x ∷ xs)
 
-some_joined : (xs ys : List ℕ) → IsSome ys → IsSome (xs ++ ys)
+pub some_joined : (xs ys : List ℕ) → IsSome ys → IsSome (xs ++ ys)
 some_joined [] ys h = h
 some_joined (x ∷ xs) ys h = (x, xs ++ ys, refl)
 
-joins_more : (next more : List ℕ) → IsSome next → (t : Token) (xs : List ℕ) → EndsAt t (xs ++ next) → EndsAt t (xs ++ (next ++ more))
+pub joins_more : (next more : List ℕ) → IsSome next → (t : Token) (xs : List ℕ) → EndsAt t (xs ++ next) → EndsAt t (xs ++ (next ++ more))
 joins_more next more s t xs e = let f = some_joined xs next s in subst (EndsAt t) (append_assoc xs next more) (same_first t f.1 (xs ++ next) more f.0 f.2 e)
 
 all_joined : (bs : List ℕ) → AreAll is_blank bs → AreAll is_blank (bs ++ 32 ∷ [])

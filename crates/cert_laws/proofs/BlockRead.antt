@@ -56,7 +56,7 @@ built_in c (on t b) = b
 built_in c wrong = c
 built_in c passed = c
 
-abbrev First : List ℕ → Type 0
+abbrev pub First : List ℕ → Type 0
 First bs = (x : ℕ) × (xs : List ℕ) × (bs ≡ x ∷ xs)
 
 first_letter : (w : Word) → First (letters_of w)
@@ -79,7 +79,7 @@ first_joined : (bs cs rest : List ℕ) → First cs → First (bs ++ (cs ++ rest
 first_joined [] cs rest f = (f.0, f.1 ++ rest, ap (λ xs. xs ++ rest) f.2)
 first_joined (x ∷ xs) cs rest f = (x, xs ++ (cs ++ rest), refl)
 
-first_byte : (bs : List ℕ) (t : Token) (ts : List Token) → Spells bs (t ∷ ts) → First bs
+pub first_byte : (bs : List ℕ) (t : Token) (ts : List Token) → Spells bs (t ∷ ts) → First bs
 first_byte bs t ts h = let f = first_joined h.0 h.1 h.2 (first_of t h.1 h.5) in (f.0, f.1, h.3 ∙ f.2)
 
 -- a token was read and what is next goes on as if nothing were pending

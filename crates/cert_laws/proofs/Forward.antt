@@ -52,10 +52,10 @@ still_going true (t ∷ ts) s1 s b1 b e w r = absurd (stuck (ap (λ want. go (gi
   stuck : wrong ≡ on s b → ⊥
   stuck q = cc
 
-abbrev FirstTaken : Token → List Token → Scan → Built → Scan → Built → Type 0
+abbrev pub FirstTaken : Token → List Token → Scan → Built → Scan → Built → Type 0
 FirstTaken t ts scan built s b = (s1 : Scan) × (a : Action) × (give scan t ≡ givens.On s1 a) × (run ts s1 (applied a built) ≡ on s b)
 
-first_taken : (g : Given) (t : Token) (ts : List Token) (scan : Scan) (built : Built) (s : Scan) (b : Built) → give scan t ≡ g → go g built (run ts) ≡ on s b → FirstTaken t ts scan built s b
+pub first_taken : (g : Given) (t : Token) (ts : List Token) (scan : Scan) (built : Built) (s : Scan) (b : Built) → give scan t ≡ g → go g built (run ts) ≡ on s b → FirstTaken t ts scan built s b
 first_taken (givens.On s1 a) t ts scan built s b e r = (s1, a, e, r)
 first_taken givens.Wrong t ts scan built s b e r = absurd (stuck r) where
   stuck : wrong ≡ on s b → ⊥
@@ -67,7 +67,7 @@ first_taken givens.Over t ts scan built s b e r = absurd (stuck r) where
 abbrev pub IsSome : List ℕ → Type 0
 IsSome bs = (x : ℕ) × (xs : List ℕ) × (bs ≡ x ∷ xs)
 
-some_behind : (rest next : List ℕ) → IsSome next → IsSome (rest ++ next)
+pub some_behind : (rest next : List ℕ) → IsSome next → IsSome (rest ++ next)
 some_behind [] next s = s
 some_behind (x ∷ rest) next s = (x, rest ++ next, refl)
 
@@ -126,14 +126,14 @@ reads_block number second header ts bs next at built s b some n w r h =
 
 -- the first token that passes a limit
 
-abbrev NoneMarked : List Bool → Type 0
+abbrev pub NoneMarked : List Bool → Type 0
 NoneMarked [] = Unit {0}
 NoneMarked (m ∷ ms) = (m ≡ false) × NoneMarked ms
 
-abbrev Marked : List Token → List Bool → Type 0
+abbrev pub Marked : List Token → List Bool → Type 0
 Marked ts ms = (before : List Token) × (t : Token) × (us : List Token) × (ts ≡ before ++ t ∷ us) × IsFirstMarked before ms
 
-find : (ts : List Token) (ms : List Bool) (s : Scan) → Follows ts ms s → Marked ts ms ⊎ NoneMarked ms
+pub find : (ts : List Token) (ms : List Bool) (s : Scan) → Follows ts ms s → Marked ts ms ⊎ NoneMarked ms
 find [] [] s f = inr tt
 find [] (m ∷ ms) s f = absurd f
 find (t ∷ ts) [] s f = absurd f
@@ -158,7 +158,7 @@ run_marked (v ∷ before) t us (c ∷ ms) scan built f m =
     let r = run_marked before t us ms f.0 (applied f.1 built) k.1 m.1 in
     (r.0, r.1, ap (λ g. go g built (run before)) (taken_unmarked v c scan f.0 f.1 m.0 k.0 f.2) ∙ r.2, r.3)
 
-run_all : (ts : List Token) (ms : List Bool) (scan : Scan) (built : Built) → Follows ts ms scan → NoneMarked ms → (s : Scan) × (b : Built) × (run ts scan built ≡ on s b) × (is_whole s.want ≡ true)
+pub run_all : (ts : List Token) (ms : List Bool) (scan : Scan) (built : Built) → Follows ts ms scan → NoneMarked ms → (s : Scan) × (b : Built) × (run ts scan built ≡ on s b) × (is_whole s.want ≡ true)
 run_all [] [] scan built f n = (scan, built, refl, f)
 run_all [] (m ∷ ms) scan built f n = absurd f
 run_all (t ∷ ts) [] scan built f n = absurd f

@@ -36,10 +36,10 @@ then_blanks : (bs : List ℕ) (c : ℕ) (more : List ℕ) (at : ℕ) (state : St
 then_blanks [] c more at state s built h f e = ap (λ q. after (at + 1) q more) e
 then_blanks (b ∷ bs) c more at state s built h f e = ap (λ q. after (at + 1) q (bs ++ c ∷ more)) (f b h.0)
 
-abbrev Before : ℕ → Built → State
+abbrev pub Before : ℕ → Built → State
 Before number built = going (scan_at number false (wants.Block true) 0 0) built idle
 
-abbrev Behind : ℕ → Built → State
+abbrev pub Behind : ℕ → Built → State
 Behind number built = going (scan_at number true (wants.Block false) 0 0) built idle
 
 abbrev At2 : ℕ → Scan
@@ -94,14 +94,14 @@ reached at head front bs cs e =
     let d = ap length e in
     omega (arith, a, b, c, d)
 
-header_taken : (number : ℕ) (built : Built) (head rest : List ℕ) (at : ℕ) → IsHeader head → after at (Before number built) (head ++ rest) ≡ after (at + length head) (Behind number built) rest
+pub header_taken : (number : ℕ) (built : Built) (head rest : List ℕ) (at : ℕ) → IsHeader head → after at (Before number built) (head ++ rest) ≡ after (at + length head) (Behind number built) rest
 header_taken number built head rest at h =
     ap (λ xs. after at (Before number built) (xs ++ rest)) h.3
     ∙ ap (after at (Before number built)) (regrouped h.0 h.1 h.2 rest)
     ∙ header_read number built h.0 h.1 h.2 rest at h.4 h.5 h.6
     ∙ ap (λ n. after n (Behind number built) rest) (reached at head h.0 h.1 h.2 h.3)
 
-first_start : (number : ℕ) (second : Bool) → nat_lt number 2 ≡ true → second ≡ false → start number second ≡ Before number (built_at [] [])
+pub first_start : (number : ℕ) (second : Bool) → nat_lt number 2 ≡ true → second ≡ false → start number second ≡ Before number (built_at [] [])
 first_start number second l e = ap (λ b. going (scan_at number b (wants.Block (nat_lt number 2 && cond b false true)) 0 0) (built_at [] []) idle) e ∙ ap (λ b. going (scan_at number false (wants.Block (b && true)) 0 0) (built_at [] []) idle) l
 
 first_small : (n : ℕ) → nat_lt n 2 ≡ true → n < 2 ^ 32

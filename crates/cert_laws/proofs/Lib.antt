@@ -24,3 +24,4 @@ pub mod OpenTokens
 pub mod Begun
 pub mod TokenReads
 pub mod Forward
+pub mod NeverWrong

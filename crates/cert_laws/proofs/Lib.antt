@@ -25,3 +25,4 @@ pub mod Begun
 pub mod TokenReads
 pub mod Forward
 pub mod NeverWrong
+pub mod LastToken

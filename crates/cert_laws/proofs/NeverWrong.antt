@@ -1,6 +1,7 @@
 -- A text of the next block, limits aside, is never refused as wrong: it is read whole, or refused at its first token that passes
 -- a limit. So nothing that is refused as wrong begins such a text.
 use Rattle.std.proofs.Common.{◌≡◌, ℕ, suc, ◌+◌, ◌<◌, ◌^◌, Bool, true, false, cond, ◌||◌, ◌⊎◌, inl, inr, List, [], ◌∷◌, ◌++◌, length, refl, sym, ap, ◌∙◌, subst, arith, append_assoc}
+use Rattle.std.proofs.lemmas.List.{length-append}
 use Rattle.cert_text.specs.declared.scan.Word.TheVariants as words
 use Rattle.cert_text.specs.declared.scan.Token.{Token}
 use Rattle.cert_text.specs.declared.scan.Token.TheVariants as tokens
@@ -25,7 +26,9 @@ use Rattle.cert_laws.proofs.Lexing.{blanks_read}
 use Rattle.cert_laws.proofs.BlockRead.{regrouped, whole_is, block_tokens_read, first_byte}
 use Rattle.cert_laws.proofs.HeaderRead.{header_taken, first_start, Before, Behind}
 use Rattle.cert_laws.proofs.Stays.{Stays, stays}
-use Rattle.cert_laws.proofs.Follows.{as_read, Follows}
+use Rattle.cert_laws.proofs.Follows.{as_read, Follows, IsQuiet}
+use Rattle.cert_laws.proofs.LastToken.{last_is}
+use Rattle.cert_laws.proofs.ReadBack.{first_of}
 use Rattle.cert_laws.proofs.TreeFollows.{block_follows}
 use Rattle.cert_laws.proofs.Begun.{Start, none_built, joins_more}
 use Rattle.cert_laws.proofs.TokenReads.{token_over}
@@ -75,11 +78,12 @@ block_over number second header w (v ∷ before) t us bs blanks cs x rest at n p
       wider : (y : ℕ) → y < 2 ^ 32 → y < 2 ^ 63
       wider y l = omega (arith, l)
 
-abbrev pub is_bad : State → Bool
-is_bad (going s b p) = false
-is_bad (malformed place) = true
-is_bad (over place) = false
-is_bad (whole end s b) = false
+-- read whole at this place, or refused for a limit
+abbrev pub IsEnd : ℕ → State → Type 0
+IsEnd n (going s b p) = ⊥
+IsEnd n (malformed place) = ⊥
+IsEnd n (over place) = Unit {0}
+IsEnd n (whole end s b) = end ≡ n
 
 -- a spelling in two parts
 abbrev Parted : List ℕ → List Token → List Token → Type 0
@@ -95,54 +99,74 @@ spelled_more : (ts : List Token) (bs next more : List ℕ) → IsSome next → S
 spelled_more [] bs next more s h = h
 spelled_more (t ∷ ts) bs next more s h = (h.0, h.1, h.2, h.3, h.4, h.5, joins_more next more s t h.2 h.6, spelled_more ts h.2 next more s h.7)
 
-ended_more : (t : Token) (rest : List ℕ) → EndsAt t rest → (x : ℕ) × (xs : List ℕ) × (rest ++ 32 ∷ [] ≡ x ∷ xs) × EndsAt t (x ∷ xs)
-ended_more (tokens.Word w) [] h = (32, [], refl, refl)
-ended_more (tokens.Number n) [] h = (32, [], refl, refl)
-ended_more (tokens.Sign c) [] h = (32, [], refl, tt)
-ended_more (tokens.Word w) (x ∷ xs) h = (x, xs ++ 32 ∷ [], refl, h)
-ended_more (tokens.Number n) (x ∷ xs) h = (x, xs ++ 32 ∷ [], refl, h)
-ended_more (tokens.Sign c) (x ∷ xs) h = (x, xs ++ 32 ∷ [], refl, tt)
+-- a token that passes a limit is none of the signs, so not the last one
+not_last : (number : ℕ) (w : Written) (before : List Token) (t : Token) (us : List Token) (ms : List Bool) (scan : Scan) → block_tokens number w [] ≡ before ++ t ∷ us → Follows (before ++ t ∷ us) ms scan → IsFirstMarked before ms → (u : Token) × (more : List Token) × (us ≡ u ∷ more)
+not_last number w before t (u ∷ us) ms scan e f m = (u, us, refl)
+not_last number w before t [] ms scan e f m = absurd (loud (subst (λ y. IsQuiet y true) (last_is number w before t e) (quiet before ms scan f m))) where
+  loud : IsQuiet (tokens.Sign 59) true → ⊥
+  loud q = no_truth (sym q)
 
--- a block's text, with a blank behind it
-block_right : (number : ℕ) (second header : Bool) (w : Written) (bs : List ℕ) (at : ℕ) → number < 2 ^ 32 → IsProper second w → Spells bs (block_tokens number w []) → is_bad (after at (going (scan_at number second (wants.Block header) 0 0) none_built idle) (bs ++ 32 ∷ [])) ≡ false
-block_right number second header w bs at n p h =
-    let scan = scan_at number second (wants.Block header) 0 0 in
-    by (find (block_tokens number w []) (block_marks w) scan (block_follows number second header w (wider number n) p)) where
-      wider : (y : ℕ) → y < 2 ^ 32 → y < 2 ^ 63
-      wider y l = omega (arith, l)
+  quiet : (ts : List Token) (ns : List Bool) (s : Scan) → Follows (ts ++ t ∷ []) ns s → IsFirstMarked ts ns → IsQuiet t true
+  quiet ts [] s g k = absurd k
+  quiet [] (c ∷ ns) s g k = subst (IsQuiet t) k g.3
+  quiet (v ∷ ts) (c ∷ ns) s g k = quiet ts ns g.0 (g.4 k.0).1 k.1
 
-      state : State
-      state = after at (going (scan_at number second (wants.Block header) 0 0) none_built idle) (bs ++ 32 ∷ [])
+ended_more : (t : Token) (rest more : List ℕ) → IsSome rest → EndsAt t rest → (x : ℕ) × (xs : List ℕ) × (rest ++ more ≡ x ∷ xs) × EndsAt t (x ∷ xs)
+ended_more t rest more s h = (s.0, s.1 ++ more, ap (λ ys. ys ++ more) s.2, same t (s.1 ++ more) (subst (EndsAt t) s.2 h)) where
+  same : (u : Token) (ys : List ℕ) → EndsAt u (s.0 ∷ s.1) → EndsAt u (s.0 ∷ ys)
+  same (tokens.Word w) ys e = e
+  same (tokens.Number n) ys e = e
+  same (tokens.Sign c) ys e = tt
 
-      stopped : (before : List Token) (t : Token) (us : List Token) → block_tokens number w [] ≡ before ++ t ∷ us → IsFirstMarked before (block_marks w) → Parted bs before (t ∷ us) → is_bad state ≡ false
-      stopped before t us e m r =
-          let ys = r.1 in
-          let k = r.4 in
-          let first = first_byte ys t us k in
-          let e2 = ended_more t k.2 k.6 in
-          let whole_text = ap (λ xs. xs ++ 32 ∷ []) r.2 ∙ append_assoc r.0 ys (32 ∷ []) in
-          let rest_text = ap (λ xs. xs ++ 32 ∷ []) k.3 ∙ regrouped k.0 k.1 k.2 (32 ∷ []) ∙ ap (λ xs. k.0 ++ (k.1 ++ xs)) e2.2 in
-          let spelled = subst (SpelledTo r.0 before) rest_text (spelled_more before r.0 ys (32 ∷ []) (first.0, first.1, first.2) r.3) in
-          ap (λ xs. is_bad (after at (going (scan_at number second (wants.Block header) 0 0) none_built idle) xs)) (whole_text ∙ ap (λ xs. r.0 ++ xs) rest_text)
-          ∙ ap is_bad (block_over number second header w before t us r.0 k.0 k.1 e2.0 e2.1 at n p e m spelled k.4 k.5 e2.3)
+-- a block's text, and whatever follows it
+block_ends : (number : ℕ) (second header : Bool) (w : Written) (bs more : List ℕ) (at : ℕ) → number < 2 ^ 32 → IsProper second w → Spells bs (block_tokens number w []) → IsEnd (at + length bs) (after at (going (scan_at number second (wants.Block header) 0 0) none_built idle) (bs ++ more))
+block_ends number second header w bs more at n p h = by (find (block_tokens number w []) (block_marks w) scan follows) where
+  wider : (y : ℕ) → y < 2 ^ 32 → y < 2 ^ 63
+  wider y l = omega (arith, l)
 
-      by : Marked (block_tokens number w []) (block_marks w) ⊎ NoneMarked (block_marks w) → is_bad state ≡ false
-      by (inl m) = stopped m.0 m.1 m.2 m.3 m.4 (parted m.0 (m.1 ∷ m.2) bs (subst (Spells bs) m.3 h))
-      by (inr m) =
-          let r = run_all (block_tokens number w []) (block_marks w) (scan_at number second (wants.Block header) 0 0) none_built (block_follows number second header w (wider number n) p) m in
-          ap is_bad (block_tokens_read number second header (tokens.Number number ∷ tree_tokens w (tokens.Sign 59 ∷ [])) bs (32 ∷ []) at none_built r.0 r.1 n r.3 r.2 h)
+  scan : Scan
+  scan = scan_at number second (wants.Block header) 0 0
 
-pub text_right : (h : Held) (text : List ℕ) → h.number < 2 ^ 32 → IsNext h text → is_bad (after h.place (start h.number h.second) (text ++ 32 ∷ [])) ≡ false
-text_right h text n r = by r.0 r.5 r.6 where
-  by : (header : Bool) → IsFront header h r.1 → IsProper (header || h.second) r.3 → is_bad (after h.place (start h.number h.second) (text ++ 32 ∷ [])) ≡ false
-  by false f p = ap (λ xs. is_bad (after h.place (start h.number h.second) (xs ++ 32 ∷ []))) (r.4 ∙ ap (λ xs. xs ++ r.2) f) ∙ block_right h.number h.second _ r.3 r.2 h.place n p r.7
+  follows : Follows (block_tokens number w []) (block_marks w) (scan_at number second (wants.Block header) 0 0)
+  follows = block_follows number second header w (wider number n) p
+
+  state : List ℕ → State
+  state xs = after at (going (scan_at number second (wants.Block header) 0 0) none_built idle) xs
+
+  stopped : (before : List Token) (t : Token) (us : List Token) → block_tokens number w [] ≡ before ++ t ∷ us → IsFirstMarked before (block_marks w) → Parted bs before (t ∷ us) → IsEnd (at + length bs) (state (bs ++ more))
+  stopped before t us e m r =
+      let ys = r.1 in
+      let k = r.4 in
+      let first = first_byte ys t us k in
+      let u = not_last number w before t us (block_marks w) (scan_at number second (wants.Block header) 0 0) e (subst (λ ts. Follows ts (block_marks w) (scan_at number second (wants.Block header) 0 0)) e follows) m in
+      let behind = first_byte k.2 u.0 u.1 (subst (Spells k.2) u.2 k.7) in
+      let e2 = ended_more t k.2 more (behind.0, behind.1, behind.2) k.6 in
+      let whole_text = ap (λ xs. xs ++ more) r.2 ∙ append_assoc r.0 ys more in
+      let rest_text = ap (λ xs. xs ++ more) k.3 ∙ regrouped k.0 k.1 k.2 more ∙ ap (λ xs. k.0 ++ (k.1 ++ xs)) e2.2 in
+      let spelled = subst (SpelledTo r.0 before) rest_text (spelled_more before r.0 ys more (first.0, first.1, first.2) r.3) in
+      subst (IsEnd (at + length bs)) (sym (ap (after at (going (scan_at number second (wants.Block header) 0 0) none_built idle)) (whole_text ∙ ap (λ xs. r.0 ++ xs) rest_text)
+      ∙ block_over number second header w before t us r.0 k.0 k.1 e2.0 e2.1 at n p e m spelled k.4 k.5 e2.3)) tt
+
+  by : Marked (block_tokens number w []) (block_marks w) ⊎ NoneMarked (block_marks w) → IsEnd (at + length bs) (state (bs ++ more))
+  by (inl m) = stopped m.0 m.1 m.2 m.3 m.4 (parted m.0 (m.1 ∷ m.2) bs (subst (Spells bs) m.3 h))
+  by (inr m) =
+      let r = run_all (block_tokens number w []) (block_marks w) (scan_at number second (wants.Block header) 0 0) none_built follows m in
+      subst (IsEnd (at + length bs)) (sym (block_tokens_read number second header (tokens.Number number ∷ tree_tokens w (tokens.Sign 59 ∷ [])) bs more at none_built r.0 r.1 n r.3 r.2 h)) refl
+
+pub text_ends : (h : Held) (text more : List ℕ) → h.number < 2 ^ 32 → IsNext h text → IsEnd (h.place + length text) (after h.place (start h.number h.second) (text ++ more))
+text_ends h text more n r = by r.0 r.5 r.6 where
+  by : (header : Bool) → IsFront header h r.1 → IsProper (header || h.second) r.3 → IsEnd (h.place + length text) (after h.place (start h.number h.second) (text ++ more))
+  by false f p =
+      let e = r.4 ∙ ap (λ xs. xs ++ r.2) f in
+      subst (λ xs. IsEnd (h.place + length xs) (after h.place (start h.number h.second) (xs ++ more))) (sym e) (block_ends h.number h.second (first_of h) r.3 r.2 more h.place n p r.7)
   by true f p =
-      ap (λ xs. is_bad (after h.place (start h.number h.second) xs)) (ap (λ xs. xs ++ 32 ∷ []) r.4 ∙ append_assoc r.1 r.2 (32 ∷ []))
-      ∙ ap (λ q. is_bad (after h.place q (r.1 ++ (r.2 ++ 32 ∷ [])))) (first_start h.number h.second f.0 f.1)
-      ∙ ap is_bad (header_taken h.number none_built r.1 (r.2 ++ 32 ∷ []) h.place f.2)
-      ∙ block_right h.number true false r.3 r.2 (h.place + length r.1) n p r.7
+      let len = ap length r.4 ∙ length-append r.1 r.2 in
+      let state = ap (λ xs. after h.place (start h.number h.second) (xs ++ more)) r.4 ∙ ap (after h.place (start h.number h.second)) (append_assoc r.1 r.2 more)
+      ∙ ap (λ q. after h.place q (r.1 ++ (r.2 ++ more))) (first_start h.number h.second f.0 f.1)
+      ∙ header_taken h.number none_built r.1 (r.2 ++ more) h.place f.2 in
+      subst (IsEnd (h.place + length text)) (sym state) (subst (λ m. IsEnd m (after (h.place + length r.1) (Behind h.number none_built) (r.2 ++ more))) (let q : h.place + length r.1 + length r.2 ≡ h.place + length text = omega (arith, len) in q) (block_ends h.number true false r.3 r.2 more (h.place + length r.1) n p r.7))
 
 -- nothing that is refused as wrong begins a text
 pub wrong_begins_none : (h : Held) (bytes : List ℕ) (place : ℕ) → h.number < 2 ^ 32 → after h.place (start h.number h.second) bytes ≡ malformed place → Begins h bytes → ⊥
 wrong_begins_none h bytes place n e b =
-    no_truth (sym (text_right h (bytes ++ b.0) n b.1) ∙ ap is_bad (ap (after h.place (start h.number h.second)) (append_assoc bytes b.0 (32 ∷ [])) ∙ after-append h.place (start h.number h.second) bytes (b.0 ++ 32 ∷ []) ∙ ap (λ q. after (h.place + length bytes) q (b.0 ++ 32 ∷ [])) e ∙ stopped_after (h.place + length bytes) (malformed place) (b.0 ++ 32 ∷ []) refl))
+    subst (IsEnd (h.place + length (bytes ++ b.0))) (ap (after h.place (start h.number h.second)) (append_assoc bytes b.0 []) ∙ after-append h.place (start h.number h.second) bytes (b.0 ++ []) ∙ ap (λ q. after (h.place + length bytes) q (b.0 ++ [])) e ∙ stopped_after (h.place + length bytes) (malformed place) (b.0 ++ []) refl) (text_ends h (bytes ++ b.0) [] n b.1)

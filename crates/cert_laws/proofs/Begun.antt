@@ -126,9 +126,9 @@ going_begins h bytes s b p l e = by (told bytes h.place (Start h) none_built (l,
   open_from front ts next s1 b1 at f r w (l_over blanks cs rest t n c i j k o q) = absurd (apart (sym e ∙ q)) where
     apart : going s b p ≡ over (at + length blanks) → ⊥
     apart g = cc
-  open_from front ts next s1 b1 at f r w (l_whole end s2 b2 q) = absurd (apart (sym e ∙ q)) where
-    apart : going s b p ≡ whole end s2 b2 → ⊥
-    apart g = cc
+  open_from front ts next s1 b1 at f r w (l_whole blanks cs rest t s2 a end n c i j k g z q) = absurd (apart (sym e ∙ q)) where
+    apart : going s b p ≡ whole end s2 (applied a b1) → ⊥
+    apart f2 = cc
 
   by : Told bytes h.place (Start h) none_built (after h.place (start h.number h.second) bytes) → Begins h bytes
   by r = open_from r.0 r.1 r.2 r.3 r.4 r.5 r.6 r.8 r.10 r.9

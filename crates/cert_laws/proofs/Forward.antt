@@ -79,7 +79,7 @@ placed at bs blanks cs rest e =
     omega (arith, a, b, c)
 
 -- blanks and a token in front of what is read then
-one_read : (blanks cs rest next bs : List ℕ) (at : ℕ) (scan : Scan) (built : Built) (s1 s : Scan) (b1 b : Built) → bs ≡ blanks ++ (cs ++ rest) → AreAll is_blank blanks → (after (at + length blanks) (going scan built idle) (cs ++ (rest ++ next)) ≡ after (at + length blanks + length cs) (going s1 b1 idle) (rest ++ next)) → (after (at + length blanks + length cs) (going s1 b1 idle) (rest ++ next) ≡ after (at + length blanks + length cs + length rest) (going s b idle) next) → after at (going scan built idle) (bs ++ next) ≡ after (at + length bs) (going s b idle) next
+pub one_read : (blanks cs rest next bs : List ℕ) (at : ℕ) (scan : Scan) (built : Built) (s1 s : Scan) (b1 b : Built) → bs ≡ blanks ++ (cs ++ rest) → AreAll is_blank blanks → (after (at + length blanks) (going scan built idle) (cs ++ (rest ++ next)) ≡ after (at + length blanks + length cs) (going s1 b1 idle) (rest ++ next)) → (after (at + length blanks + length cs) (going s1 b1 idle) (rest ++ next) ≡ after (at + length blanks + length cs + length rest) (going s b idle) next) → after at (going scan built idle) (bs ++ next) ≡ after (at + length bs) (going s b idle) next
 one_read blanks cs rest next bs at scan built s1 s b1 b e h f g =
     ap (λ xs. after at (going scan built idle) (xs ++ next)) e
     ∙ ap (after at (going scan built idle)) (regrouped blanks cs rest next)

@@ -162,7 +162,7 @@ pub linear_reads : (number : ℕ) (end : Bool) (depth trees : ℕ) → Reads (sc
 unfolding step begins
 linear_reads number end depth trees at built = refl
 
-cert_reads : (number : ℕ) (second header : Bool) (depth trees : ℕ) → Reads (scan_at number second (wants.Block header) depth trees) words.Cert
+pub cert_reads : (number : ℕ) (second header : Bool) (depth trees : ℕ) → Reads (scan_at number second (wants.Block header) depth trees) words.Cert
 unfolding step begins
 cert_reads number second header depth trees at built = refl
 

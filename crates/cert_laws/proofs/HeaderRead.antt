@@ -21,7 +21,7 @@ use Rattle.cert_laws.specs.Spelled.{AreAll, Spells, IsHeader}
 use Rattle.cert_laws.proofs.Lexing.{blanks_read, sign_step, ended, word_ends, number_ends, first_digit, digit_step}
 use Rattle.cert_laws.proofs.BlockRead.{spelled-from, only_last}
 
-version_reads : (at : ℕ) (number : ℕ) (built : Built) → after at (going (scan_at number false (wants.Block true) 0 0) built idle) (codes "version") ≡ going (scan_at number false (wants.Block true) 0 0) built (letters at (codes "version"))
+pub version_reads : (at : ℕ) (number : ℕ) (built : Built) → after at (going (scan_at number false (wants.Block true) 0 0) built idle) (codes "version") ≡ going (scan_at number false (wants.Block true) 0 0) built (letters at (codes "version"))
 unfolding step begins
 version_reads at number built = refl
 

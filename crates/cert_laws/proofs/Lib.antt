@@ -26,3 +26,4 @@ pub mod TokenReads
 pub mod Forward
 pub mod NeverWrong
 pub mod LastToken
+pub mod Resume

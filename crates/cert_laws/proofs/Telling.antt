@@ -59,8 +59,9 @@ over_told : (cs rest : List ℕ) (t : Token) (start at : ℕ) (scan : Scan) (bui
 over_told cs rest t start at scan built w sp f e g bs =
     last_told (cs ++ rest) start scan built (after at (over start) bs) w (l_over [] cs rest t refl tt sp f e g (stays_over at start bs ∙ ap over (here start)))
 
-whole_told : (next : List ℕ) (start at end : ℕ) (scan : Scan) (built : Built) (s : Scan) (b : Built) (bs : List ℕ) → is_whole scan.want ≡ false → Told next start scan built (after at (whole end s b) bs)
-whole_told next start at end scan built s b bs w = last_told next start scan built (after at (whole end s b) bs) w (l_whole end s b (stays_whole at end s b bs))
+whole_told : (cs rest : List ℕ) (t : Token) (start at end : ℕ) (scan : Scan) (built : Built) (s1 : Scan) (a : Action) (bs : List ℕ) → is_whole scan.want ≡ false → IsSpelling cs t → EndsAt t rest → IsExact t scan.want cs → give scan t ≡ givens.On s1 a → is_whole s1.want ≡ true → Told (cs ++ rest) start scan built (after at (whole end s1 (applied a built)) bs)
+whole_told cs rest t start at end scan built s1 a bs w sp f x g z =
+    last_told (cs ++ rest) start scan built (after at (whole end s1 (applied a built)) bs) w (l_whole [] cs rest t s1 a end refl tt sp f x g z (stays_whole at end s1 (applied a built) bs))
 
 -- a letter or a digit more
 more_told : (grows : Bool) (p : Pending) (cs bs : List ℕ) (start at : ℕ) (scan : Scan) (built : Built) → IsFine scan → Tells bs → at ≡ start + length cs → after start (going scan built idle) cs ≡ cond grows (going scan built p) (malformed start) → (grows ≡ true → IsOpen scan p cs start) → IsOfToken cs → Told (cs ++ bs) start scan built (after at (cond grows (going scan built p) (malformed start)) bs)
@@ -70,7 +71,7 @@ more_told false p cs bs start at scan built n more l e i o = wrong_told cs bs st
 -- a sign
 
 sign_on : (ends : Bool) (x : ℕ) (bs : List ℕ) (at : ℕ) (scan : Scan) (built : Built) (s1 : Scan) (a : Action) → is_whole scan.want ≡ false → is_whole s1.want ≡ ends → s1.number < 2 ^ 32 → give scan (tokens.Sign x) ≡ givens.On s1 a → IsSign x → Tells bs → Told (x ∷ bs) at scan built (after (at + 1) (staged (cond ends (stages.Whole (at + 1)) stages.Going) s1 (applied a built) idle) bs)
-sign_on true x bs at scan built s1 a w z n e sign more = whole_told (x ∷ bs) at (at + 1) (at + 1) scan built s1 (applied a built) bs w
+sign_on true x bs at scan built s1 a w z n e sign more = whole_told (x ∷ []) bs (tokens.Sign x) at (at + 1) (at + 1) scan built s1 a bs w (refl, sign) (ends_sign x bs) tt e z
 sign_on false x bs at scan built s1 a w z n e sign more =
     token_told (x ∷ []) (tokens.Sign x) bs at (at + 1) scan built s1 a (after (at + 1) (going s1 (applied a built) idle) bs) refl (refl, sign) (ends_sign x bs) tt e
     (more (at + 1) s1 (applied a built) idle [] (at + 1) (n, z) (here (at + 1), refl, refl))
@@ -107,7 +108,7 @@ idle_told x bs at scan built n more = idle_by (is_blank x) (is_letter x) (is_dig
 -- a word or a number that ends before x; as the machine has it, it gives g
 
 pending_on : (ends : Bool) (t : Token) (cs : List ℕ) (x : ℕ) (bs : List ℕ) (start at : ℕ) (scan : Scan) (built : Built) (s1 : Scan) (a : Action) → is_whole scan.want ≡ false → is_whole s1.want ≡ ends → s1.number < 2 ^ 32 → at ≡ start + length cs → IsSpelling cs t → EndsAt t (x ∷ bs) → IsExact t scan.want cs → give scan t ≡ givens.On s1 a → Tells bs → Told (cs ++ x ∷ bs) start scan built (after (at + 1) (and_begun at x (staged (cond ends (stages.Whole at) stages.Going) s1 (applied a built) idle)) bs)
-pending_on true t cs x bs start at scan built s1 a w z n l sp f i e more = whole_told (cs ++ x ∷ bs) start (at + 1) at scan built s1 (applied a built) bs w
+pending_on true t cs x bs start at scan built s1 a w z n l sp f i e more = whole_told cs (x ∷ bs) t start (at + 1) at scan built s1 a bs w sp f i e z
 pending_on false t cs x bs start at scan built s1 a w z n l sp f i e more =
     token_told cs t (x ∷ bs) start at scan built s1 a (after (at + 1) (begun at x s1 (applied a built)) bs) l sp f i e (idle_told x bs at s1 (applied a built) (n, z) more)
 

@@ -34,7 +34,7 @@ no_truth h = cc
 
 -- taken
 
-sign_on : (c : ℕ) (more : List ℕ) (at : ℕ) (scan : Scan) (built : Built) (s1 : Scan) (a : Action) → give scan (tokens.Sign c) ≡ givens.On s1 a → is_whole s1.want ≡ false → IsSpelling (c ∷ []) (tokens.Sign c) → after at (going scan built idle) (c ∷ more) ≡ after (at + 1) (going s1 (applied a built) idle) more
+pub sign_on : (c : ℕ) (more : List ℕ) (at : ℕ) (scan : Scan) (built : Built) (s1 : Scan) (a : Action) → give scan (tokens.Sign c) ≡ givens.On s1 a → is_whole s1.want ≡ false → IsSpelling (c ∷ []) (tokens.Sign c) → after at (going scan built idle) (c ∷ more) ≡ after (at + 1) (going s1 (applied a built) idle) more
 sign_on c more at scan built s1 a e w sp =
     ap (λ q. after (at + 1) q more) (sign_step at c scan built sp.1 ∙ ap (λ g. token_taken at (at + 1) g built) e ∙ ap (λ v. staged (cond v (stages.Whole (at + 1)) stages.Going) s1 (applied a built) idle) w)
 

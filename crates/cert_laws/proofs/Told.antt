@@ -49,7 +49,7 @@ pub data Last (scan : Scan) (built : Built) (next : List ℕ) (at : ℕ) (q : St
   l_open : (blanks cs : List ℕ) (p : Pending) → next ≡ blanks ++ cs → AreAll is_blank blanks → IsOpen scan p cs (at + length blanks) → q ≡ going scan built p → Last scan built next at q
   l_wrong : (blanks cs rest : List ℕ) → next ≡ blanks ++ (cs ++ rest) → AreAll is_blank blanks → IsOfToken cs → IsRefused scan built (at + length blanks) cs rest → q ≡ malformed (at + length blanks) → Last scan built next at q
   l_over : (blanks cs rest : List ℕ) (t : Token) → next ≡ blanks ++ (cs ++ rest) → AreAll is_blank blanks → IsSpelling cs t → EndsAt t rest → HasEnded t rest → give scan (as_read t) ≡ givens.Over → q ≡ over (at + length blanks) → Last scan built next at q
-  l_whole : (end : ℕ) (s : Scan) (b : Built) → q ≡ whole end s b → Last scan built next at q
+  l_whole : (blanks cs rest : List ℕ) (t : Token) (s1 : Scan) (a : Action) (end : ℕ) → next ≡ blanks ++ (cs ++ rest) → AreAll is_blank blanks → IsSpelling cs t → EndsAt t rest → IsExact t scan.want cs → give scan t ≡ givens.On s1 a → is_whole s1.want ≡ true → q ≡ whole end s1 (applied a built) → Last scan built next at q
 
 abbrev pub Told : List ℕ → ℕ → Scan → Built → State → Type 0
 Told bs at scan built q =
@@ -71,7 +71,7 @@ blank_last x next p at scan built q h e (l_wrong blanks cs rest f g i j k) =
 blank_last x next p at scan built q h e (l_over blanks cs rest t f g i j k l n) =
     let m : p + length blanks ≡ at + length (x ∷ blanks) = omega (arith, e) in
     l_over (x ∷ blanks) cs rest t (ap (λ xs. x ∷ xs) f) (h, g) i j k l (n ∙ ap over m)
-blank_last x next p at scan built q h e (l_whole end s b f) = l_whole end s b f
+blank_last x next p at scan built q h e (l_whole blanks cs rest t s1 a end f g i j k l m n) = l_whole (x ∷ blanks) cs rest t s1 a end (ap (λ xs. x ∷ xs) f) (h, g) i j k l m n
 
 pub blank_told : (x : ℕ) (bs : List ℕ) (at : ℕ) (scan : Scan) (built : Built) (q : State) → is_blank x ≡ true → Told bs (at + 1) scan built q → Told (x ∷ bs) at scan built q
 blank_told x bs at scan built q h r = go r.0 r.1 r.2 r.3 r.4 r.5 r.6 r.7 r.8 r.9 r.10 where

@@ -47,13 +47,17 @@ runs_on (x ∷ z ∷ xs) ys = runs_on (z ∷ xs) ys
 abbrev pub IsOfToken : List ℕ → Type 0
 IsOfToken cs = (c : ℕ) × (more : List ℕ) × (cs ≡ c ∷ more) × (AreAll is_letter (c ∷ more) ⊎ (AreAll is_digit (c ∷ more) ⊎ (IsSign c × (more ≡ []))))
 
+-- such a text begins with these bytes, and their last token has ended there
+abbrev pub BeginsEnded : Held → List ℕ → Type 0
+BeginsEnded h bs = (more : List ℕ) × (runs_on bs more ≡ false) × IsNext h (bs ++ more)
+
 -- the token behind these is the first that passes a limit
 abbrev pub IsFirstMarked : List Token → List Bool → Type 0
 IsFirstMarked ts [] = ⊥
 IsFirstMarked [] (m ∷ ms) = m ≡ true
 IsFirstMarked (t ∷ ts) (m ∷ ms) = (m ≡ false) × IsFirstMarked ts ms
 
--- with these bytes and then the token cs a text of the next block begins in which cs is the first token that passes a limit
+-- these bytes and then the token cs spell the beginning of a next block in which cs is the first token that passes a limit
 abbrev pub PassesLimit : Held → List ℕ → List ℕ → Type 0
 PassesLimit h front cs =
     (header : Bool) × (head : List ℕ) × (bs : List ℕ) × (blanks : List ℕ) × (w : Written) × (ts : List Token) × (t : Token) × (us : List Token)
@@ -64,14 +68,10 @@ PassesLimit h front cs =
 abbrev pub LimitAt : Held → List ℕ → ℕ → Type 0
 LimitAt h bytes place =
     (front : List ℕ) × (cs : List ℕ) × (behind : ℕ) × (rest : List ℕ) × (bytes ≡ front ++ (cs ++ behind ∷ rest))
-    × (runs_on front cs ≡ false) × (runs_on cs (behind ∷ rest) ≡ false) × PassesLimit h front cs × (place ≡ h.place + length front)
+    × (runs_on front cs ≡ false) × (runs_on cs (behind ∷ rest) ≡ false) × BeginsEnded h (front ++ cs) × PassesLimit h front cs × (place ≡ h.place + length front)
 
 abbrev pub HasNoLimit : Held → List ℕ → Type 0
 HasNoLimit h bytes = (place : ℕ) → LimitAt h bytes place → ⊥
-
--- such a text begins with these bytes, and their last token has ended there
-abbrev pub BeginsEnded : Held → List ℕ → Type 0
-BeginsEnded h bs = (more : List ℕ) × (runs_on bs more ≡ false) × IsNext h (bs ++ more)
 
 -- a token's bytes with which no block goes on from those before it: however the token goes on, or, where it has ended, as it is
 abbrev pub NoneGoesOn : Held → List ℕ → List ℕ → List ℕ → Type 0

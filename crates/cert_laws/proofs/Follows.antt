@@ -61,7 +61,7 @@ pub stopped_lt : (n limit : ℕ) → limit < 2 ^ 63 → nat_lt limit (stopped n)
 unfolding stopped
 stopped_lt n limit h = grind (arith, nat_tests)
 
-stopped_le : (n limit : ℕ) → limit < 2 ^ 63 → nat_le limit (stopped n) ≡ nat_le limit n
+pub stopped_le : (n limit : ℕ) → limit < 2 ^ 63 → nat_le limit (stopped n) ≡ nat_le limit n
 unfolding stopped
 stopped_le n limit h = grind (arith, nat_tests)
 

@@ -27,3 +27,5 @@ pub mod Forward
 pub mod NeverWrong
 pub mod LastToken
 pub mod Resume
+pub mod Marks
+pub mod Fronts

@@ -34,7 +34,7 @@ no_truth h = cc
 no_given : (s : Scan) (a : Action) → givens.Wrong ≡ givens.On s a → ⊥
 no_given s a e = cc
 
-abbrev scan_in : Scan → Given → Scan
+abbrev pub scan_in : Scan → Given → Scan
 scan_in s (givens.On t a) = t
 scan_in s givens.Wrong = s
 scan_in s givens.Over = s
@@ -49,7 +49,7 @@ same_two n h = grind (arith, nat_tests)
 same_sign : (c : ℕ) → (c == 59) ≡ true → c ≡ 59
 same_sign c h = grind (arith, nat_tests)
 
-if_given : (P : Type 0) (c : Bool) (x : Given) (s : Scan) (a : Action) → (c ≡ true → x ≡ givens.On s a → P) → cond c x givens.Wrong ≡ givens.On s a → P
+pub if_given : (P : Type 0) (c : Bool) (x : Given) (s : Scan) (a : Action) → (c ≡ true → x ≡ givens.On s a → P) → cond c x givens.Wrong ≡ givens.On s a → P
 if_given P true x s a f e = f refl e
 if_given P false x s a f e = absurd (no_given s a e)
 
@@ -80,7 +80,7 @@ module _ (number : ℕ) where
   abbrev pub TailOf : Scan → List ℕ → Type 0
   TailOf s bs = Tail s.second s.want s.depth bs
 
-  inside_of : (second : Bool) (want : Want) (d : ℕ) (bs : List ℕ) → is_inside want ≡ true → Tail second want d bs → Inside second want d bs
+  pub inside_of : (second : Bool) (want : Want) (d : ℕ) (bs : List ℕ) → is_inside want ≡ true → Tail second want d bs → Inside second want d bs
   inside_of second (wants.Block header) d bs i h = absurd (no_truth i)
   inside_of second wants.HeaderNumber d bs i h = absurd (no_truth i)
   inside_of second wants.HeaderEnd d bs i h = absurd (no_truth i)

@@ -1,6 +1,6 @@
 -- Where taken tokens lead from the start: nowhere yet, into a header, right behind it, or into a block, with a header before it or
 -- without.
-use Rattle.std.proofs.Common.{◌≡◌, ℕ, ◌+◌, ◌<◌, Bool, true, false, cond, ◌||◌, ◌&&◌, ◌⊎◌, inl, inr, List, [], ◌∷◌, ◌++◌, refl, sym, ap, ◌∙◌, subst, codes, nat_lt, ◌==◌, append_assoc}
+use Rattle.std.proofs.Common.{◌≡◌, ℕ, Bool, true, false, cond, ◌||◌, ◌⊎◌, inl, inr, List, [], ◌∷◌, ◌++◌, refl, sym, ap, ◌∙◌, subst, arith, codes, nat_lt, ◌==◌}
 use Rattle.std.proofs.lemmas.Bool.Decides.{nat_tests}
 use Rattle.cert_text.specs.declared.scan.Word.{Word}
 use Rattle.cert_text.specs.declared.scan.Word.TheVariants as words
@@ -77,3 +77,47 @@ module _ (h : Held) (next : List ℕ) (s : Scan) (b : Built) where
     by (tokens.Word words.Cut ∷ us) q = absurd (no_given q.3 q.4 q.10)
     by (tokens.Number n ∷ us) q = absurd (no_given q.3 q.4 q.10)
     by (tokens.Sign c ∷ us) q = absurd (no_given q.3 q.4 q.10)
+
+  -- what is read behind a token whose scan and action are known
+  pub moved : (ts : List Token) (rest : List ℕ) (s1 s2 : Scan) (a1 a2 : Action) → givens.On s1 a1 ≡ givens.On s2 a2 → Reads rest ts next s2 (applied a2 none_built) s b → Reads rest ts next s1 (applied a1 none_built) s b
+  moved ts rest s1 s2 a1 a2 e r = subst (λ q. Reads rest ts next q (applied a1 none_built) s b) (sym (ap (scan_in s1) e)) (subst (λ c. Reads rest ts next s2 (applied c none_built) s b) (sym (ap (action_in a1) e)) r)
+
+  same_two : (n : ℕ) → (n == 59) ≡ true → n ≡ 59
+  same_two n e = grind (arith, nat_tests)
+
+  -- behind `version 2`
+  at_end : (ts all : List Token) (front rest one two : List ℕ) → first_of h ≡ true → front ≡ one ++ (codes "version" ++ (two ++ 50 ∷ rest)) → AreAll is_blank one → AreAll is_blank two → Reads rest ts next (scan_at h.number h.second wants.HeaderEnd 0 0) none_built s b → Fronts h front next all s b
+  at_end [] all front rest one two f e c d r = f_header (inr (ap (λ q. q.want) (sym r.1)))
+  at_end (tokens.Word w ∷ ts) all front rest one two f e c d r = absurd (no_given r.3 r.4 r.10)
+  at_end (tokens.Number n ∷ ts) all front rest one two f e c d r = absurd (no_given r.3 r.4 r.10)
+  at_end (tokens.Sign x ∷ ts) all front rest one two f e c d r =
+      if_given (Fronts h front next all s b) (x == 59) _ r.3 r.4 (λ g q.
+      behind ts all front r.2 f (one, two, r.0, e ∙ ap (λ xs. one ++ (codes "version" ++ (two ++ 50 ∷ xs))) (r.5 ∙ ap (λ xs. r.0 ++ (xs ++ r.2)) (r.7.0 ∙ ap (λ y. y ∷ []) (same_two x g))), c, d, r.6)
+      (moved ts r.2 _ r.3 actions.Nothing r.4 q r.11)) r.10
+
+  -- behind `version`
+  at_number : (ts all : List Token) (front rest one : List ℕ) → first_of h ≡ true → front ≡ one ++ (codes "version" ++ rest) → AreAll is_blank one → Reads rest ts next (scan_at h.number h.second wants.HeaderNumber 0 0) none_built s b → Fronts h front next all s b
+  at_number [] all front rest one f e c r = f_header (inl (ap (λ q. q.want) (sym r.1)))
+  at_number (tokens.Word w ∷ ts) all front rest one f e c r = absurd (no_given r.3 r.4 r.10)
+  at_number (tokens.Sign x ∷ ts) all front rest one f e c r = absurd (no_given r.3 r.4 r.10)
+  at_number (tokens.Number n ∷ ts) all front rest one f e c r =
+      if_given (Fronts h front next all s b) (n == 2) _ r.3 r.4 (λ g q.
+      at_end ts all front r.2 one r.0 f (e ∙ ap (λ xs. one ++ (codes "version" ++ xs)) (r.5 ∙ ap (λ xs. r.0 ++ (xs ++ r.2)) r.9)) c r.6
+      (moved ts r.2 _ r.3 actions.Nothing r.4 q r.11)) r.10
+
+  pub fronts : (ts : List Token) (front : List ℕ) → Reads front ts next (Start h) none_built s b → Fronts h front next ts s b
+  fronts [] front r = f_none r.0 refl (sym r.1)
+  fronts (tokens.Word words.Cert ∷ ts) front r = f_block false [] front ts (first_of h) refl refl r
+  fronts (tokens.Word words.Version ∷ ts) front r =
+      if_given (Fronts h front next (tokens.Word words.Version ∷ ts) s b) (first_of h) _ r.3 r.4 (λ g q.
+      at_number ts (tokens.Word words.Version ∷ ts) front r.2 r.0 g (r.5 ∙ ap (λ xs. r.0 ++ (xs ++ r.2)) r.7) r.6
+      (moved ts r.2 _ r.3 actions.Nothing r.4 q r.11)) r.10
+  fronts (tokens.Word words.Absurd ∷ ts) front r = absurd (no_given r.3 r.4 r.10)
+  fronts (tokens.Word words.Farkas ∷ ts) front r = absurd (no_given r.3 r.4 r.10)
+  fronts (tokens.Word words.Linear ∷ ts) front r = absurd (no_given r.3 r.4 r.10)
+  fronts (tokens.Word words.Case ∷ ts) front r = absurd (no_given r.3 r.4 r.10)
+  fronts (tokens.Word words.Truth ∷ ts) front r = absurd (no_given r.3 r.4 r.10)
+  fronts (tokens.Word words.Split ∷ ts) front r = absurd (no_given r.3 r.4 r.10)
+  fronts (tokens.Word words.Cut ∷ ts) front r = absurd (no_given r.3 r.4 r.10)
+  fronts (tokens.Number n ∷ ts) front r = absurd (no_given r.3 r.4 r.10)
+  fronts (tokens.Sign c ∷ ts) front r = absurd (no_given r.3 r.4 r.10)

@@ -29,3 +29,5 @@ pub mod LastToken
 pub mod Resume
 pub mod Marks
 pub mod Fronts
+pub mod Ending
+pub mod LimitTold

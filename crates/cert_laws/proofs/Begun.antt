@@ -60,7 +60,7 @@ joins_blanks next blanks more b (tokens.Number n) (x ∷ xs) e = e
 joins_blanks next blanks more b (tokens.Sign c) (x ∷ xs) e = tt
 
 -- the first byte stays
-same_first : (t : Token) (xs ys zs : List ℕ) (x : ℕ) → ys ≡ x ∷ xs → EndsAt t ys → EndsAt t (ys ++ zs)
+pub same_first : (t : Token) (xs ys zs : List ℕ) (x : ℕ) → ys ≡ x ∷ xs → EndsAt t ys → EndsAt t (ys ++ zs)
 same_first (tokens.Word w) xs ys zs x e h = subst (λ l. EndsAt (tokens.Word w) (l ++ zs)) (sym e) (subst (EndsAt (tokens.Word w)) e h)
 same_first (tokens.Number n) xs ys zs x e h = subst (λ l. EndsAt (tokens.Number n) (l ++ zs)) (sym e) (subst (EndsAt (tokens.Number n)) e h)
 same_first (tokens.Sign c) xs ys zs x e h = subst (λ l. EndsAt (tokens.Sign c) (l ++ zs)) (sym e) tt

@@ -31,3 +31,5 @@ pub mod Marks
 pub mod Fronts
 pub mod Ending
 pub mod LimitTold
+pub mod LimitRead
+pub mod Standing

@@ -52,7 +52,7 @@ blank_ends (tokens.Word w) x more h = blank_no_letter x h
 blank_ends (tokens.Number n) x more h = blank_no_digit x h
 blank_ends (tokens.Sign c) x more h = tt
 
-joins_blanks : (next blanks more : List ℕ) → AreAll is_blank blanks → (t : Token) (xs : List ℕ) → EndsAt t (xs ++ next) → EndsAt t (xs ++ (blanks ++ 32 ∷ more))
+pub joins_blanks : (next blanks more : List ℕ) → AreAll is_blank blanks → (t : Token) (xs : List ℕ) → EndsAt t (xs ++ next) → EndsAt t (xs ++ (blanks ++ 32 ∷ more))
 joins_blanks next [] more b t [] e = blank_ends t 32 more refl
 joins_blanks next (x ∷ blanks) more b t [] e = blank_ends t x (blanks ++ 32 ∷ more) b.0
 joins_blanks next blanks more b (tokens.Word w) (x ∷ xs) e = e

@@ -33,3 +33,5 @@ pub mod Ending
 pub mod LimitTold
 pub mod LimitRead
 pub mod Standing
+pub mod WrongTold
+pub mod Answers

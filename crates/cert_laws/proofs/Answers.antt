@@ -120,10 +120,10 @@ module _ (h : Held) (n : h.number < 2 ^ 32) where
   abbrev end : ℕ
   end = h.place + length h.bytes
 
-  open_text : h.finished ≡ false → standing h ≡ h.bytes
+  pub open_text : h.finished ≡ false → standing h ≡ h.bytes
   open_text f = ap (λ c. cond c (h.bytes ++ 32 ∷ []) h.bytes) f
 
-  closed_text : h.finished ≡ true → standing h ≡ h.bytes ++ 32 ∷ []
+  pub closed_text : h.finished ≡ true → standing h ≡ h.bytes ++ 32 ∷ []
   closed_text f = ap (λ c. cond c (h.bytes ++ 32 ∷ []) h.bytes) f
 
   -- more is needed

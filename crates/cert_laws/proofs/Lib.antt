@@ -35,3 +35,5 @@ pub mod LimitRead
 pub mod Standing
 pub mod WrongTold
 pub mod Answers
+pub mod Cuts
+pub mod Answered

@@ -107,3 +107,31 @@ standing_answer h = by h.finished refl where
   by : (c : Bool) → h.finished ≡ c → answer_of h ≡ settled h (after h.place (start h.number h.second) (cond c (h.bytes ++ 32 ∷ []) h.bytes))
   by false f = open_answer h (outcome h) f
   by true f = closed_answer h (outcome h) (h.place + length h.bytes) f ∙ ap (settled h) (sym (after-append h.place (start h.number h.second) h.bytes (32 ∷ [])))
+
+-- a blank ends no block
+
+token_whole : (g : Given) (start at stop : ℕ) (built : Built) (s2 : Scan) (b2 : Built) → OnlyOn GoesOn g → and_begun at 32 (token_taken start at g built) ≡ whole stop s2 b2 → ⊥
+token_whole (givens.On s a) start at stop built s2 b2 o e = apart (sym (ap (λ w. and_begun at 32 (staged (cond w (stages.Whole at) stages.Going) s (applied a built) idle)) o.0) ∙ e) where
+  apart : going s (applied a built) idle ≡ whole stop s2 b2 → ⊥
+  apart q = cc
+token_whole givens.Wrong start at stop built s2 b2 o e = apart e where
+  apart : malformed start ≡ whole stop s2 b2 → ⊥
+  apart q = cc
+token_whole givens.Over start at stop built s2 b2 o e = apart e where
+  apart : over start ≡ whole stop s2 b2 → ⊥
+  apart q = cc
+
+word_whole : (s : Scan) (w : Option Word) (start at stop : ℕ) (built : Built) (s2 : Scan) (b2 : Built) → and_begun at 32 (word_ended start at s built w) ≡ whole stop s2 b2 → ⊥
+word_whole s (Some w) start at stop built s2 b2 e = token_whole (give s (tokens.Word w)) start at stop built s2 b2 (word_goes s.want s w) e
+word_whole s None start at stop built s2 b2 e = apart e where
+  apart : malformed start ≡ whole stop s2 b2 → ⊥
+  apart q = cc
+
+pub blank_whole : (q : State) (at stop : ℕ) (s2 : Scan) (b2 : Built) → step at q 32 ≡ whole stop s2 b2 → q ≡ whole stop s2 b2
+unfolding step
+blank_whole (going s b idle) at stop s2 b2 e = e
+blank_whole (going s b (letters st ls)) at stop s2 b2 e = absurd (word_whole s (word_of ls) st at stop b s2 b2 e)
+blank_whole (going s b (digits st n)) at stop s2 b2 e = absurd (token_whole (give s (tokens.Number n)) st at stop b s2 b2 (number_goes s.want s n) e)
+blank_whole (malformed place) at stop s2 b2 e = e
+blank_whole (over place) at stop s2 b2 e = e
+blank_whole (whole stop1 s b) at stop s2 b2 e = e

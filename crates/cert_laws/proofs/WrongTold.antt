@@ -79,7 +79,7 @@ module _ (h : Held) (n : h.number < 2 ^ 32) where
     apart : going s b idle ≡ over place → ⊥
     apart e = cc
 
-  abbrev Wrong : List ℕ → ℕ → Type 0
+  abbrev pub Wrong : List ℕ → ℕ → Type 0
   Wrong bytes place =
       (front : List ℕ) × (cs : List ℕ) × (rest : List ℕ) × (bytes ≡ front ++ (cs ++ rest)) × IsOfToken cs × (runs_on front cs ≡ false)
       × Begins h (front ++ 32 ∷ []) × HasNoLimit h (front ++ 32 ∷ []) × NoneGoesOn h front cs rest × (place ≡ h.place + length front)
@@ -117,7 +117,7 @@ module _ (h : Held) (n : h.number < 2 ^ 32) where
 
   -- a block that is read whole
 
-  abbrev Begun : List ℕ → Type 0
+  abbrev pub Begun : List ℕ → Type 0
   Begun bytes = (bs : List ℕ) × (rest : List ℕ) × (bytes ≡ bs ++ rest) × IsNext h bs × (runs_on bs rest ≡ false)
 
   whole_next : (front : List ℕ) (ts : List Token) (blanks cs rest : List ℕ) (t : Token) (s s1 : Scan) (a : Action) (b : Built) → Taken front ts (blanks ++ (cs ++ rest)) s b → AreAll is_blank blanks → IsSpelling cs t → IsExact t s.want cs → give s t ≡ givens.On s1 a → is_whole s1.want ≡ true → IsNext h (front ++ (blanks ++ cs))

@@ -19,7 +19,7 @@ use Rattle.cert_text.specs.Run.{scan_at}
 use Rattle.cert_text.specs.Answer.{Answer, block, need, no_more, malformed_at, limit_at, at_end, judged, word_judged, blank_end}
 use Rattle.cert_text.specs.Held.{Held, answer_of, answer_at, outcome}
 use Rattle.cert_laws.specs.Spelled.{AreAll}
-use Rattle.cert_laws.specs.Refused.{IsFront, IsNext, IsBlankOnly, standing, LimitAt, WrongAt, BreaksOffAt, NeedsMore}
+use Rattle.cert_laws.specs.Refused.{IsFront, IsNext, IsBlankOnly, IsEnded, standing, LimitAt, WrongAt, BreaksOffAt, NeedsMore}
 use Rattle.cert_laws.proofs.Givens.{is_inside}
 use Rattle.cert_laws.proofs.Lexing.{blanks_read}
 use Rattle.cert_laws.proofs.HeaderRead.{header_taken, first_start}
@@ -220,16 +220,13 @@ module _ (h : Held) (n : h.number < 2 ^ 32) where
   ends_blank s b (letters place ls) e a = absurd (word_more s (word_of ls) place end a)
   ends_blank s b (digits place m) e a = absurd (judged_more (give s (tokens.Number m)) place end a)
 
-  abbrev Ended : Type 0
-  Ended = (h.finished ≡ true) × IsBlankOnly h
-
-  end_by : (q : State) → from_start h.bytes ≡ q → answer_at q h ≡ no_more → Ended
-  end_by (going s b p) e a = if_finished Ended h.finished _ _ no_more (λ f g. (f, ends_blank s b p e g)) (λ f g. absurd (need_end g)) a
+  end_by : (q : State) → from_start h.bytes ≡ q → answer_at q h ≡ no_more → IsEnded h
+  end_by (going s b p) e a = if_finished (IsEnded h) h.finished _ _ no_more (λ f g. (f, ends_blank s b p e g)) (λ f g. absurd (need_end g)) a
   end_by (malformed place) e a = absurd (end_wrong place (sym a))
   end_by (over place) e a = absurd (end_limit place (sym a))
   end_by (whole stop s b) e a = absurd (block_end h.number (last_tree b.trees) a)
 
-  pub end_is_true : answer_of h ≡ no_more → Ended
+  pub end_is_true : answer_of h ≡ no_more → IsEnded h
   end_is_true a = end_by (outcome h) refl a
 
   -- only blanks are read as such

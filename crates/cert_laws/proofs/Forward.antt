@@ -21,7 +21,7 @@ use Rattle.cert_text.specs.Grammar.{Written, IsProper, block_tokens, tree_tokens
 use Rattle.cert_text.proofs.LeafReads.{built_at}
 use Rattle.cert_laws.specs.Spelled.{letters_of, AreAll, IsSpelling, EndsAt, Spells}
 use Rattle.cert_laws.specs.Limits.{block_marks}
-use Rattle.cert_laws.specs.Refused.{IsFirstMarked}
+use Rattle.cert_laws.specs.Refused.{IsFirstMarked, HasNoMark}
 use Rattle.cert_laws.proofs.Givens.{is_inside, OnlyOn, cert_taken}
 use Rattle.cert_laws.proofs.Lexing.{blanks_read}
 use Rattle.cert_laws.proofs.BlockRead.{regrouped, whole_is, block_tokens_read}
@@ -126,20 +126,16 @@ reads_block number second header ts bs next at built s b some n w r h =
 
 -- the first token that passes a limit
 
-abbrev pub NoneMarked : List Bool → Type 0
-NoneMarked [] = Unit {0}
-NoneMarked (m ∷ ms) = (m ≡ false) × NoneMarked ms
-
 abbrev pub Marked : List Token → List Bool → Type 0
 Marked ts ms = (before : List Token) × (t : Token) × (us : List Token) × (ts ≡ before ++ t ∷ us) × IsFirstMarked before ms
 
-pub find : (ts : List Token) (ms : List Bool) (s : Scan) → Follows ts ms s → Marked ts ms ⊎ NoneMarked ms
+pub find : (ts : List Token) (ms : List Bool) (s : Scan) → Follows ts ms s → Marked ts ms ⊎ HasNoMark ms
 find [] [] s f = inr tt
 find [] (m ∷ ms) s f = absurd f
 find (t ∷ ts) [] s f = absurd f
 find (t ∷ ts) (true ∷ ms) s f = inl ([], t, ts, refl, refl)
 find (t ∷ ts) (false ∷ ms) s f = by (find ts ms f.0 (f.4 refl).1) where
-  by : Marked ts ms ⊎ NoneMarked ms → Marked (t ∷ ts) (false ∷ ms) ⊎ NoneMarked (false ∷ ms)
+  by : Marked ts ms ⊎ HasNoMark ms → Marked (t ∷ ts) (false ∷ ms) ⊎ HasNoMark (false ∷ ms)
   by (inl m) = inl (t ∷ m.0, m.1, m.2, ap (λ k. t ∷ k) m.3, (refl, m.4))
   by (inr n) = inr (refl, n)
 
@@ -158,7 +154,7 @@ run_marked (v ∷ before) t us (c ∷ ms) scan built f m =
     let r = run_marked before t us ms f.0 (applied f.1 built) k.1 m.1 in
     (r.0, r.1, ap (λ g. go g built (run before)) (taken_unmarked v c scan f.0 f.1 m.0 k.0 f.2) ∙ r.2, r.3)
 
-pub run_all : (ts : List Token) (ms : List Bool) (scan : Scan) (built : Built) → Follows ts ms scan → NoneMarked ms → (s : Scan) × (b : Built) × (run ts scan built ≡ on s b) × (is_whole s.want ≡ true)
+pub run_all : (ts : List Token) (ms : List Bool) (scan : Scan) (built : Built) → Follows ts ms scan → HasNoMark ms → (s : Scan) × (b : Built) × (run ts scan built ≡ on s b) × (is_whole s.want ≡ true)
 run_all [] [] scan built f n = (scan, built, refl, f)
 run_all [] (m ∷ ms) scan built f n = absurd f
 run_all (t ∷ ts) [] scan built f n = absurd f

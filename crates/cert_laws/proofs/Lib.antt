@@ -37,3 +37,4 @@ pub mod WrongTold
 pub mod Answers
 pub mod Cuts
 pub mod Answered
+pub mod MarksLimits

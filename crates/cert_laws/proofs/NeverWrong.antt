@@ -20,7 +20,7 @@ use Rattle.cert_text.specs.Held.{Held}
 use Rattle.cert_text.proofs.Stopping.{stopped_after, after-append}
 use Rattle.cert_laws.specs.Spelled.{AreAll, IsSpelling, EndsAt, Spells}
 use Rattle.cert_laws.specs.Limits.{block_marks}
-use Rattle.cert_laws.specs.Refused.{IsFirstMarked, IsFront, IsNext, Begins}
+use Rattle.cert_laws.specs.Refused.{IsFirstMarked, HasNoMark, IsFront, IsNext, Begins}
 use Rattle.cert_laws.proofs.Givens.{is_inside, OnlyOn}
 use Rattle.cert_laws.proofs.Lexing.{blanks_read}
 use Rattle.cert_laws.proofs.BlockRead.{regrouped, whole_is, block_tokens_read, first_byte}
@@ -32,7 +32,7 @@ use Rattle.cert_laws.proofs.ReadBack.{first_of}
 use Rattle.cert_laws.proofs.TreeFollows.{block_follows}
 use Rattle.cert_laws.proofs.Begun.{Start, none_built, joins_more}
 use Rattle.cert_laws.proofs.TokenReads.{token_over}
-use Rattle.cert_laws.proofs.Forward.{SpelledTo, IsSome, some_behind, reads_block, Marked, NoneMarked, find, run_all, run_marked, first_taken}
+use Rattle.cert_laws.proofs.Forward.{SpelledTo, IsSome, some_behind, reads_block, Marked, find, run_all, run_marked, first_taken}
 
 no_truth : false ≡ true → ⊥
 no_truth h = cc
@@ -147,7 +147,7 @@ block_ends number second header w bs more at n p h = by (find (block_tokens numb
       subst (IsEnd (at + length bs)) (sym (ap (after at (going (scan_at number second (wants.Block header) 0 0) none_built idle)) (whole_text ∙ ap (λ xs. r.0 ++ xs) rest_text)
       ∙ block_over number second header w before t us r.0 k.0 k.1 e2.0 e2.1 at n p e m spelled k.4 k.5 e2.3)) tt
 
-  by : Marked (block_tokens number w []) (block_marks w) ⊎ NoneMarked (block_marks w) → IsEnd (at + length bs) (state (bs ++ more))
+  by : Marked (block_tokens number w []) (block_marks w) ⊎ HasNoMark (block_marks w) → IsEnd (at + length bs) (state (bs ++ more))
   by (inl m) = stopped m.0 m.1 m.2 m.3 m.4 (parted m.0 (m.1 ∷ m.2) bs (subst (Spells bs) m.3 h))
   by (inr m) =
       let r = run_all (block_tokens number w []) (block_marks w) (scan_at number second (wants.Block header) 0 0) none_built follows m in

@@ -3,7 +3,7 @@
 use Rattle.std.specs.Prelude.{◌≡◌, ℕ, ◌+◌, ◌<◌, ◌^◌, Bool, true, false, ◌&&◌, ◌||◌, nat_lt, if◌then◌else◌, ◌⊎◌, List, [], ◌∷◌, ◌++◌, length}
 use Rattle.cert_text.specs.declared.scan.Token.{Token}
 use Rattle.cert_text.specs.Letters.{is_blank, is_letter, is_digit}
-use Rattle.cert_text.specs.Grammar.{Written, IsProper, block_tokens}
+use Rattle.cert_text.specs.Grammar.{Written, IsProper, block_tokens, tree_over}
 use Rattle.cert_text.specs.Held.{Held, answer_of}
 use Rattle.cert_text.specs.Answer.{need, no_more, malformed_at, limit_at}
 use Rattle.cert_laws.specs.Spelled.{AreAll, IsSign, IsSpelling, Spells, IsHeader}
@@ -57,6 +57,10 @@ IsFirstMarked ts [] = ⊥
 IsFirstMarked [] (m ∷ ms) = m ≡ true
 IsFirstMarked (t ∷ ts) (m ∷ ms) = (m ≡ false) × IsFirstMarked ts ms
 
+abbrev pub HasNoMark : List Bool → Type 0
+HasNoMark [] = Unit {0}
+HasNoMark (m ∷ ms) = (m ≡ false) × HasNoMark ms
+
 -- these bytes and then the token cs spell the beginning of a next block in which cs is the first token that passes a limit
 abbrev pub PassesLimit : Held → List ℕ → List ℕ → Type 0
 PassesLimit h front cs =
@@ -90,32 +94,31 @@ abbrev pub BreaksOffAt : Held → ℕ → Type 0
 BreaksOffAt h place =
     (h.finished ≡ true) × (IsBlankOnly h → ⊥) × Begins h (h.bytes ++ 32 ∷ []) × HasNoLimit h (h.bytes ++ 32 ∷ []) × (place ≡ h.place + length h.bytes)
 
+-- the text is finished, and only blanks are left
+abbrev pub IsEnded : Held → Type 0
+IsEnded h = (h.finished ≡ true) × IsBlankOnly h
+
 -- the text is open, and what is held begins a block, limits aside; no block is whole, and no ended token passes a limit
 abbrev pub NeedsMore : Held → Type 0
 NeedsMore h = (h.finished ≡ false) × Begins h h.bytes × HoldsNone h × HasNoLimit h h.bytes
 
--- The laws, each way round.
+-- The laws: each answer comes exactly where it is true.
 
-abbrev pub NeedIsTrue : Type 0
-NeedIsTrue = (h : Held) → h.number < 2 ^ 32 → answer_of h ≡ need → NeedsMore h
+abbrev pub Exactly : Type 0 → Type 0 → Type 0
+Exactly A B = (A → B) × (B → A)
 
-abbrev pub EndIsTrue : Type 0
-EndIsTrue = (h : Held) → h.number < 2 ^ 32 → answer_of h ≡ no_more → (h.finished ≡ true) × IsBlankOnly h
+abbrev pub NeedIsExact : Type 0
+NeedIsExact = (h : Held) → h.number < 2 ^ 32 → Exactly (answer_of h ≡ need) (NeedsMore h)
 
-abbrev pub LimitIsTrue : Type 0
-LimitIsTrue = (h : Held) (place : ℕ) → h.number < 2 ^ 32 → answer_of h ≡ limit_at place → LimitAt h (standing h) place
+abbrev pub EndIsExact : Type 0
+EndIsExact = (h : Held) → h.number < 2 ^ 32 → Exactly (answer_of h ≡ no_more) (IsEnded h)
 
-abbrev pub MalformedIsTrue : Type 0
-MalformedIsTrue = (h : Held) (place : ℕ) → h.number < 2 ^ 32 → answer_of h ≡ malformed_at place → WrongAt h place ⊎ BreaksOffAt h place
+abbrev pub LimitIsExact : Type 0
+LimitIsExact = (h : Held) (place : ℕ) → h.number < 2 ^ 32 → Exactly (answer_of h ≡ limit_at place) (LimitAt h (standing h) place)
 
-abbrev pub NeedIsAnswered : Type 0
-NeedIsAnswered = (h : Held) → h.number < 2 ^ 32 → NeedsMore h → answer_of h ≡ need
+abbrev pub MalformedIsExact : Type 0
+MalformedIsExact = (h : Held) (place : ℕ) → h.number < 2 ^ 32 → Exactly (answer_of h ≡ malformed_at place) (WrongAt h place ⊎ BreaksOffAt h place)
 
-abbrev pub EndIsAnswered : Type 0
-EndIsAnswered = (h : Held) → h.number < 2 ^ 32 → h.finished ≡ true → IsBlankOnly h → answer_of h ≡ no_more
-
-abbrev pub LimitIsAnswered : Type 0
-LimitIsAnswered = (h : Held) (place : ℕ) → h.number < 2 ^ 32 → LimitAt h (standing h) place → answer_of h ≡ limit_at place
-
-abbrev pub MalformedIsAnswered : Type 0
-MalformedIsAnswered = (h : Held) (place : ℕ) → h.number < 2 ^ 32 → WrongAt h place ⊎ BreaksOffAt h place → answer_of h ≡ malformed_at place
+-- the marks are the limits: a block is within them exactly where none of its tokens is marked
+abbrev pub MarksAreLimits : Type 0
+MarksAreLimits = (second : Bool) (w : Written) → IsProper second w → Exactly (tree_over 0 0 w ≡ false) (HasNoMark (block_marks w))

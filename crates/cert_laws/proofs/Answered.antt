@@ -8,6 +8,7 @@ use Rattle.cert_text.specs.declared.scan.Scan.{Scan}
 use Rattle.cert_text.specs.Tree.{Built}
 use Rattle.cert_text.specs.Reading.{State, going, malformed, over, whole, after, start}
 use Rattle.cert_text.specs.Answer.{Answer, need, no_more, malformed_at, blank_end}
+use Rattle.cert_text.specs.Grammar.{tree_over}
 use Rattle.cert_text.specs.Held.{Held, answer_of}
 use Rattle.cert_text.proofs.Stopping.{after-append, stopped_after}
 use Rattle.cert_text.proofs.Within.{block_within}
@@ -35,7 +36,7 @@ module _ (h : Held) (n : h.number < 2 ^ 32) where
       let within = block_within h.place stop h.number h.second bs s b one in
       let text = (bs ++ 32 ∷ []) ++ more in
       let state = ap from_start (append-nil text) ∙ after-append h.place (start h.number h.second) (bs ++ 32 ∷ []) more ∙ ap (λ q. after (h.place + length (bs ++ 32 ∷ [])) q more) e ∙ stopped_after (h.place + length (bs ++ 32 ∷ [])) (whole stop s b) more refl in
-      let there : stop ≡ h.place + length text = subst (IsEnd (h.place + length text)) state (text_ends h text [] n t) in
+      let there = (subst (IsEnd (tree_over 0 0 t.3) (h.place + length text)) state (text_ends h text [] n t)).0 in
       let upper = within.1 in
       let len = length-append (bs ++ 32 ∷ []) more in
       let len2 = length-append bs (32 ∷ []) in
@@ -142,14 +143,14 @@ module _ (h : Held) (n : h.number < 2 ^ 32) where
       same : front ++ (cs ++ rest) ≡ d.0 ++ d.1
       same = sym text ∙ d.2
 
-      ends : (q : State) → after h.place (start h.number h.second) (front ++ 32 ∷ []) ≡ q → IsEnd (h.place + length d.0) q → ⊥
+      ends : (q : State) → after h.place (start h.number h.second) (front ++ 32 ∷ []) ≡ q → IsEnd (tree_over 0 0 d.3.3) (h.place + length d.0) q → ⊥
       ends (going s b p) e k = k
       ends (malformed m) e k = k
       ends (over m) e k = free m (limit_told h n (front ++ 32 ∷ []) m e)
       ends (whole stop s b) e k = never_whole front begun.0 stop s b begun.1 e
 
       within : Aligned d.0 d.1 front (cs ++ rest) → ⊥
-      within r = ends (after h.place (start h.number h.second) (front ++ 32 ∷ [])) refl (subst (λ l. IsEnd (h.place + length d.0) (after h.place (start h.number h.second) l)) (sym (ap (λ l. l ++ 32 ∷ []) r.1 ∙ append_assoc d.0 r.0 (32 ∷ []))) (text_ends h d.0 (r.0 ++ 32 ∷ []) n d.3))
+      within r = ends (after h.place (start h.number h.second) (front ++ 32 ∷ [])) refl (subst (λ l. IsEnd (tree_over 0 0 d.3.3) (h.place + length d.0) (after h.place (start h.number h.second) l)) (sym (ap (λ l. l ++ 32 ∷ []) r.1 ∙ append_assoc d.0 r.0 (32 ∷ []))) (text_ends h d.0 (r.0 ++ 32 ∷ []) n d.3))
 
       by : (length front < length d.0) ⊎ (length d.0 ≤ length front) → ⊥
       by (inl l) = not_beyond d.0 d.1 [] same d.4 l (subst (IsNext h) (sym (append-nil d.0)) d.3) (runs_none d.0)

@@ -17,16 +17,16 @@ use Rattle.cert_text.specs.Tree.{Built, applied, last_tree}
 use Rattle.cert_text.specs.Reading.{State, Pending, going, malformed, over, whole, idle, letters, digits, after, start}
 use Rattle.cert_text.specs.Run.{scan_at}
 use Rattle.cert_text.specs.Answer.{Answer, block, need, no_more, malformed_at, limit_at, at_end, judged, word_judged, blank_end}
+use Rattle.cert_text.specs.Grammar.{tree_over}
 use Rattle.cert_text.specs.Held.{Held, answer_of, answer_at, outcome}
-use Rattle.cert_laws.specs.Spelled.{AreAll}
-use Rattle.cert_laws.specs.Refused.{IsFront, IsNext, IsBlankOnly, IsEnded, standing, LimitAt, WrongAt, BreaksOffAt, NeedsMore}
+use Rattle.cert_laws.specs.Spelled.{AreAll, IsFront}
+use Rattle.cert_laws.specs.Refused.{IsNext, IsBlankOnly, IsEnded, standing, LimitAt, WrongAt, BreaksOffAt, NeedsMore}
 use Rattle.cert_laws.proofs.Givens.{is_inside}
 use Rattle.cert_laws.proofs.Lexing.{blanks_read}
 use Rattle.cert_laws.proofs.HeaderRead.{header_taken, first_start}
-use Rattle.cert_laws.proofs.ReadBack.{first_of}
+use Rattle.cert_laws.proofs.Begun.{first_of, Start, none_built, going_begins}
 use Rattle.cert_laws.proofs.Told.{Reads, IsOpen, Last, l_open, l_wrong, l_over, l_whole, Told}
 use Rattle.cert_laws.proofs.Telling.{told}
-use Rattle.cert_laws.proofs.Begun.{Start, none_built, going_begins}
 use Rattle.cert_laws.proofs.Fronts.{Fronts, f_none, f_header, f_behind, f_block, fronts, moved}
 use Rattle.cert_laws.proofs.LimitTold.{reads_stay, limit_told}
 use Rattle.cert_laws.proofs.LimitRead.{limit_read}
@@ -57,16 +57,16 @@ end_limit p e = cc
 wrong_limit : (p m : ℕ) → malformed_at p ≡ limit_at m → ⊥
 wrong_limit p m e = cc
 
-block_need : (n : ℕ) (t : Tree) → block n t ≡ need → ⊥
+pub block_need : (n : ℕ) (t : Tree) → block n t ≡ need → ⊥
 block_need n t e = cc
 
-block_end : (n : ℕ) (t : Tree) → block n t ≡ no_more → ⊥
+pub block_end : (n : ℕ) (t : Tree) → block n t ≡ no_more → ⊥
 block_end n t e = cc
 
-block_wrong : (n : ℕ) (t : Tree) (p : ℕ) → block n t ≡ malformed_at p → ⊥
+pub block_wrong : (n : ℕ) (t : Tree) (p : ℕ) → block n t ≡ malformed_at p → ⊥
 block_wrong n t p e = cc
 
-block_limit : (n : ℕ) (t : Tree) (p : ℕ) → block n t ≡ limit_at p → ⊥
+pub block_limit : (n : ℕ) (t : Tree) (p : ℕ) → block n t ≡ limit_at p → ⊥
 block_limit n t p e = cc
 
 abbrev place_in : ℕ → Answer → ℕ
@@ -134,7 +134,7 @@ module _ (h : Held) (n : h.number < 2 ^ 32) where
     apart place q = cc
 
     none : (bs rest : List ℕ) → h.bytes ≡ bs ++ rest → IsNext h bs → ⊥
-    none bs rest q t = subst (IsEnd (h.place + length bs)) (ap (after h.place (start h.number h.second)) (sym q) ∙ e) (text_ends h bs rest n t)
+    none bs rest q t = subst (IsEnd (tree_over 0 0 t.3) (h.place + length bs)) (ap (after h.place (start h.number h.second)) (sym q) ∙ e) (text_ends h bs rest n t)
 
   need_by : (q : State) → from_start (standing h) ≡ q → settled h q ≡ need → NeedsMore h
   need_by (going s b p) e a = if_finished (NeedsMore h) h.finished _ _ need (λ f g. absurd (blank_need s.want end g)) (λ f g. going_needs s b p f (ap from_start (sym (open_text f)) ∙ e)) a

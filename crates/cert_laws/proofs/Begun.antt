@@ -17,9 +17,8 @@ use Rattle.cert_text.proofs.LeafReads.{built_at}
 use Rattle.cert_laws.specs.Spelled.{AreAll, EndsAt, Spells}
 use Rattle.cert_laws.specs.Refused.{IsNext, Begins}
 use Rattle.cert_laws.proofs.Givens.{OnlyOn}
-use Rattle.cert_laws.proofs.LexBack.{Keeps, number_keeps}
+use Rattle.cert_laws.proofs.Stays.{Keeps, number_keeps}
 use Rattle.cert_laws.proofs.HeaderRead.{blank_no_letter, blank_no_digit}
-use Rattle.cert_laws.proofs.ReadBack.{both, first_of}
 use Rattle.cert_laws.proofs.Ends.{none_open}
 use Rattle.cert_laws.proofs.Seams.{IsDigits}
 use Rattle.cert_laws.proofs.Told.{Reads, IsOpen, Last, l_open, l_wrong, l_over, l_whole, Told}
@@ -27,6 +26,21 @@ use Rattle.cert_laws.proofs.Telling.{IsFine, told}
 use Rattle.cert_laws.proofs.Tails.{Tail, TailOf, ABlock, AHeaded, Joins, tail_back}
 use Rattle.cert_laws.proofs.Opens.{tail_starts}
 use Rattle.cert_laws.proofs.OpenTokens.{opens_word, opens_number}
+
+pub both : (a second : Bool) → (a && cond second false true) ≡ true → (a ≡ true) × (second ≡ false)
+both true false h = (refl, refl)
+both true true h = absurd (no h) where
+  no : false ≡ true → ⊥
+  no e = cc
+both false true h = absurd (no h) where
+  no : false ≡ true → ⊥
+  no e = cc
+both false false h = absurd (no h) where
+  no : false ≡ true → ⊥
+  no e = cc
+
+abbrev pub first_of : Held → Bool
+first_of h = nat_lt h.number 2 && cond h.second false true
 
 abbrev pub Start : Held → Scan
 Start h = scan_at h.number h.second (wants.Block (first_of h)) 0 0

@@ -17,13 +17,11 @@ use Rattle.cert_text.specs.Letters.{is_blank}
 use Rattle.cert_text.specs.Tree.{Built, applied}
 use Rattle.cert_text.specs.Run.{scan_at}
 use Rattle.cert_text.specs.Held.{Held}
-use Rattle.cert_laws.specs.Spelled.{AreAll}
-use Rattle.cert_laws.specs.Refused.{IsFront}
-use Rattle.cert_laws.proofs.ReadBack.{both, first_of}
+use Rattle.cert_laws.specs.Spelled.{AreAll, IsFront}
+use Rattle.cert_laws.proofs.Begun.{both, first_of, Start, none_built}
 use Rattle.cert_laws.proofs.HeaderRead.{regrouped}
 use Rattle.cert_laws.proofs.Told.{Reads}
 use Rattle.cert_laws.proofs.Tails.{if_given, scan_in}
-use Rattle.cert_laws.proofs.Begun.{Start, none_built}
 
 no_truth : false ≡ true → ⊥
 no_truth h = cc

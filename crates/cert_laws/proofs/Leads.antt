@@ -19,7 +19,6 @@ use Rattle.cert_text.specs.Control.{give_at, at_tree, behind, entered, only_sign
 use Rattle.cert_text.specs.Run.{scan_at}
 use Rattle.cert_text.specs.Grammar.{Int, int_tokens, pick_tokens, picks_tokens, line_tokens, lines_tokens, more_terms, w_absurd, w_farkas, w_linear, w_node, w_cut, word_of_node}
 use Rattle.cert_laws.proofs.Givens.{is_inside}
-use Rattle.cert_laws.proofs.TokensBack.{same_if, one_more}
 use Rattle.cert_laws.proofs.Ends.{Goes, g_end, g_leave, g_tree, goes, ARow, row_from, ATree, ABrace, IsAllowed, AreAllowed, AMore, AnInt, APick, AConstant, SomeTerms, AVariable, AColon, ACoefficient, AnEnd, Brackets, Completes, AreSpellable, ending}
 
 no_truth : false ≡ true → ⊥
@@ -37,6 +36,12 @@ int_plain i k h = ap (λ c. cond c (tokens.Sign 45 ∷ tokens.Number i.1 ∷ k) 
 lines_plain : (ps : List (ℕ × Int)) (k : List Token) → AreAllowed false ps → lines_tokens ps k ≡ picks_tokens (plain_picks ps) k
 lines_plain [] k h = refl
 lines_plain (p ∷ ps) k h = ap (λ j. tokens.Sign 44 ∷ tokens.Number (p.0 + 1) ∷ tokens.Sign 42 ∷ j) (int_plain p.1 (lines_tokens ps k) h.0 ∙ ap (λ j. tokens.Number p.1.1 ∷ j) (lines_plain ps k h.1))
+
+same_if : (a b : ℕ) → (a == b) ≡ true → a ≡ b
+same_if a b h = grind (arith, nat_tests)
+
+one_more : (n : ℕ) → (n == 0) ≡ false → n ≡ n - 1 + 1
+one_more n h = grind (arith, nat_tests)
 
 some_size : (n : ℕ) → (n == 0) ≡ false → 0 < n
 some_size n h = grind (arith, nat_tests)

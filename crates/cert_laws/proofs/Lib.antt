@@ -6,9 +6,6 @@ pub mod HeaderRead
 pub mod Writing
 pub mod WrittenRead
 pub mod OneRead
-pub mod LexBack
-pub mod TokensBack
-pub mod TreesBack
 pub mod ReadBack
 pub mod Ends
 pub mod Leads
@@ -38,3 +35,4 @@ pub mod Answers
 pub mod Cuts
 pub mod Answered
 pub mod MarksLimits
+pub mod Small

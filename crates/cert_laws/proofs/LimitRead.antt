@@ -8,12 +8,11 @@ use Rattle.cert_text.specs.Reading.{going, idle, over, after, start}
 use Rattle.cert_text.specs.Run.{scan_at}
 use Rattle.cert_text.specs.Grammar.{IsProper}
 use Rattle.cert_text.specs.Held.{Held}
-use Rattle.cert_laws.specs.Spelled.{AreAll, EndsAt, Spells}
-use Rattle.cert_laws.specs.Refused.{IsFront, LimitAt, runs_on}
+use Rattle.cert_laws.specs.Spelled.{AreAll, EndsAt, Spells, IsFront}
+use Rattle.cert_laws.specs.Refused.{LimitAt, runs_on}
 use Rattle.cert_laws.proofs.HeaderRead.{header_taken, first_start}
-use Rattle.cert_laws.proofs.ReadBack.{first_of}
+use Rattle.cert_laws.proofs.Begun.{first_of, none_built, same_first}
 use Rattle.cert_laws.proofs.Forward.{SpelledTo}
-use Rattle.cert_laws.proofs.Begun.{none_built, same_first}
 use Rattle.cert_laws.proofs.NeverWrong.{block_over}
 use Rattle.cert_laws.proofs.Ending.{runs_behind, runs_first, runs_to_blank, stops_ended, token_first}
 

@@ -19,9 +19,9 @@ use Rattle.cert_text.specs.Reading.{State, going, malformed, over, whole, idle, 
 use Rattle.cert_text.specs.Run.{scan_at}
 use Rattle.cert_text.specs.Grammar.{Written, tree_tokens, block_tokens, IsProper}
 use Rattle.cert_text.specs.Held.{Held}
-use Rattle.cert_laws.specs.Spelled.{AreAll, IsSpelling, EndsAt}
+use Rattle.cert_laws.specs.Spelled.{AreAll, IsSpelling, EndsAt, IsFront}
 use Rattle.cert_laws.specs.Limits.{block_marks}
-use Rattle.cert_laws.specs.Refused.{IsFront, IsNext, BeginsEnded, IsFirstMarked, PassesLimit, LimitAt, runs_on}
+use Rattle.cert_laws.specs.Refused.{IsNext, BeginsEnded, IsFirstMarked, PassesLimit, LimitAt, runs_on}
 use Rattle.cert_laws.proofs.Givens.{is_inside, OnlyOn}
 use Rattle.cert_laws.proofs.Stays.{Stays, stays}
 use Rattle.cert_laws.proofs.Ends.{Completes, AreSpellable, none_open}

@@ -14,8 +14,8 @@ use Rattle.cert_text.specs.Tree.{Built, applied}
 use Rattle.cert_text.specs.Run.{scan_at}
 use Rattle.cert_laws.specs.Refused.{IsFirstMarked}
 use Rattle.cert_laws.proofs.Givens.{is_inside, OnlyOn}
-use Rattle.cert_laws.proofs.LexBack.{IsSmall, small_number, Keeps, number_keeps}
-use Rattle.cert_laws.proofs.Stays.{Stays, stays}
+use Rattle.cert_laws.proofs.Small.{IsSmall, small_number}
+use Rattle.cert_laws.proofs.Stays.{Keeps, number_keeps, Stays, stays}
 use Rattle.cert_laws.proofs.Ends.{Completes}
 use Rattle.cert_laws.proofs.Leads.{Leads, leads}
 use Rattle.cert_laws.proofs.Follows.{stopped, as_read, Follows, small_same, stopped_lt, stopped_le}

@@ -15,12 +15,12 @@ use Rattle.cert_text.specs.Letters.{is_blank}
 use Rattle.cert_text.specs.Tree.{Built, applied}
 use Rattle.cert_text.specs.Reading.{State, going, malformed, over, whole, idle, after, start, is_whole}
 use Rattle.cert_text.specs.Run.{Run, on, wrong, passed, go, run, scan_at}
-use Rattle.cert_text.specs.Grammar.{Written, IsProper, block_tokens, tree_tokens}
+use Rattle.cert_text.specs.Grammar.{Written, IsProper, block_tokens, tree_tokens, tree_over}
 use Rattle.cert_text.specs.Held.{Held}
 use Rattle.cert_text.proofs.Stopping.{stopped_after, after-append}
-use Rattle.cert_laws.specs.Spelled.{AreAll, IsSpelling, EndsAt, Spells}
+use Rattle.cert_laws.specs.Spelled.{AreAll, IsSpelling, EndsAt, Spells, IsFront}
 use Rattle.cert_laws.specs.Limits.{block_marks}
-use Rattle.cert_laws.specs.Refused.{IsFirstMarked, HasNoMark, IsFront, IsNext, Begins}
+use Rattle.cert_laws.specs.Refused.{IsFirstMarked, HasNoMark, IsNext, Begins}
 use Rattle.cert_laws.proofs.Givens.{is_inside, OnlyOn}
 use Rattle.cert_laws.proofs.Lexing.{blanks_read}
 use Rattle.cert_laws.proofs.BlockRead.{regrouped, whole_is, block_tokens_read, first_byte}
@@ -28,9 +28,9 @@ use Rattle.cert_laws.proofs.HeaderRead.{header_taken, first_start, Before, Behin
 use Rattle.cert_laws.proofs.Stays.{Stays, stays}
 use Rattle.cert_laws.proofs.Follows.{as_read, Follows, IsQuiet}
 use Rattle.cert_laws.proofs.LastToken.{last_is}
-use Rattle.cert_laws.proofs.ReadBack.{first_of}
+use Rattle.cert_laws.proofs.MarksLimits.{marks-limits}
+use Rattle.cert_laws.proofs.Begun.{first_of, Start, none_built, joins_more}
 use Rattle.cert_laws.proofs.TreeFollows.{block_follows}
-use Rattle.cert_laws.proofs.Begun.{Start, none_built, joins_more}
 use Rattle.cert_laws.proofs.TokenReads.{token_over}
 use Rattle.cert_laws.proofs.Forward.{SpelledTo, IsSome, some_behind, reads_block, Marked, find, run_all, run_marked, first_taken}
 
@@ -78,12 +78,12 @@ block_over number second header w (v ∷ before) t us bs blanks cs x rest at n p
       wider : (y : ℕ) → y < 2 ^ 32 → y < 2 ^ 63
       wider y l = omega (arith, l)
 
--- read whole at this place, or refused for a limit
-abbrev pub IsEnd : ℕ → State → Type 0
-IsEnd n (going s b p) = ⊥
-IsEnd n (malformed place) = ⊥
-IsEnd n (over place) = Unit {0}
-IsEnd n (whole end s b) = end ≡ n
+-- read whole at this place, and within the limits; or refused for a limit
+abbrev pub IsEnd : Bool → ℕ → State → Type 0
+IsEnd limit n (going s b p) = ⊥
+IsEnd limit n (malformed place) = ⊥
+IsEnd limit n (over place) = Unit {0}
+IsEnd limit n (whole end s b) = (end ≡ n) × (limit ≡ false)
 
 -- a spelling in two parts
 abbrev Parted : List ℕ → List Token → List Token → Type 0
@@ -119,7 +119,7 @@ ended_more t rest more s h = (s.0, s.1 ++ more, ap (λ ys. ys ++ more) s.2, same
   same (tokens.Sign c) ys e = tt
 
 -- a block's text, and whatever follows it
-block_ends : (number : ℕ) (second header : Bool) (w : Written) (bs more : List ℕ) (at : ℕ) → number < 2 ^ 32 → IsProper second w → Spells bs (block_tokens number w []) → IsEnd (at + length bs) (after at (going (scan_at number second (wants.Block header) 0 0) none_built idle) (bs ++ more))
+block_ends : (number : ℕ) (second header : Bool) (w : Written) (bs more : List ℕ) (at : ℕ) → number < 2 ^ 32 → IsProper second w → Spells bs (block_tokens number w []) → IsEnd (tree_over 0 0 w) (at + length bs) (after at (going (scan_at number second (wants.Block header) 0 0) none_built idle) (bs ++ more))
 block_ends number second header w bs more at n p h = by (find (block_tokens number w []) (block_marks w) scan follows) where
   wider : (y : ℕ) → y < 2 ^ 32 → y < 2 ^ 63
   wider y l = omega (arith, l)
@@ -133,7 +133,7 @@ block_ends number second header w bs more at n p h = by (find (block_tokens numb
   state : List ℕ → State
   state xs = after at (going (scan_at number second (wants.Block header) 0 0) none_built idle) xs
 
-  stopped : (before : List Token) (t : Token) (us : List Token) → block_tokens number w [] ≡ before ++ t ∷ us → IsFirstMarked before (block_marks w) → Parted bs before (t ∷ us) → IsEnd (at + length bs) (state (bs ++ more))
+  stopped : (before : List Token) (t : Token) (us : List Token) → block_tokens number w [] ≡ before ++ t ∷ us → IsFirstMarked before (block_marks w) → Parted bs before (t ∷ us) → IsEnd (tree_over 0 0 w) (at + length bs) (state (bs ++ more))
   stopped before t us e m r =
       let ys = r.1 in
       let k = r.4 in
@@ -144,29 +144,29 @@ block_ends number second header w bs more at n p h = by (find (block_tokens numb
       let whole_text = ap (λ xs. xs ++ more) r.2 ∙ append_assoc r.0 ys more in
       let rest_text = ap (λ xs. xs ++ more) k.3 ∙ regrouped k.0 k.1 k.2 more ∙ ap (λ xs. k.0 ++ (k.1 ++ xs)) e2.2 in
       let spelled = subst (SpelledTo r.0 before) rest_text (spelled_more before r.0 ys more (first.0, first.1, first.2) r.3) in
-      subst (IsEnd (at + length bs)) (sym (ap (after at (going (scan_at number second (wants.Block header) 0 0) none_built idle)) (whole_text ∙ ap (λ xs. r.0 ++ xs) rest_text)
+      subst (IsEnd (tree_over 0 0 w) (at + length bs)) (sym (ap (after at (going (scan_at number second (wants.Block header) 0 0) none_built idle)) (whole_text ∙ ap (λ xs. r.0 ++ xs) rest_text)
       ∙ block_over number second header w before t us r.0 k.0 k.1 e2.0 e2.1 at n p e m spelled k.4 k.5 e2.3)) tt
 
-  by : Marked (block_tokens number w []) (block_marks w) ⊎ HasNoMark (block_marks w) → IsEnd (at + length bs) (state (bs ++ more))
+  by : Marked (block_tokens number w []) (block_marks w) ⊎ HasNoMark (block_marks w) → IsEnd (tree_over 0 0 w) (at + length bs) (state (bs ++ more))
   by (inl m) = stopped m.0 m.1 m.2 m.3 m.4 (parted m.0 (m.1 ∷ m.2) bs (subst (Spells bs) m.3 h))
   by (inr m) =
       let r = run_all (block_tokens number w []) (block_marks w) (scan_at number second (wants.Block header) 0 0) none_built follows m in
-      subst (IsEnd (at + length bs)) (sym (block_tokens_read number second header (tokens.Number number ∷ tree_tokens w (tokens.Sign 59 ∷ [])) bs more at none_built r.0 r.1 n r.3 r.2 h)) refl
+      subst (IsEnd (tree_over 0 0 w) (at + length bs)) (sym (block_tokens_read number second header (tokens.Number number ∷ tree_tokens w (tokens.Sign 59 ∷ [])) bs more at none_built r.0 r.1 n r.3 r.2 h)) (refl, (marks-limits second w p).1 m)
 
-pub text_ends : (h : Held) (text more : List ℕ) → h.number < 2 ^ 32 → IsNext h text → IsEnd (h.place + length text) (after h.place (start h.number h.second) (text ++ more))
+pub text_ends : (h : Held) (text more : List ℕ) → h.number < 2 ^ 32 → (r : IsNext h text) → IsEnd (tree_over 0 0 r.3) (h.place + length text) (after h.place (start h.number h.second) (text ++ more))
 text_ends h text more n r = by r.0 r.5 r.6 where
-  by : (header : Bool) → IsFront header h r.1 → IsProper (header || h.second) r.3 → IsEnd (h.place + length text) (after h.place (start h.number h.second) (text ++ more))
+  by : (header : Bool) → IsFront header h r.1 → IsProper (header || h.second) r.3 → IsEnd (tree_over 0 0 r.3) (h.place + length text) (after h.place (start h.number h.second) (text ++ more))
   by false f p =
       let e = r.4 ∙ ap (λ xs. xs ++ r.2) f in
-      subst (λ xs. IsEnd (h.place + length xs) (after h.place (start h.number h.second) (xs ++ more))) (sym e) (block_ends h.number h.second (first_of h) r.3 r.2 more h.place n p r.7)
+      subst (λ xs. IsEnd (tree_over 0 0 r.3) (h.place + length xs) (after h.place (start h.number h.second) (xs ++ more))) (sym e) (block_ends h.number h.second (first_of h) r.3 r.2 more h.place n p r.7)
   by true f p =
       let len = ap length r.4 ∙ length-append r.1 r.2 in
       let state = ap (λ xs. after h.place (start h.number h.second) (xs ++ more)) r.4 ∙ ap (after h.place (start h.number h.second)) (append_assoc r.1 r.2 more)
       ∙ ap (λ q. after h.place q (r.1 ++ (r.2 ++ more))) (first_start h.number h.second f.0 f.1)
       ∙ header_taken h.number none_built r.1 (r.2 ++ more) h.place f.2 in
-      subst (IsEnd (h.place + length text)) (sym state) (subst (λ m. IsEnd m (after (h.place + length r.1) (Behind h.number none_built) (r.2 ++ more))) (let q : h.place + length r.1 + length r.2 ≡ h.place + length text = omega (arith, len) in q) (block_ends h.number true false r.3 r.2 more (h.place + length r.1) n p r.7))
+      subst (IsEnd (tree_over 0 0 r.3) (h.place + length text)) (sym state) (subst (λ m. IsEnd (tree_over 0 0 r.3) m (after (h.place + length r.1) (Behind h.number none_built) (r.2 ++ more))) (let q : h.place + length r.1 + length r.2 ≡ h.place + length text = omega (arith, len) in q) (block_ends h.number true false r.3 r.2 more (h.place + length r.1) n p r.7))
 
 -- nothing that is refused as wrong begins a text
 pub wrong_begins_none : (h : Held) (bytes : List ℕ) (place : ℕ) → h.number < 2 ^ 32 → after h.place (start h.number h.second) bytes ≡ malformed place → Begins h bytes → ⊥
 wrong_begins_none h bytes place n e b =
-    subst (IsEnd (h.place + length (bytes ++ b.0))) (ap (after h.place (start h.number h.second)) (append_assoc bytes b.0 []) ∙ after-append h.place (start h.number h.second) bytes (b.0 ++ []) ∙ ap (λ q. after (h.place + length bytes) q (b.0 ++ [])) e ∙ stopped_after (h.place + length bytes) (malformed place) (b.0 ++ []) refl) (text_ends h (bytes ++ b.0) [] n b.1)
+    subst (IsEnd (tree_over 0 0 b.1.3) (h.place + length (bytes ++ b.0))) (ap (after h.place (start h.number h.second)) (append_assoc bytes b.0 []) ∙ after-append h.place (start h.number h.second) bytes (b.0 ++ []) ∙ ap (λ q. after (h.place + length bytes) q (b.0 ++ [])) e ∙ stopped_after (h.place + length bytes) (malformed place) (b.0 ++ []) refl) (text_ends h (bytes ++ b.0) [] n b.1)

@@ -21,7 +21,7 @@ use Rattle.cert_laws.specs.Spelled.{letters_of, AreAll, value_behind, IsSpelling
 use Rattle.cert_laws.proofs.Givens.{is_inside, OnlyOn, Reads, cert_reads}
 use Rattle.cert_laws.proofs.Lexing.{sign_step, ended, word_ends, number_ends, first_digit, digit_step}
 use Rattle.cert_laws.proofs.BlockRead.{whole_is}
-use Rattle.cert_laws.proofs.LexBack.{Keeps, number_keeps}
+use Rattle.cert_laws.proofs.Stays.{Keeps, number_keeps}
 use Rattle.cert_laws.proofs.Seams.{IsExact}
 use Rattle.cert_laws.proofs.Told as told
 use Rattle.cert_laws.proofs.Begun.{IsSome}

@@ -10,7 +10,6 @@ use Rattle.cert_text.specs.Letters.{is_blank, is_letter, is_digit, grown}
 use Rattle.cert_laws.specs.Spelled.{AreAll, value_behind}
 use Rattle.cert_laws.specs.Refused.{runs_on}
 use Rattle.cert_laws.proofs.Follows.{stopped}
-use Rattle.cert_laws.proofs.LexBack.{grown_behind}
 
 no_truth : false ≡ true → ⊥
 no_truth h = cc
@@ -44,6 +43,15 @@ letters_end c (d ∷ ls) x bs h k = letters_end d ls x bs h.1 k
 pub digits_end : (c : ℕ) (ds : List ℕ) (x : ℕ) (bs : List ℕ) → AreAll is_digit (c ∷ ds) → runs_on (c ∷ ds) (x ∷ bs) ≡ false → is_digit x ≡ false
 digits_end c [] x bs h k = digit_ends c x h.0 k
 digits_end c (d ∷ ds) x bs h k = digits_end d ds x bs h.1 k
+
+-- the value of digits as the machine has it
+abbrev pub grown_behind : ℕ → List ℕ → ℕ
+grown_behind n [] = n
+grown_behind n (d ∷ ds) = grown_behind (grown n d) ds
+
+pub digits_more : (ds : List ℕ) (x n : ℕ) → grown_behind n (ds ++ x ∷ []) ≡ grown (grown_behind n ds) x
+digits_more [] x n = refl
+digits_more (d ∷ ds) x n = digits_more ds x (grown n d)
 
 -- a digit more of a number that stands still
 pub stopped_grown : (n d : ℕ) → grown (stopped n) d ≡ stopped (n * 10 + (d - 48))

@@ -1,5 +1,6 @@
 -- A token inside a block leads on inside of it, and changes neither its number nor the version.
 use Rattle.std.proofs.Common.{◌≡◌, ℕ, ◌-◌, Bool, true, false, ◌&&◌, ◌||◌, refl, nat_lt, nat_le, ◌==◌}
+use Rattle.cert_text.specs.declared.scan.Word.{Word}
 use Rattle.cert_text.specs.declared.scan.Word.TheVariants as words
 use Rattle.cert_text.specs.declared.scan.Branching.TheVariants as nodes
 use Rattle.cert_text.specs.declared.scan.Token.{Token}
@@ -7,9 +8,11 @@ use Rattle.cert_text.specs.declared.scan.Token.TheVariants as tokens
 use Rattle.cert_text.specs.declared.scan.Want.{Want}
 use Rattle.cert_text.specs.declared.scan.Want.TheVariants as wants
 use Rattle.cert_text.specs.declared.scan.Scan.{Scan}
+use Rattle.cert_text.specs.declared.scan.Given.{Given}
+use Rattle.cert_text.specs.declared.scan.Given.TheVariants as givens
 use Rattle.cert_text.specs.declared.scan.Action.{Action}
 use Rattle.cert_text.specs.declared.scan.Action.TheVariants as actions
-use Rattle.cert_text.specs.Control.{give_at, behind, entered, tree_begun, is_full, one_tree, picks_closed, at_tree}
+use Rattle.cert_text.specs.Control.{give_at, behind, entered, tree_begun, is_full, one_tree, picks_closed, at_tree, at_block}
 use Rattle.cert_laws.proofs.Givens.{is_inside, OnlyOn, on_if}
 
 no_truth : false ≡ true → ⊥
@@ -103,3 +106,39 @@ stays wants.End scan (tokens.Sign c) i = on_if (Stays scan) (c == 59) _ _ (λ e.
 stays wants.Whole scan (tokens.Word w) i = tt
 stays wants.Whole scan (tokens.Number n) i = tt
 stays wants.Whole scan (tokens.Sign c) i = tt
+
+-- no token changes a block's number
+
+abbrev pub Keeps : ℕ → Scan → Type 0
+Keeps number s = s.number ≡ number
+
+pub on_then : (p q : Scan → Type 0) (g : Given) → ((s : Scan) → p s → q s) → OnlyOn p g → OnlyOn q g
+on_then p q (givens.On s a) f h = f s h
+on_then p q givens.Wrong f h = tt
+on_then p q givens.Over f h = tt
+
+block_keeps : (scan : Scan) (header : Bool) (w : Word) → OnlyOn (Keeps scan.number) (at_block scan header (tokens.Word w))
+block_keeps scan header words.Cert = refl
+block_keeps scan header words.Version = on_if (Keeps scan.number) header _ _ (λ e. refl) (λ e. tt)
+block_keeps scan header words.Absurd = tt
+block_keeps scan header words.Farkas = tt
+block_keeps scan header words.Linear = tt
+block_keeps scan header words.Case = tt
+block_keeps scan header words.Truth = tt
+block_keeps scan header words.Split = tt
+block_keeps scan header words.Cut = tt
+
+inside_keeps : (want : Want) (scan : Scan) (t : Token) → is_inside want ≡ true → OnlyOn (Keeps scan.number) (give_at want scan t)
+inside_keeps want scan t i = on_then (Stays scan) (Keeps scan.number) (give_at want scan t) (λ s h. h.0) (stays want scan t i)
+
+pub number_keeps : (want : Want) (scan : Scan) (t : Token) → OnlyOn (Keeps scan.number) (give_at want scan t)
+number_keeps (wants.Block header) scan (tokens.Word w) = block_keeps scan header w
+number_keeps (wants.Block header) scan (tokens.Number n) = tt
+number_keeps (wants.Block header) scan (tokens.Sign c) = tt
+number_keeps wants.HeaderNumber scan (tokens.Word w) = tt
+number_keeps wants.HeaderNumber scan (tokens.Number n) = on_if (Keeps scan.number) (n == 2) _ _ (λ e. refl) (λ e. tt)
+number_keeps wants.HeaderNumber scan (tokens.Sign c) = tt
+number_keeps wants.HeaderEnd scan (tokens.Word w) = tt
+number_keeps wants.HeaderEnd scan (tokens.Number n) = tt
+number_keeps wants.HeaderEnd scan (tokens.Sign c) = on_if (Keeps scan.number) (c == 59) _ _ (λ e. refl) (λ e. tt)
+number_keeps want scan t = inside_keeps want scan t refl

@@ -19,12 +19,11 @@ use Rattle.cert_text.specs.Run.{scan_at}
 use Rattle.cert_text.specs.Grammar.{Written, tree_tokens, IsProper}
 use Rattle.cert_laws.specs.Spelled.{letters_of, AreAll, IsSpelling, EndsAt, Spells, IsHeader}
 use Rattle.cert_laws.proofs.Givens.{is_inside, OnlyOn}
-use Rattle.cert_laws.proofs.LexBack.{Keeps, number_keeps}
+use Rattle.cert_laws.proofs.Stays.{Keeps, number_keeps, Stays, stays}
 use Rattle.cert_laws.proofs.BlockRead.{regrouped}
 use Rattle.cert_laws.proofs.HeaderRead.{regrouped as header_regrouped}
 use Rattle.cert_laws.proofs.Ends.{Goes, Completes}
 use Rattle.cert_laws.proofs.Leads.{Leads, Done, leads}
-use Rattle.cert_laws.proofs.Stays.{Stays, stays}
 use Rattle.cert_laws.proofs.Seams.{IsExact}
 use Rattle.cert_laws.proofs.Told.{Reads}
 

@@ -18,9 +18,12 @@ use Rattle.cert_text.proofs.Stopping.{stopped_after, after-append}
 use Rattle.cert_laws.specs.Spelled.{AreAll, value_behind, IsSign, IsSpelling, EndsAt}
 use Rattle.cert_laws.specs.Refused.{runs_on, IsOfToken}
 use Rattle.cert_laws.proofs.Givens.{OnlyOn}
-use Rattle.cert_laws.proofs.LexBack.{grown_behind, spelled_word, digits_more, all_more, ends_sign, IsSmall, small_number, Keeps, number_keeps, on_then}
+use Rattle.cert_laws.proofs.Seams.{grown_behind, digits_more, letters_stop, digits_stop, letters_end, digits_end, stopped_value, stopped_none, stopped_small, IsDigits, IsExact, first_exact, more_exact}
+use Rattle.cert_laws.proofs.Lexing.{spelled_word}
+use Rattle.cert_laws.proofs.Writing.{all_more, ends_sign}
+use Rattle.cert_laws.proofs.Small.{IsSmall, small_number}
+use Rattle.cert_laws.proofs.Stays.{Keeps, number_keeps, on_then}
 use Rattle.cert_laws.proofs.Follows.{stopped, as_read}
-use Rattle.cert_laws.proofs.Seams.{letters_stop, digits_stop, letters_end, digits_end, stopped_value, stopped_none, stopped_small, IsDigits, IsExact, first_exact, more_exact}
 use Rattle.cert_laws.proofs.Told.{Reads, IsOpen, IsRefused, HasEnded, Last, l_open, l_wrong, l_over, l_whole, Told, last_told, blank_told, token_told}
 
 no_truth : false ≡ true → ⊥

@@ -24,9 +24,8 @@ use Rattle.cert_laws.proofs.Givens.{is_inside, OnlyOn, NumberTaken, number_taken
 use Rattle.cert_laws.proofs.Prefixes.{NotHeader, begins_itself}
 use Rattle.cert_laws.proofs.Lexing.{sign_step, ended, word_ends, number_ends, number_read, first_digit}
 use Rattle.cert_laws.proofs.BlockRead.{not_header}
-use Rattle.cert_laws.proofs.LexBack.{grown_behind}
+use Rattle.cert_laws.proofs.Seams.{grown_behind, stopped_value, stopped_none, stopped_small}
 use Rattle.cert_laws.proofs.Follows.{stopped, as_read}
-use Rattle.cert_laws.proofs.Seams.{stopped_value, stopped_none, stopped_small}
 use Rattle.cert_laws.proofs.Opens.{is_wrong}
 
 no_truth : false ≡ true → ⊥

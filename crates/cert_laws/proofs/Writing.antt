@@ -23,7 +23,7 @@ value_last : (m d : ℕ) (ds : List ℕ) → value_behind m (ds ++ d ∷ []) ≡
 value_last m d [] = refl
 value_last m d (e ∷ ds) = value_last (m * 10 + (e - 48)) d ds
 
-all_more : (test : ℕ → Bool) (bs : List ℕ) (b : ℕ) → AreAll test bs → test b ≡ true → AreAll test (bs ++ b ∷ [])
+pub all_more : (test : ℕ → Bool) (bs : List ℕ) (b : ℕ) → AreAll test bs → test b ≡ true → AreAll test (bs ++ b ∷ [])
 all_more test [] b h k = (k, tt)
 all_more test (c ∷ bs) b h k = (h.0, all_more test bs b h.1 k)
 
@@ -76,7 +76,7 @@ decimal_is n h = digits_are 39 n (wide n h) where
 pub respelled : (ts : List Token) (bs cs : List ℕ) → bs ≡ cs → Spells cs ts → Spells bs ts
 respelled ts bs cs e h = subst (λ xs. Spells xs ts) (sym e) h
 
-ends_sign : (c : ℕ) (rest : List ℕ) → EndsAt (tokens.Sign c) rest
+pub ends_sign : (c : ℕ) (rest : List ℕ) → EndsAt (tokens.Sign c) rest
 ends_sign c [] = tt
 ends_sign c (b ∷ bs) = tt
 

@@ -14,6 +14,7 @@ use Rattle.cert_text.specs.Control.{give}
 use Rattle.cert_text.specs.Letters.{is_blank}
 use Rattle.cert_text.specs.Tree.{Built, applied}
 use Rattle.cert_text.specs.Reading.{State, going, malformed, over, whole, idle, step, after, start, is_whole}
+use Rattle.cert_text.specs.Grammar.{tree_over}
 use Rattle.cert_text.specs.Held.{Held}
 use Rattle.cert_laws.specs.Spelled.{AreAll, IsSpelling, EndsAt}
 use Rattle.cert_laws.specs.Refused.{IsNext, Begins, BeginsEnded, HasNoLimit, IsOfToken, NoneGoesOn, runs_on}
@@ -68,7 +69,9 @@ module _ (h : Held) (n : h.number < 2 ^ 32) where
     none : BeginsEnded h ((front ++ blanks) ++ cs) → ⊥
     none m = by m.0 m.1 m.2 where
       by : (more : List ℕ) → runs_on ((front ++ blanks) ++ cs) more ≡ false → IsNext h (((front ++ blanks) ++ cs) ++ more) → ⊥
-      by [] k t = subst (IsEnd (h.place + length ((front ++ blanks) ++ cs))) (refused 32 (runs_to_blank cs 32 [] refl)) (text_ends h ((front ++ blanks) ++ cs) (32 ∷ []) n (subst (IsNext h) (append-nil ((front ++ blanks) ++ cs)) t))
+      by [] k t =
+          let u = subst (IsNext h) (append-nil ((front ++ blanks) ++ cs)) t in
+          subst (IsEnd (tree_over 0 0 u.3) (h.place + length ((front ++ blanks) ++ cs))) (refused 32 (runs_to_blank cs 32 [] refl)) (text_ends h ((front ++ blanks) ++ cs) (32 ∷ []) n u)
       by (z ∷ zs) k t =
           let stops = ap (λ l. runs_on l (z ∷ [])) o.2 ∙ sym (runs_behind (front ++ blanks) o.0 o.1 (z ∷ [])) ∙ ap (λ l. runs_on ((front ++ blanks) ++ l) (z ∷ [])) (sym o.2) ∙ runs_first ((front ++ blanks) ++ cs) z [] zs ∙ k in
           wrong_begins_none h (((front ++ blanks) ++ cs) ++ z ∷ []) (h.place + length (front ++ blanks)) n (refused z stops) (zs, subst (IsNext h) (sym (append_assoc ((front ++ blanks) ++ cs) (z ∷ []) zs)) t)

@@ -6,13 +6,8 @@ use Rattle.cert_text.specs.Letters.{is_blank, is_letter, is_digit}
 use Rattle.cert_text.specs.Grammar.{Written, IsProper, block_tokens, tree_over}
 use Rattle.cert_text.specs.Held.{Held, answer_of}
 use Rattle.cert_text.specs.Answer.{need, no_more, malformed_at, limit_at}
-use Rattle.cert_laws.specs.Spelled.{AreAll, IsSign, IsSpelling, Spells, IsHeader}
+use Rattle.cert_laws.specs.Spelled.{AreAll, IsSign, IsSpelling, Spells, IsFront}
 use Rattle.cert_laws.specs.Limits.{block_marks}
-
--- nothing, or a header where one may stand: before the first block of a text of version 1
-abbrev pub IsFront : Bool → Held → List ℕ → Type 0
-IsFront false h head = head ≡ []
-IsFront true h head = (nat_lt h.number 2 ≡ true) × (h.second ≡ false) × IsHeader head
 
 -- a text of the next block, limits aside
 abbrev pub IsNext : Held → List ℕ → Type 0

@@ -1,5 +1,5 @@
 -- And each answer is given where it is true.
-use Rattle.std.proofs.Common.{◌≡◌, ℕ, ◌+◌, ◌<◌, ◌≤◌, ◌^◌, Bool, true, false, cond, ◌⊎◌, inl, inr, List, [], ◌∷◌, ◌++◌, length, refl, sym, ap, ◌∙◌, subst, arith, append_assoc}
+use Rattle.std.proofs.Common.{◌≡◌, ℕ, ◌+◌, ◌<◌, ◌≤◌, ◌^◌, true, false, cond, ◌⊎◌, inl, inr, List, [], ◌∷◌, ◌++◌, length, refl, sym, ap, ◌∙◌, subst, arith, append_assoc}
 use Rattle.std.proofs.lemmas.Bool.{cases_lt}
 use Rattle.std.proofs.lemmas.List.{length-append, append-nil}
 use Rattle.cert_text.specs.declared.scan.Want.{Want}
@@ -7,20 +7,20 @@ use Rattle.cert_text.specs.declared.scan.Want.TheVariants as wants
 use Rattle.cert_text.specs.declared.scan.Scan.{Scan}
 use Rattle.cert_text.specs.Tree.{Built}
 use Rattle.cert_text.specs.Reading.{State, going, malformed, over, whole, after, start}
-use Rattle.cert_text.specs.Answer.{Answer, need, no_more, malformed_at, blank_end}
+use Rattle.cert_text.specs.Answer.{need, no_more, malformed_at, blank_end}
 use Rattle.cert_text.specs.Grammar.{tree_over}
 use Rattle.cert_text.specs.Held.{Held, answer_of}
 use Rattle.cert_text.proofs.Stopping.{after-append, stopped_after}
 use Rattle.cert_text.proofs.Within.{block_within}
-use Rattle.cert_laws.specs.Refused.{IsNext, Begins, BeginsEnded, HasNoLimit, LimitAt, NoneGoesOn, IsOfToken, IsBlankOnly, WrongAt, BreaksOffAt, NeedsMore, standing, runs_on}
+use Rattle.cert_laws.specs.Refused.{IsNext, Begins, HasNoLimit, LimitAt, NoneGoesOn, IsOfToken, IsBlankOnly, WrongAt, BreaksOffAt, NeedsMore, standing, runs_on}
 use Rattle.cert_laws.proofs.Begun.{going_begins}
 use Rattle.cert_laws.proofs.NeverWrong.{IsEnd, text_ends, wrong_begins_none}
 use Rattle.cert_laws.proofs.LimitTold.{limit_told}
-use Rattle.cert_laws.proofs.WrongTold.{Wrong, wrong_told, Begun, whole_told}
+use Rattle.cert_laws.proofs.WrongTold.{wrong_told, Begun, whole_told}
 use Rattle.cert_laws.proofs.Standing.{settled, standing_answer, blank_whole}
 use Rattle.cert_laws.proofs.Answers.{end_is_true, open_text, closed_text}
 use Rattle.cert_laws.proofs.Ending.{runs_none, runs_behind, runs_first, runs_to_blank, token_first}
-use Rattle.cert_laws.proofs.Cuts.{Aligned, aligned, Holds, holds}
+use Rattle.cert_laws.proofs.Cuts.{Aligned, aligned, holds}
 
 abbrev Longer : List ℕ → List ℕ → Type 0
 Longer xs ys = length xs < length ys
@@ -130,8 +130,18 @@ module _ (h : Held) (n : h.number < 2 ^ 32) where
         from : (y : List ℕ) → front ≡ (d.0 ++ d.1) ++ y → d.2 ∷ d.3 ≡ y ++ (cs ++ rest) → ⊥
         from [] q k = free m (d.0, d.1, 32, [], ap (λ l. l ++ 32 ∷ []) (q ∙ append-nil (d.0 ++ d.1)) ∙ append_assoc d.0 d.1 (32 ∷ []), d.5, runs_to_blank d.1 32 [] refl, d.7, d.8, d.9)
         from (x ∷ y) q k =
-            free m (d.0, d.1, x, y ++ 32 ∷ [], ap (λ l. l ++ 32 ∷ []) q ∙ append_assoc (d.0 ++ d.1) (x ∷ y) (32 ∷ []) ∙ append_assoc d.0 d.1 (x ∷ y ++ 32 ∷ []), d.5,
-            runs_first d.1 x (y ++ 32 ∷ []) (y ++ (cs ++ rest)) ∙ ap (runs_on d.1) (sym k) ∙ d.6, d.7, d.8, d.9)
+            free m (
+              d.0,
+              d.1,
+              x,
+              y ++ 32 ∷ [],
+              ap (λ l. l ++ 32 ∷ []) q ∙ append_assoc (d.0 ++ d.1) (x ∷ y) (32 ∷ []) ∙ append_assoc d.0 d.1 (x ∷ y ++ 32 ∷ []),
+              d.5,
+              runs_first d.1 x (y ++ 32 ∷ []) (y ++ (cs ++ rest)) ∙ ap (runs_on d.1) (sym k) ∙ d.6,
+              d.7,
+              d.8,
+              d.9,
+            )
 
       by : (length front < length (d.0 ++ d.1)) ⊎ (length (d.0 ++ d.1) ≤ length front) → ⊥
       by (inl l) = not_beyond (d.0 ++ d.1) (d.2 ∷ d.3) d.7.0 same (ap (λ x. runs_on (d.0 ++ x) (d.2 ∷ d.3)) some.2 ∙ runs_behind d.0 some.0 some.1 (d.2 ∷ d.3) ∙ ap (λ x. runs_on x (d.2 ∷ d.3)) (sym some.2) ∙ d.6) l d.7.2 d.7.1

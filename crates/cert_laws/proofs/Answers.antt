@@ -1,6 +1,6 @@
 -- Why no block is answered: each answer tells the truth.
-use Rattle.std.proofs.Common.{◌≡◌, ℕ, ◌+◌, ◌<◌, ◌^◌, Bool, true, false, cond, ◌||◌, ◌⊎◌, inl, inr, List, [], ◌∷◌, ◌++◌, length, refl, sym, ap, ◌∙◌, subst, arith, append_assoc, Option, Some, None, nat_lt}
-use Rattle.std.proofs.lemmas.List.{length-append, append-nil}
+use Rattle.std.proofs.Common.{◌≡◌, ℕ, ◌+◌, ◌<◌, ◌^◌, Bool, true, false, cond, ◌||◌, ◌⊎◌, inl, inr, List, [], ◌∷◌, ◌++◌, length, refl, sym, ap, ◌∙◌, subst, Option, Some, None}
+use Rattle.std.proofs.lemmas.List.{append-nil}
 use Rattle.st_certificate.specs.Tree.{Tree}
 use Rattle.cert_text.specs.declared.scan.Word.{Word}
 use Rattle.cert_text.specs.declared.scan.Token.{Token}
@@ -24,7 +24,7 @@ use Rattle.cert_laws.specs.Refused.{IsNext, IsBlankOnly, IsEnded, standing, Limi
 use Rattle.cert_laws.proofs.Givens.{is_inside}
 use Rattle.cert_laws.proofs.Lexing.{blanks_read}
 use Rattle.cert_laws.proofs.HeaderRead.{header_taken, first_start}
-use Rattle.cert_laws.proofs.Begun.{first_of, Start, none_built, going_begins}
+use Rattle.cert_laws.proofs.Begun.{Start, none_built, going_begins}
 use Rattle.cert_laws.proofs.Told.{Reads, IsOpen, Last, l_open, l_wrong, l_over, l_whole, Told}
 use Rattle.cert_laws.proofs.Telling.{told}
 use Rattle.cert_laws.proofs.Fronts.{Fronts, f_none, f_header, f_behind, f_block, fronts, moved}

@@ -1,5 +1,5 @@
 -- What the machine has not refused begins a text of the next block.
-use Rattle.std.proofs.Common.{◌≡◌, ℕ, ◌+◌, ◌<◌, ◌^◌, Bool, true, false, cond, ◌&&◌, ◌||◌, ◌⊎◌, inl, inr, List, [], ◌∷◌, ◌++◌, length, refl, sym, ap, ◌∙◌, subst, nat_lt, append_assoc}
+use Rattle.std.proofs.Common.{◌≡◌, ℕ, ◌+◌, ◌<◌, ◌^◌, Bool, true, false, cond, ◌&&◌, inl, inr, List, [], ◌∷◌, ◌++◌, length, refl, sym, ap, ◌∙◌, subst, nat_lt, append_assoc}
 use Rattle.std.proofs.lemmas.List.{append-nil}
 use Rattle.cert_text.specs.declared.scan.Word.TheVariants as words
 use Rattle.cert_text.specs.declared.scan.Token.{Token}
@@ -7,11 +7,11 @@ use Rattle.cert_text.specs.declared.scan.Token.TheVariants as tokens
 use Rattle.cert_text.specs.declared.scan.Want.TheVariants as wants
 use Rattle.cert_text.specs.declared.scan.Scan.{Scan}
 use Rattle.cert_text.specs.Control.{fits_number_at}
-use Rattle.cert_text.specs.Letters.{is_blank, is_letter, is_digit}
+use Rattle.cert_text.specs.Letters.{is_blank}
 use Rattle.cert_text.specs.Tree.{Built, applied}
-use Rattle.cert_text.specs.Reading.{State, Pending, going, malformed, over, whole, idle, letters, digits, after, start, is_whole}
+use Rattle.cert_text.specs.Reading.{Pending, going, malformed, over, whole, idle, letters, digits, after, start, is_whole}
 use Rattle.cert_text.specs.Run.{scan_at}
-use Rattle.cert_text.specs.Grammar.{Written, tree_tokens, block_tokens}
+use Rattle.cert_text.specs.Grammar.{tree_tokens, block_tokens}
 use Rattle.cert_text.specs.Held.{Held}
 use Rattle.cert_text.proofs.LeafReads.{built_at}
 use Rattle.cert_laws.specs.Spelled.{AreAll, EndsAt, Spells}
@@ -22,8 +22,8 @@ use Rattle.cert_laws.proofs.HeaderRead.{blank_no_letter, blank_no_digit}
 use Rattle.cert_laws.proofs.Ends.{none_open}
 use Rattle.cert_laws.proofs.Seams.{IsDigits}
 use Rattle.cert_laws.proofs.Told.{Reads, IsOpen, Last, l_open, l_wrong, l_over, l_whole, Told}
-use Rattle.cert_laws.proofs.Telling.{IsFine, told}
-use Rattle.cert_laws.proofs.Tails.{Tail, TailOf, ABlock, AHeaded, Joins, tail_back}
+use Rattle.cert_laws.proofs.Telling.{told}
+use Rattle.cert_laws.proofs.Tails.{TailOf, ABlock, Joins, tail_back}
 use Rattle.cert_laws.proofs.Opens.{tail_starts}
 use Rattle.cert_laws.proofs.OpenTokens.{opens_word, opens_number}
 

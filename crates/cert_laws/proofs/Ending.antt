@@ -1,5 +1,5 @@
 -- Where one token ends and what stands next begins: of bytes that were taken, and in the words of the laws.
-use Rattle.std.proofs.Common.{◌≡◌, ℕ, Bool, true, false, ◌&&◌, ◌||◌, List, [], ◌∷◌, ◌++◌, refl, sym, ap, ◌∙◌, subst, arith, nat_le, ◌==◌, append_assoc}
+use Rattle.std.proofs.Common.{◌≡◌, ℕ, true, false, ◌&&◌, ◌||◌, List, [], ◌∷◌, ◌++◌, refl, sym, ap, ◌∙◌, subst, arith, append_assoc}
 use Rattle.std.proofs.lemmas.List.{append-nil}
 use Rattle.std.proofs.lemmas.Bool.Decides.{nat_tests}
 use Rattle.cert_text.specs.declared.scan.Word.{Word}
@@ -11,7 +11,6 @@ use Rattle.cert_text.specs.Letters.{is_blank, is_letter, is_digit}
 use Rattle.cert_text.specs.Tree.{Built, applied}
 use Rattle.cert_laws.specs.Spelled.{letters_of, AreAll, IsSpelling, EndsAt, IsSign, Spells}
 use Rattle.cert_laws.specs.Refused.{runs_on}
-use Rattle.cert_laws.proofs.HeaderRead.{blank_no_letter, blank_no_digit}
 use Rattle.cert_laws.proofs.Seams.{letters_stop, digits_stop, letters_end, digits_end}
 use Rattle.cert_laws.proofs.Told.{Reads}
 

@@ -1,11 +1,7 @@
 -- How the control goes along the tokens of a block, limits aside: each is taken, up to the first that is marked as past a limit,
 -- and that one is refused for it. Numbers are as the machine has them: they stand still at 2^64 - 1.
-use Rattle.std.proofs.Common.{◌≡◌, ℕ, ◌+◌, ◌-◌, ◌<◌, ◌≤◌, ◌^◌, Bool, true, false, cond, ◌||◌, List, [], ◌∷◌, refl, sym, ap, ◌∙◌, subst, arith, nat_lt, nat_le, ◌==◌, min}
+use Rattle.std.proofs.Common.{◌≡◌, ℕ, ◌+◌, ◌-◌, ◌<◌, ◌^◌, Bool, true, false, cond, ◌||◌, List, [], ◌∷◌, refl, sym, ap, ◌∙◌, arith, nat_lt, nat_le, ◌==◌, min}
 use Rattle.std.proofs.lemmas.Bool.Decides.{nat_tests}
-use Rattle.cert_text.specs.declared.scan.Word.{Word}
-use Rattle.cert_text.specs.declared.scan.Word.TheVariants as words
-use Rattle.cert_text.specs.declared.scan.Branching.{Branching}
-use Rattle.cert_text.specs.declared.scan.Branching.TheVariants as nodes
 use Rattle.cert_text.specs.declared.scan.Token.{Token}
 use Rattle.cert_text.specs.declared.scan.Token.TheVariants as tokens
 use Rattle.cert_text.specs.declared.scan.Want.{Want}
@@ -15,11 +11,11 @@ use Rattle.cert_text.specs.declared.scan.Action.{Action}
 use Rattle.cert_text.specs.declared.scan.Action.TheVariants as actions
 use Rattle.cert_text.specs.declared.scan.Given.{Given}
 use Rattle.cert_text.specs.declared.scan.Given.TheVariants as givens
-use Rattle.cert_text.specs.Control.{give, behind, picks_closed}
+use Rattle.cert_text.specs.Control.{give, behind}
 use Rattle.cert_text.specs.Reading.{is_whole}
 use Rattle.cert_text.specs.Run.{scan_at, want_behind}
-use Rattle.cert_text.specs.Grammar.{Int, int_tokens, pick_tokens, picks_tokens, line_tokens, lines_tokens, term_tokens, terms_tokens, more_terms, AreTerms, Written, Rows, w_absurd, w_farkas, w_linear, w_node, w_cut, w_last, w_and, tree_tokens, rows_tokens, block_tokens, word_of_node, IsProper, AreProper, tree_count, row_count, none_left, is_long, is_long_entry}
-use Rattle.cert_laws.specs.Limits.{int_marks, is_row_over, is_size_over, pick_marks, picks_marks, line_marks, lines_marks, term_marks, more_marks, terms_marks, tree_marks, rows_marks, block_marks}
+use Rattle.cert_text.specs.Grammar.{Int, int_tokens, pick_tokens, picks_tokens, line_tokens, lines_tokens, none_left, is_long}
+use Rattle.cert_laws.specs.Limits.{int_marks, is_row_over, is_size_over, pick_marks, picks_marks, line_marks, lines_marks}
 
 -- a number as the machine has it
 unfoldable pub stopped : ℕ → ℕ

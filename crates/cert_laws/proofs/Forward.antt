@@ -1,11 +1,10 @@
 -- Forward, along the tokens of a block: up to the first that passes a limit each is read, and that one is refused for it. So a
 -- text of a block, limits aside, is read whole or passes a limit; it is never wrong.
-use Rattle.std.proofs.Common.{◌≡◌, ℕ, suc, ◌+◌, ◌<◌, ◌^◌, Bool, true, false, cond, ◌⊎◌, inl, inr, List, [], ◌∷◌, ◌++◌, length, refl, sym, ap, ◌∙◌, subst, arith, append_assoc}
-use Rattle.std.proofs.lemmas.List.{length-append, append-nil}
+use Rattle.std.proofs.Common.{◌≡◌, ℕ, ◌+◌, ◌<◌, ◌^◌, Bool, true, false, cond, ◌⊎◌, inl, inr, List, [], ◌∷◌, ◌++◌, length, refl, sym, ap, ◌∙◌, subst, arith}
+use Rattle.std.proofs.lemmas.List.{length-append}
 use Rattle.cert_text.specs.declared.scan.Word.TheVariants as words
 use Rattle.cert_text.specs.declared.scan.Token.{Token}
 use Rattle.cert_text.specs.declared.scan.Token.TheVariants as tokens
-use Rattle.cert_text.specs.declared.scan.Want.{Want}
 use Rattle.cert_text.specs.declared.scan.Want.TheVariants as wants
 use Rattle.cert_text.specs.declared.scan.Scan.{Scan}
 use Rattle.cert_text.specs.declared.scan.Action.{Action}
@@ -15,20 +14,16 @@ use Rattle.cert_text.specs.declared.scan.Given.TheVariants as givens
 use Rattle.cert_text.specs.Control.{give}
 use Rattle.cert_text.specs.Letters.{is_blank}
 use Rattle.cert_text.specs.Tree.{Built, applied}
-use Rattle.cert_text.specs.Reading.{State, going, malformed, over, whole, idle, after, is_whole}
+use Rattle.cert_text.specs.Reading.{going, idle, after, is_whole}
 use Rattle.cert_text.specs.Run.{Run, on, wrong, passed, go, run, scan_at}
-use Rattle.cert_text.specs.Grammar.{Written, IsProper, block_tokens, tree_tokens}
-use Rattle.cert_text.proofs.LeafReads.{built_at}
-use Rattle.cert_laws.specs.Spelled.{letters_of, AreAll, IsSpelling, EndsAt, Spells}
-use Rattle.cert_laws.specs.Limits.{block_marks}
+use Rattle.cert_laws.specs.Spelled.{letters_of, AreAll, IsSpelling, EndsAt}
 use Rattle.cert_laws.specs.Refused.{IsFirstMarked, HasNoMark}
 use Rattle.cert_laws.proofs.Givens.{is_inside, OnlyOn, cert_taken}
 use Rattle.cert_laws.proofs.Lexing.{blanks_read}
-use Rattle.cert_laws.proofs.BlockRead.{regrouped, whole_is, block_tokens_read}
+use Rattle.cert_laws.proofs.BlockRead.{regrouped, whole_is}
 use Rattle.cert_laws.proofs.Stays.{Stays, stays}
 use Rattle.cert_laws.proofs.Follows.{as_read, Follows}
-use Rattle.cert_laws.proofs.TreeFollows.{block_follows}
-use Rattle.cert_laws.proofs.TokenReads.{word_on, token_on, token_over}
+use Rattle.cert_laws.proofs.TokenReads.{word_on, token_on}
 
 no_truth : false ≡ true → ⊥
 no_truth h = cc

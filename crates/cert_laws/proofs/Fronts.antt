@@ -1,8 +1,7 @@
 -- Where taken tokens lead from the start: nowhere yet, into a header, right behind it, or into a block, with a header before it or
 -- without.
-use Rattle.std.proofs.Common.{◌≡◌, ℕ, Bool, true, false, cond, ◌||◌, ◌⊎◌, inl, inr, List, [], ◌∷◌, ◌++◌, refl, sym, ap, ◌∙◌, subst, arith, codes, nat_lt, ◌==◌}
+use Rattle.std.proofs.Common.{◌≡◌, ℕ, Bool, true, false, ◌||◌, ◌⊎◌, inl, inr, List, [], ◌∷◌, ◌++◌, refl, sym, ap, ◌∙◌, subst, arith, codes, nat_lt, ◌==◌}
 use Rattle.std.proofs.lemmas.Bool.Decides.{nat_tests}
-use Rattle.cert_text.specs.declared.scan.Word.{Word}
 use Rattle.cert_text.specs.declared.scan.Word.TheVariants as words
 use Rattle.cert_text.specs.declared.scan.Token.{Token}
 use Rattle.cert_text.specs.declared.scan.Token.TheVariants as tokens
@@ -12,7 +11,6 @@ use Rattle.cert_text.specs.declared.scan.Action.{Action}
 use Rattle.cert_text.specs.declared.scan.Action.TheVariants as actions
 use Rattle.cert_text.specs.declared.scan.Given.{Given}
 use Rattle.cert_text.specs.declared.scan.Given.TheVariants as givens
-use Rattle.cert_text.specs.Control.{give}
 use Rattle.cert_text.specs.Letters.{is_blank}
 use Rattle.cert_text.specs.Tree.{Built, applied}
 use Rattle.cert_text.specs.Run.{scan_at}

@@ -1,6 +1,6 @@
 -- What a token that may stand leads to: with what completes the block behind it, the token completes the block before it; and a
 -- token that passes a limit has something that completes the block behind it, too. So each state of the control can be completed.
-use Rattle.std.proofs.Common.{◌≡◌, ℕ, suc, ◌+◌, ◌-◌, ◌<◌, ◌≤◌, Bool, true, false, cond, ◌&&◌, ◌||◌, ◌⊎◌, inl, inr, List, [], ◌∷◌, refl, sym, ap, ◌∙◌, subst, arith, nat_lt, nat_le, ◌==◌}
+use Rattle.std.proofs.Common.{◌≡◌, ℕ, ◌+◌, ◌-◌, ◌<◌, ◌≤◌, Bool, true, false, cond, ◌&&◌, ◌||◌, ◌⊎◌, inl, inr, List, [], ◌∷◌, refl, sym, ap, ◌∙◌, subst, arith, nat_lt, nat_le, ◌==◌}
 use Rattle.std.proofs.lemmas.Bool.Decides.{nat_tests}
 use Rattle.cert_text.specs.declared.scan.Word.{Word}
 use Rattle.cert_text.specs.declared.scan.Word.TheVariants as words
@@ -15,11 +15,11 @@ use Rattle.cert_text.specs.declared.scan.Action.{Action}
 use Rattle.cert_text.specs.declared.scan.Action.TheVariants as actions
 use Rattle.cert_text.specs.declared.scan.Given.{Given}
 use Rattle.cert_text.specs.declared.scan.Given.TheVariants as givens
-use Rattle.cert_text.specs.Control.{give_at, at_tree, behind, entered, only_sign, is_full, picks_closed}
+use Rattle.cert_text.specs.Control.{give_at, at_tree, behind, only_sign, is_full, picks_closed}
 use Rattle.cert_text.specs.Run.{scan_at}
-use Rattle.cert_text.specs.Grammar.{Int, int_tokens, pick_tokens, picks_tokens, line_tokens, lines_tokens, more_terms, w_absurd, w_farkas, w_linear, w_node, w_cut, word_of_node}
+use Rattle.cert_text.specs.Grammar.{Int, int_tokens, picks_tokens, lines_tokens, more_terms, w_absurd, w_farkas, w_linear, w_node, w_cut, word_of_node}
 use Rattle.cert_laws.proofs.Givens.{is_inside}
-use Rattle.cert_laws.proofs.Ends.{Goes, g_end, g_leave, g_tree, goes, ARow, row_from, ATree, ABrace, IsAllowed, AreAllowed, AMore, AnInt, APick, AConstant, SomeTerms, AVariable, AColon, ACoefficient, AnEnd, Brackets, Completes, AreSpellable, ending}
+use Rattle.cert_laws.proofs.Ends.{Goes, g_end, g_leave, g_tree, goes, ARow, row_from, ATree, ABrace, IsAllowed, AreAllowed, AMore, AnInt, APick, SomeTerms, AVariable, AColon, ACoefficient, AnEnd, Brackets, Completes, AreSpellable, ending}
 
 no_truth : false ≡ true → ⊥
 no_truth h = cc

@@ -1,5 +1,5 @@
 -- Where the machine answers that a limit is passed, an ended token stands that is the first to pass one.
-use Rattle.std.proofs.Common.{◌≡◌, ℕ, ◌+◌, ◌<◌, ◌^◌, Bool, true, false, cond, ◌||◌, ◌⊎◌, inl, inr, List, [], ◌∷◌, ◌++◌, length, refl, sym, ap, ◌∙◌, subst, arith, append_assoc, ◌==◌}
+use Rattle.std.proofs.Common.{◌≡◌, ℕ, ◌+◌, ◌<◌, ◌^◌, Bool, true, false, cond, ◌||◌, inl, inr, List, [], ◌∷◌, ◌++◌, length, refl, sym, ap, ◌∙◌, subst, arith, append_assoc, ◌==◌}
 use Rattle.std.proofs.lemmas.List.{length-append}
 use Rattle.cert_text.specs.declared.scan.Word.{Word}
 use Rattle.cert_text.specs.declared.scan.Word.TheVariants as words
@@ -10,14 +10,13 @@ use Rattle.cert_text.specs.declared.scan.Want.TheVariants as wants
 use Rattle.cert_text.specs.declared.scan.Scan.{Scan}
 use Rattle.cert_text.specs.declared.scan.Action.{Action}
 use Rattle.cert_text.specs.declared.scan.Action.TheVariants as actions
-use Rattle.cert_text.specs.declared.scan.Given.{Given}
 use Rattle.cert_text.specs.declared.scan.Given.TheVariants as givens
 use Rattle.cert_text.specs.Control.{give, give_at}
 use Rattle.cert_text.specs.Letters.{is_blank}
 use Rattle.cert_text.specs.Tree.{Built, applied}
-use Rattle.cert_text.specs.Reading.{State, going, malformed, over, whole, idle, after, start, is_whole}
+use Rattle.cert_text.specs.Reading.{State, going, malformed, over, whole, after, start}
 use Rattle.cert_text.specs.Run.{scan_at}
-use Rattle.cert_text.specs.Grammar.{Written, tree_tokens, block_tokens, IsProper}
+use Rattle.cert_text.specs.Grammar.{tree_tokens}
 use Rattle.cert_text.specs.Held.{Held}
 use Rattle.cert_laws.specs.Spelled.{AreAll, IsSpelling, EndsAt, IsFront}
 use Rattle.cert_laws.specs.Limits.{block_marks}
@@ -30,7 +29,7 @@ use Rattle.cert_laws.proofs.Follows.{as_read, IsQuiet, Follows}
 use Rattle.cert_laws.proofs.TreeFollows.{block_follows}
 use Rattle.cert_laws.proofs.Told.{Reads, HasEnded, Last, l_open, l_wrong, l_over, l_whole, Told}
 use Rattle.cert_laws.proofs.Telling.{told}
-use Rattle.cert_laws.proofs.Tails.{in_front, Tail, TailOf, inside_to, tail_back}
+use Rattle.cert_laws.proofs.Tails.{in_front, inside_to, tail_back}
 use Rattle.cert_laws.proofs.Opens.{IsClear, clear_ends, spell}
 use Rattle.cert_laws.proofs.Begun.{Start, none_built, is_next, IsSome, some_joined}
 use Rattle.cert_laws.proofs.Marks.{exact_over, tokens_back, first_marked}
@@ -146,9 +145,13 @@ module _ (h : Held) (n : h.number < 2 ^ 32) where
       let all = ap (λ k. tokens.Word words.Cert ∷ k) (sym (d.1 ∙ ap (λ k. tokens.Number h.number ∷ k) (tree.2 ∙ ap (tree_tokens w) (none_open second 0 tree.1 tree.4 refl)))) in
       let follows = subst (λ k. Follows k (block_marks w) (scan_at h.number second (wants.Block flag) 0 0)) all (block_follows h.number second flag w wider tree.3) in
       let marked = first_marked (tokens.Word words.Cert ∷ us) bs next t l.0 (block_marks w) (scan_at h.number second (wants.Block flag) 0 0) none_built s b n rd follows g in
-      let ended = has_ended t rest (marked_loud (tokens.Word words.Cert ∷ us) t l.0 (block_marks w) (scan_at h.number second (wants.Block flag) 0 0) follows marked) e in
-      (ended.0, ended.1, ended.2, begins_ended front ts blanks cs rest t s b l.0 r st.2 c sp l.1 l.2,
-      (header, head, bs, blanks, w, tokens.Word words.Cert ∷ us, t, l.0, ap (λ xs. xs ++ blanks) fe ∙ append_assoc head bs blanks, ff, taken_spells (tokens.Word words.Cert ∷ us) bs next (scan_at h.number second (wants.Block flag) 0 0) none_built s b rd, c, sp, all, tree.3, marked))
+      let ended = has_ended t rest (marked_loud (tokens.Word words.Cert ∷ us) t l.0 (block_marks w) (scan_at h.number second (wants.Block flag) 0 0) follows marked) e in (
+        ended.0,
+        ended.1,
+        ended.2,
+        begins_ended front ts blanks cs rest t s b l.0 r st.2 c sp l.1 l.2,
+        (header, head, bs, blanks, w, tokens.Word words.Cert ∷ us, t, l.0, ap (λ xs. xs ++ blanks) fe ∙ append_assoc head bs blanks, ff, taken_spells (tokens.Word words.Cert ∷ us) bs next (scan_at h.number second (wants.Block flag) 0 0) none_built s b rd, c, sp, all, tree.3, marked),
+      )
 
   anywhere : (front : List ℕ) (ts : List Token) (blanks cs rest : List ℕ) (t : Token) (s : Scan) (b : Built) → Taken front ts (blanks ++ (cs ++ rest)) s b → AreAll is_blank blanks → IsSpelling cs t → HasEnded t rest → give s (as_read t) ≡ givens.Over → Fronts h front (blanks ++ (cs ++ rest)) ts s b → Found (front ++ blanks) cs rest
   anywhere front ts blanks cs rest t s b r c sp e g (f_none a v q) = absurd (outside_over s.want s (as_read t) (ap (λ x. is_inside x.want) q) g)

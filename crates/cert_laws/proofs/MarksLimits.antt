@@ -1,6 +1,6 @@
 -- The marks of a block's tokens are the limits of the grammar: the control passes a limit where a token is marked, and where the
 -- tree is over one.
-use Rattle.std.proofs.Common.{◌≡◌, ℕ, ◌+◌, Bool, true, false, cond, ◌⊎◌, inl, inr, List, [], ◌∷◌, ◌++◌, refl, sym, ap, ◌∙◌, subst, arith}
+use Rattle.std.proofs.Common.{◌≡◌, ◌+◌, Bool, true, false, cond, ◌⊎◌, inl, inr, List, [], ◌∷◌, ◌++◌, refl, sym, ap, ◌∙◌, subst, arith}
 use Rattle.cert_text.specs.declared.scan.Token.{Token}
 use Rattle.cert_text.specs.declared.scan.Want.TheVariants as wants
 use Rattle.cert_text.specs.declared.scan.Scan.{Scan}
@@ -12,8 +12,8 @@ use Rattle.cert_text.specs.Run.{Run, on, wrong, passed, go, run, scan_at}
 use Rattle.cert_text.proofs.LeafReads.{built_at}
 use Rattle.cert_text.proofs.TreeReads.{block_read}
 use Rattle.cert_laws.specs.Limits.{block_marks}
-use Rattle.cert_laws.specs.Refused.{HasNoMark, IsFirstMarked, Exactly}
-use Rattle.cert_laws.proofs.Follows.{Follows, as_read}
+use Rattle.cert_laws.specs.Refused.{HasNoMark, Exactly}
+use Rattle.cert_laws.proofs.Follows.{Follows}
 use Rattle.cert_laws.proofs.TreeFollows.{block_follows}
 use Rattle.cert_laws.proofs.Forward.{Marked, find, first_taken, run_all, run_marked}
 use Rattle.cert_laws.proofs.Marks.{exact_over}

@@ -1,20 +1,18 @@
 -- A text of the next block, limits aside, is never refused as wrong: it is read whole, or refused at its first token that passes
 -- a limit. So nothing that is refused as wrong begins such a text.
-use Rattle.std.proofs.Common.{◌≡◌, ℕ, suc, ◌+◌, ◌<◌, ◌^◌, Bool, true, false, cond, ◌||◌, ◌⊎◌, inl, inr, List, [], ◌∷◌, ◌++◌, length, refl, sym, ap, ◌∙◌, subst, arith, append_assoc}
+use Rattle.std.proofs.Common.{◌≡◌, ℕ, ◌+◌, ◌<◌, ◌^◌, Bool, true, false, ◌||◌, ◌⊎◌, inl, inr, List, [], ◌∷◌, ◌++◌, length, refl, sym, ap, ◌∙◌, subst, arith, append_assoc}
 use Rattle.std.proofs.lemmas.List.{length-append}
 use Rattle.cert_text.specs.declared.scan.Word.TheVariants as words
 use Rattle.cert_text.specs.declared.scan.Token.{Token}
 use Rattle.cert_text.specs.declared.scan.Token.TheVariants as tokens
 use Rattle.cert_text.specs.declared.scan.Want.TheVariants as wants
 use Rattle.cert_text.specs.declared.scan.Scan.{Scan}
-use Rattle.cert_text.specs.declared.scan.Action.{Action}
-use Rattle.cert_text.specs.declared.scan.Given.{Given}
 use Rattle.cert_text.specs.declared.scan.Given.TheVariants as givens
 use Rattle.cert_text.specs.Control.{give}
 use Rattle.cert_text.specs.Letters.{is_blank}
 use Rattle.cert_text.specs.Tree.{Built, applied}
 use Rattle.cert_text.specs.Reading.{State, going, malformed, over, whole, idle, after, start, is_whole}
-use Rattle.cert_text.specs.Run.{Run, on, wrong, passed, go, run, scan_at}
+use Rattle.cert_text.specs.Run.{Run, on, wrong, passed, run, scan_at}
 use Rattle.cert_text.specs.Grammar.{Written, IsProper, block_tokens, tree_tokens, tree_over}
 use Rattle.cert_text.specs.Held.{Held}
 use Rattle.cert_text.proofs.Stopping.{stopped_after, after-append}
@@ -24,12 +22,12 @@ use Rattle.cert_laws.specs.Refused.{IsFirstMarked, HasNoMark, IsNext, Begins}
 use Rattle.cert_laws.proofs.Givens.{is_inside, OnlyOn}
 use Rattle.cert_laws.proofs.Lexing.{blanks_read}
 use Rattle.cert_laws.proofs.BlockRead.{regrouped, whole_is, block_tokens_read, first_byte}
-use Rattle.cert_laws.proofs.HeaderRead.{header_taken, first_start, Before, Behind}
+use Rattle.cert_laws.proofs.HeaderRead.{header_taken, first_start, Behind}
 use Rattle.cert_laws.proofs.Stays.{Stays, stays}
 use Rattle.cert_laws.proofs.Follows.{as_read, Follows, IsQuiet}
 use Rattle.cert_laws.proofs.LastToken.{last_is}
 use Rattle.cert_laws.proofs.MarksLimits.{marks-limits}
-use Rattle.cert_laws.proofs.Begun.{first_of, Start, none_built, joins_more}
+use Rattle.cert_laws.proofs.Begun.{first_of, none_built, joins_more}
 use Rattle.cert_laws.proofs.TreeFollows.{block_follows}
 use Rattle.cert_laws.proofs.TokenReads.{token_over}
 use Rattle.cert_laws.proofs.Forward.{SpelledTo, IsSome, some_behind, reads_block, Marked, find, run_all, run_marked, first_taken}

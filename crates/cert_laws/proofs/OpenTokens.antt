@@ -1,11 +1,10 @@
 -- In the midst of a word or of a number that the machine has not refused, letters or digits lead on to one that may stand there.
-use Rattle.std.proofs.Common.{◌≡◌, ℕ, zero, suc, ◌+◌, ◌-◌, ◌*◌, ◌/◌, ◌%◌, ◌^◌, ◌<◌, ◌≤◌, Bool, true, false, cond, ◌&&◌, ◌||◌, ◌⊎◌, inl, inr, List, [], ◌∷◌, ◌++◌, length, drop, refl, sym, ap, ◌∙◌, subst, arith, codes, nat_lt, nat_le, nat_eq, ◌==◌, append_assoc}
+use Rattle.std.proofs.Common.{◌≡◌, ℕ, ◌+◌, ◌-◌, ◌*◌, ◌/◌, ◌%◌, ◌^◌, ◌<◌, ◌≤◌, Bool, true, false, cond, ◌&&◌, ◌||◌, inl, inr, List, [], ◌∷◌, ◌++◌, length, drop, refl, sym, ap, ◌∙◌, subst, arith, codes, nat_lt, nat_le, nat_eq, ◌==◌, append_assoc}
 use Rattle.std.proofs.lemmas.Bool.Decides.{nat_tests, Decides-eqb}
 use Rattle.std.proofs.lemmas.Slice.Eq.{starts_is}
 use Rattle.std.specs.List.{starts_with}
 use Rattle.cert_text.specs.declared.scan.Word.{Word}
 use Rattle.cert_text.specs.declared.scan.Word.TheVariants as words
-use Rattle.cert_text.specs.declared.scan.Token.{Token}
 use Rattle.cert_text.specs.declared.scan.Token.TheVariants as tokens
 use Rattle.cert_text.specs.declared.scan.Want.{Want}
 use Rattle.cert_text.specs.declared.scan.Want.TheVariants as wants
@@ -14,18 +13,17 @@ use Rattle.cert_text.specs.declared.scan.Action.{Action}
 use Rattle.cert_text.specs.declared.scan.Action.TheVariants as actions
 use Rattle.cert_text.specs.declared.scan.Given.{Given}
 use Rattle.cert_text.specs.declared.scan.Given.TheVariants as givens
-use Rattle.cert_text.specs.Control.{give, give_at, begins, begins_tree, is_full, fits_word_at, fits_number_at, begins_number}
+use Rattle.cert_text.specs.Control.{give_at, begins, begins_tree, is_full, fits_word_at, fits_number_at, begins_number}
 use Rattle.cert_text.specs.Letters.{is_blank, is_digit}
 use Rattle.cert_text.specs.Run.{scan_at}
-use Rattle.cert_text.specs.Spelling.{digits_in}
-use Rattle.cert_laws.specs.Spelled.{letters_of, AreAll, value_behind, IsSpelling}
+use Rattle.cert_laws.specs.Spelled.{letters_of, AreAll, value_behind}
 use Rattle.cert_laws.proofs.Givens.{is_inside}
 use Rattle.cert_laws.proofs.Prefixes.{Begins, begins_told}
 use Rattle.cert_laws.proofs.Writing.{digits_are}
 use Rattle.cert_laws.proofs.Follows.{stopped}
 use Rattle.cert_laws.proofs.Seams.{IsDigits, stopped_small}
-use Rattle.cert_laws.proofs.Tails.{Tail, ANumber, begins_block, begins_header}
-use Rattle.cert_laws.proofs.Opens.{is_wrong, IsClear, wide, number_starts, behind_starts, header_number_starts, token_tail}
+use Rattle.cert_laws.proofs.Tails.{Tail, begins_block, begins_header}
+use Rattle.cert_laws.proofs.Opens.{is_wrong, wide, number_starts, behind_starts, header_number_starts, token_tail}
 
 no_truth : false ≡ true → ⊥
 no_truth h = cc

@@ -1,29 +1,25 @@
 -- From each point that the machine reaches within a text, bytes lead on to a block: behind blanks, and in the midst of a word or
 -- of a number that the machine has not refused.
-use Rattle.std.proofs.Common.{◌≡◌, ℕ, zero, suc, ◌+◌, ◌-◌, ◌*◌, ◌/◌, ◌%◌, ◌^◌, ◌<◌, ◌≤◌, Bool, true, false, cond, ◌&&◌, ◌||◌, ◌⊎◌, inl, inr, List, [], ◌∷◌, ◌++◌, length, drop, refl, sym, ap, ◌∙◌, subst, arith, codes, nat_lt, nat_le, nat_eq, ◌==◌, append_assoc}
-use Rattle.std.proofs.lemmas.Bool.Decides.{nat_tests, Decides-eqb}
-use Rattle.std.proofs.lemmas.Slice.Eq.{starts_is}
+use Rattle.std.proofs.Common.{◌≡◌, ℕ, zero, suc, ◌+◌, ◌*◌, ◌^◌, ◌<◌, Bool, true, false, ◌⊎◌, inl, inr, List, [], ◌∷◌, ◌++◌, refl, sym, ap, ◌∙◌, subst, arith}
 use Rattle.std.proofs.Math.Nat.{pow-suc}
-use Rattle.cert_text.specs.declared.scan.Word.{Word}
 use Rattle.cert_text.specs.declared.scan.Word.TheVariants as words
 use Rattle.cert_text.specs.declared.scan.Token.{Token}
 use Rattle.cert_text.specs.declared.scan.Token.TheVariants as tokens
 use Rattle.cert_text.specs.declared.scan.Want.{Want}
 use Rattle.cert_text.specs.declared.scan.Want.TheVariants as wants
-use Rattle.cert_text.specs.declared.scan.Scan.{Scan}
 use Rattle.cert_text.specs.declared.scan.Given.{Given}
 use Rattle.cert_text.specs.declared.scan.Given.TheVariants as givens
-use Rattle.cert_text.specs.Control.{give, give_at, begins, begins_tree, fits_word_at, fits_number_at}
-use Rattle.cert_text.specs.Letters.{is_blank, is_digit}
+use Rattle.cert_text.specs.Control.{give_at}
+use Rattle.cert_text.specs.Letters.{is_blank}
 use Rattle.cert_text.specs.Reading.{is_whole}
 use Rattle.cert_text.specs.Run.{scan_at}
 use Rattle.cert_text.specs.Spelling.{digits_in}
-use Rattle.cert_laws.specs.Spelled.{letters_of, AreAll, value_behind, IsSpelling, EndsAt, Spells}
+use Rattle.cert_laws.specs.Spelled.{letters_of, AreAll, IsSpelling, EndsAt, Spells}
 use Rattle.cert_laws.proofs.Givens.{is_inside}
 use Rattle.cert_laws.proofs.Writing.{digits_are}
 use Rattle.cert_laws.proofs.Ends.{Completes, AreSpellable, IsStarted, ending, ending_starts}
 use Rattle.cert_laws.proofs.Leads.{Leads, leads}
-use Rattle.cert_laws.proofs.Tails.{in_front, Tail, TailOf, Inside, inside_to, ABlock, ANumber, ABehind, begins_block, begins_header}
+use Rattle.cert_laws.proofs.Tails.{in_front, Tail, Inside, inside_to, ABlock, ANumber, ABehind, begins_block}
 
 no_truth : false ≡ true → ⊥
 no_truth h = cc

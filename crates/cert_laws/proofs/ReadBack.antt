@@ -6,12 +6,12 @@ use Rattle.cert_text.specs.declared.scan.Want.TheVariants as wants
 use Rattle.cert_text.specs.declared.scan.Scan.{Scan}
 use Rattle.cert_text.specs.Tree.{Built}
 use Rattle.cert_text.specs.Reading.{State, going, malformed, over, whole, after, start}
-use Rattle.cert_text.specs.Answer.{Answer, block, need, no_more, malformed_at, limit_at, blank_end}
+use Rattle.cert_text.specs.Answer.{Answer, block, need, blank_end}
 use Rattle.cert_text.specs.Held.{Held, answer_of, taken_from}
-use Rattle.cert_text.specs.Grammar.{Written, IsBlock, block_tokens, meaning, tree_over, IsProper}
+use Rattle.cert_text.specs.Grammar.{Written, IsBlock, block_tokens, meaning, tree_over}
 use Rattle.cert_text.proofs.Stopping.{after-append}
 use Rattle.cert_laws.specs.Spelled.{Spells, IsFront}
-use Rattle.cert_laws.specs.Refused.{standing, IsNext}
+use Rattle.cert_laws.specs.Refused.{standing}
 use Rattle.cert_laws.proofs.BlockRead.{block-answered}
 use Rattle.cert_laws.proofs.HeaderRead.{header-answered}
 use Rattle.cert_laws.proofs.NeverWrong.{IsEnd, text_ends}

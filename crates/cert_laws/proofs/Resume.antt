@@ -1,5 +1,5 @@
 -- Where tokens were taken, other bytes may follow them: the machine goes on from where they lead.
-use Rattle.std.proofs.Common.{◌≡◌, ℕ, ◌+◌, ◌-◌, ◌*◌, ◌<◌, ◌^◌, Bool, true, false, cond, List, [], ◌∷◌, ◌++◌, length, refl, sym, ap, ◌∙◌, subst, arith, codes, ◌==◌}
+use Rattle.std.proofs.Common.{◌≡◌, ℕ, ◌+◌, ◌<◌, ◌^◌, Bool, true, false, List, [], ◌∷◌, ◌++◌, length, refl, sym, ap, ◌∙◌, subst, arith}
 use Rattle.cert_text.specs.declared.scan.Word.{Word}
 use Rattle.cert_text.specs.declared.scan.Word.TheVariants as words
 use Rattle.cert_text.specs.declared.scan.Token.{Token}
@@ -8,18 +8,16 @@ use Rattle.cert_text.specs.declared.scan.Want.{Want}
 use Rattle.cert_text.specs.declared.scan.Want.TheVariants as wants
 use Rattle.cert_text.specs.declared.scan.Scan.{Scan}
 use Rattle.cert_text.specs.declared.scan.Action.{Action}
-use Rattle.cert_text.specs.declared.scan.Given.{Given}
 use Rattle.cert_text.specs.declared.scan.Given.TheVariants as givens
-use Rattle.cert_text.specs.declared.progress.Stage.TheVariants as stages
 use Rattle.cert_text.specs.Control.{give, give_at, begins}
 use Rattle.cert_text.specs.Letters.{is_digit}
 use Rattle.cert_text.specs.Tree.{Built, applied}
-use Rattle.cert_text.specs.Reading.{going, idle, letters, digits, step, after, staged, is_whole, token_taken, and_begun}
+use Rattle.cert_text.specs.Reading.{going, idle, step, after, is_whole, token_taken, and_begun}
 use Rattle.cert_text.specs.Run.{scan_at}
 use Rattle.cert_text.proofs.Stopping.{after-append}
-use Rattle.cert_laws.specs.Spelled.{letters_of, AreAll, value_behind, IsSpelling, EndsAt}
-use Rattle.cert_laws.proofs.Givens.{is_inside, OnlyOn, Reads, cert_reads}
-use Rattle.cert_laws.proofs.Lexing.{sign_step, ended, word_ends, number_ends, first_digit, digit_step}
+use Rattle.cert_laws.specs.Spelled.{letters_of, value_behind, IsSpelling, EndsAt}
+use Rattle.cert_laws.proofs.Givens.{OnlyOn, Reads, cert_reads}
+use Rattle.cert_laws.proofs.Lexing.{ended, word_ends, number_ends, first_digit, digit_step}
 use Rattle.cert_laws.proofs.BlockRead.{whole_is}
 use Rattle.cert_laws.proofs.Stays.{Keeps, number_keeps}
 use Rattle.cert_laws.proofs.Seams.{IsExact}

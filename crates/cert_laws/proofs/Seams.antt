@@ -1,12 +1,12 @@
 -- What stands at the end of one token and at the beginning of the next; and numbers that stand still, digit by digit.
-use Rattle.std.proofs.Common.{◌≡◌, ℕ, suc, ◌+◌, ◌-◌, ◌*◌, ◌^◌, ◌<◌, Bool, true, false, ◌&&◌, ◌||◌, List, [], ◌∷◌, ◌++◌, refl, sym, ap, ◌∙◌, subst, arith, nat_lt, nat_le, ◌==◌, min}
+use Rattle.std.proofs.Common.{◌≡◌, ℕ, ◌+◌, ◌-◌, ◌*◌, ◌^◌, ◌<◌, true, false, ◌&&◌, ◌||◌, List, [], ◌∷◌, ◌++◌, refl, sym, ap, ◌∙◌, arith, ◌==◌}
 use Rattle.std.proofs.lemmas.Bool.Decides.{nat_tests}
 use Rattle.cert_text.specs.declared.scan.Token.{Token}
 use Rattle.cert_text.specs.declared.scan.Token.TheVariants as tokens
 use Rattle.cert_text.specs.declared.scan.Want.{Want}
 use Rattle.cert_text.specs.declared.scan.Want.TheVariants as wants
 use Rattle.cert_text.specs.Control.{fits_number_at}
-use Rattle.cert_text.specs.Letters.{is_blank, is_letter, is_digit, grown}
+use Rattle.cert_text.specs.Letters.{is_letter, is_digit, grown}
 use Rattle.cert_laws.specs.Spelled.{AreAll, value_behind}
 use Rattle.cert_laws.specs.Refused.{runs_on}
 use Rattle.cert_laws.proofs.Follows.{stopped}

@@ -1,21 +1,18 @@
 -- The answer by where what is held leads as it stands: a finished text, with a blank behind it.
-use Rattle.std.proofs.Common.{◌≡◌, ℕ, ◌+◌, Bool, true, false, cond, ◌||◌, List, [], ◌∷◌, ◌++◌, length, refl, sym, ap, ◌∙◌, subst, Option, Some, None, ◌==◌, nat_lt, nat_le}
+use Rattle.std.proofs.Common.{◌≡◌, ℕ, ◌+◌, Bool, true, false, cond, ◌||◌, [], ◌∷◌, ◌++◌, length, refl, sym, ap, ◌∙◌, Option, Some, None, ◌==◌, nat_lt, nat_le}
 use Rattle.cert_text.specs.declared.scan.Word.{Word}
 use Rattle.cert_text.specs.declared.scan.Word.TheVariants as words
-use Rattle.cert_text.specs.declared.scan.Token.{Token}
 use Rattle.cert_text.specs.declared.scan.Token.TheVariants as tokens
 use Rattle.cert_text.specs.declared.scan.Want.{Want}
 use Rattle.cert_text.specs.declared.scan.Want.TheVariants as wants
 use Rattle.cert_text.specs.declared.scan.Scan.{Scan}
-use Rattle.cert_text.specs.declared.scan.Action.{Action}
 use Rattle.cert_text.specs.declared.scan.Given.{Given}
 use Rattle.cert_text.specs.declared.scan.Given.TheVariants as givens
 use Rattle.cert_text.specs.declared.progress.Stage.TheVariants as stages
 use Rattle.cert_text.specs.Control.{give, give_at, word_of, is_full}
 use Rattle.cert_text.specs.Tree.{Built, applied, last_tree}
-use Rattle.cert_text.specs.Reading.{State, Pending, going, malformed, over, whole, idle, letters, digits, step, after, start, staged, is_whole, token_taken, word_ended, and_begun}
-use Rattle.cert_text.specs.Run.{scan_at}
-use Rattle.cert_text.specs.Answer.{Answer, block, need, no_more, malformed_at, limit_at, at_end, judged, word_judged, blank_end}
+use Rattle.cert_text.specs.Reading.{State, going, malformed, over, whole, idle, letters, digits, step, after, start, staged, is_whole, token_taken, word_ended, and_begun}
+use Rattle.cert_text.specs.Answer.{Answer, block, need, malformed_at, limit_at, at_end, judged, word_judged, blank_end}
 use Rattle.cert_text.specs.Held.{Held, answer_of, answer_at, outcome}
 use Rattle.cert_text.proofs.Stopping.{after-append}
 use Rattle.cert_laws.specs.Refused.{standing}

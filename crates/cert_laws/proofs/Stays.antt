@@ -43,7 +43,6 @@ tree_stays scan end (tokens.Word words.Version) = tt
 tree_stays scan end (tokens.Number n) = tt
 tree_stays scan end (tokens.Sign c) = on_if (Stays scan) (c == 125) _ _ (λ e. on_if (Stays scan) (end && nat_lt 0 scan.depth) _ _ (λ f. behind_stays scan (scan.depth - 1) actions.Leave) (λ f. tt)) (λ e. tt)
 
-
 pub stays : (want : Want) (scan : Scan) (t : Token) → is_inside want ≡ true → OnlyOn (Stays scan) (give_at want scan t)
 stays (wants.Block header) scan t i = absurd (no_truth i)
 stays wants.HeaderNumber scan t i = absurd (no_truth i)

@@ -1,7 +1,6 @@
 -- Bytes that complete a text of the next block from what may stand next; and how they grow by the tokens in front of them.
-use Rattle.std.proofs.Common.{◌≡◌, ℕ, ◌+◌, ◌<◌, ◌^◌, Bool, true, false, cond, ◌⊎◌, inl, inr, List, [], ◌∷◌, ◌++◌, refl, sym, ap, ◌∙◌, subst, arith, codes, ◌==◌}
+use Rattle.std.proofs.Common.{◌≡◌, ℕ, Bool, true, false, cond, ◌⊎◌, inl, inr, List, [], ◌∷◌, ◌++◌, refl, sym, ap, ◌∙◌, subst, arith, codes, ◌==◌}
 use Rattle.std.proofs.lemmas.Bool.Decides.{nat_tests}
-use Rattle.cert_text.specs.declared.scan.Word.{Word}
 use Rattle.cert_text.specs.declared.scan.Word.TheVariants as words
 use Rattle.cert_text.specs.declared.scan.Token.{Token}
 use Rattle.cert_text.specs.declared.scan.Token.TheVariants as tokens
@@ -9,21 +8,20 @@ use Rattle.cert_text.specs.declared.scan.Want.{Want}
 use Rattle.cert_text.specs.declared.scan.Want.TheVariants as wants
 use Rattle.cert_text.specs.declared.scan.Scan.{Scan}
 use Rattle.cert_text.specs.declared.scan.Action.{Action}
-use Rattle.cert_text.specs.declared.scan.Action.TheVariants as actions
 use Rattle.cert_text.specs.declared.scan.Given.{Given}
 use Rattle.cert_text.specs.declared.scan.Given.TheVariants as givens
 use Rattle.cert_text.specs.Control.{give, give_at}
-use Rattle.cert_text.specs.Letters.{is_blank, is_letter, is_digit}
+use Rattle.cert_text.specs.Letters.{is_blank}
 use Rattle.cert_text.specs.Tree.{Built, applied}
 use Rattle.cert_text.specs.Run.{scan_at}
 use Rattle.cert_text.specs.Grammar.{Written, tree_tokens, IsProper}
-use Rattle.cert_laws.specs.Spelled.{letters_of, AreAll, IsSpelling, EndsAt, Spells, IsHeader}
+use Rattle.cert_laws.specs.Spelled.{AreAll, IsSpelling, EndsAt, Spells, IsHeader}
 use Rattle.cert_laws.proofs.Givens.{is_inside, OnlyOn}
 use Rattle.cert_laws.proofs.Stays.{Keeps, number_keeps, Stays, stays}
 use Rattle.cert_laws.proofs.BlockRead.{regrouped}
 use Rattle.cert_laws.proofs.HeaderRead.{regrouped as header_regrouped}
 use Rattle.cert_laws.proofs.Ends.{Goes, Completes}
-use Rattle.cert_laws.proofs.Leads.{Leads, Done, leads}
+use Rattle.cert_laws.proofs.Leads.{Leads, leads}
 use Rattle.cert_laws.proofs.Seams.{IsExact}
 use Rattle.cert_laws.proofs.Told.{Reads}
 
@@ -113,10 +111,13 @@ module _ (number : ℕ) where
       let e = n.4 in
       let between = n.0 in
       let behind = e.0 in
-      let text = between ++ 50 ∷ (behind ++ 59 ∷ []) in
-      (blanks ++ (codes "version" ++ text), e.1,
-      ap (λ xs. blanks ++ (xs ++ rest)) sp ∙ ap (λ xs. blanks ++ (codes "version" ++ xs)) (n.2 ∙ ap (λ xs. between ++ 50 ∷ xs) e.2) ∙ sym (header_regrouped blanks between behind e.1),
-      (blanks, between, behind, refl, b, n.3, e.3), e.4)
+      let text = between ++ 50 ∷ (behind ++ 59 ∷ []) in (
+        blanks ++ (codes "version" ++ text),
+        e.1,
+        ap (λ xs. blanks ++ (xs ++ rest)) sp ∙ ap (λ xs. blanks ++ (codes "version" ++ xs)) (n.2 ∙ ap (λ xs. between ++ 50 ∷ xs) e.2) ∙ sym (header_regrouped blanks between behind e.1),
+        (blanks, between, behind, refl, b, n.3, e.3),
+        e.4,
+      )
 
   step_block : (second header : Bool) (d trees : ℕ) (t : Token) (s1 : Scan) (a : Action) (blanks cs rest : List ℕ) → give_at (wants.Block header) (scan_at number second (wants.Block header) d trees) t ≡ givens.On s1 a → Front blanks cs rest t (wants.Block header) → TailOf s1 rest → Tail second (wants.Block header) d (blanks ++ (cs ++ rest))
   step_block second header d trees (tokens.Word words.Cert) s1 a blanks cs rest e f h =

@@ -1,7 +1,6 @@
 -- What the machine does with any bytes can be told in tokens.
-use Rattle.std.proofs.Common.{◌≡◌, ℕ, suc, ◌+◌, ◌<◌, ◌^◌, Bool, true, false, cond, ◌&&◌, ◌⊎◌, inl, inr, List, [], ◌∷◌, ◌++◌, length, refl, sym, ap, ◌∙◌, subst, arith, nat_lt, Option, Some, None, append_assoc}
+use Rattle.std.proofs.Common.{◌≡◌, ℕ, ◌+◌, ◌<◌, ◌^◌, Bool, true, false, cond, ◌&&◌, inl, inr, List, [], ◌∷◌, ◌++◌, length, refl, sym, ap, ◌∙◌, subst, arith, nat_lt, Option, Some, None, append_assoc}
 use Rattle.std.proofs.lemmas.List.{length-append, append-nil}
-use Rattle.std.proofs.lemmas.Bool.Decides.{nat_tests}
 use Rattle.cert_text.specs.declared.scan.Word.{Word}
 use Rattle.cert_text.specs.declared.scan.Token.{Token}
 use Rattle.cert_text.specs.declared.scan.Token.TheVariants as tokens
@@ -10,7 +9,7 @@ use Rattle.cert_text.specs.declared.scan.Action.{Action}
 use Rattle.cert_text.specs.declared.scan.Given.{Given}
 use Rattle.cert_text.specs.declared.scan.Given.TheVariants as givens
 use Rattle.cert_text.specs.declared.progress.Stage.TheVariants as stages
-use Rattle.cert_text.specs.Control.{give, give_at, fits_word, fits_number, word_of}
+use Rattle.cert_text.specs.Control.{give, fits_word, fits_number, word_of}
 use Rattle.cert_text.specs.Letters.{is_blank, is_letter, is_digit, grown}
 use Rattle.cert_text.specs.Tree.{Built, applied}
 use Rattle.cert_text.specs.Reading.{State, Pending, going, malformed, over, whole, idle, letters, digits, step, after, begun, staged, is_whole, word_grown, number_grown, token_taken, word_ended, and_begun}
@@ -24,7 +23,7 @@ use Rattle.cert_laws.proofs.Writing.{all_more, ends_sign}
 use Rattle.cert_laws.proofs.Small.{IsSmall, small_number}
 use Rattle.cert_laws.proofs.Stays.{Keeps, number_keeps, on_then}
 use Rattle.cert_laws.proofs.Follows.{stopped, as_read}
-use Rattle.cert_laws.proofs.Told.{Reads, IsOpen, IsRefused, HasEnded, Last, l_open, l_wrong, l_over, l_whole, Told, last_told, blank_told, token_told}
+use Rattle.cert_laws.proofs.Told.{IsOpen, IsRefused, HasEnded, l_open, l_wrong, l_over, l_whole, Told, last_told, blank_told, token_told}
 
 no_truth : false ≡ true → ⊥
 no_truth h = cc

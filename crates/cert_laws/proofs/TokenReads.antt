@@ -1,6 +1,6 @@
 -- Forward, one token: a token that is taken is read by its bytes and ended by the next byte; one that passes a limit is refused
 -- for it there.
-use Rattle.std.proofs.Common.{◌≡◌, ℕ, suc, ◌+◌, ◌-◌, ◌*◌, ◌^◌, ◌<◌, Bool, true, false, cond, ◌||◌, List, [], ◌∷◌, ◌++◌, length, refl, sym, ap, ◌∙◌, subst, arith, nat_lt, nat_le, ◌==◌}
+use Rattle.std.proofs.Common.{◌≡◌, ℕ, ◌+◌, ◌^◌, ◌<◌, Bool, true, false, cond, List, [], ◌∷◌, ◌++◌, length, refl, sym, ap, ◌∙◌, subst, arith, ◌==◌}
 use Rattle.std.proofs.lemmas.Bool.Decides.{nat_tests}
 use Rattle.cert_text.specs.declared.scan.Word.{Word}
 use Rattle.cert_text.specs.declared.scan.Word.TheVariants as words
@@ -16,7 +16,7 @@ use Rattle.cert_text.specs.declared.progress.Stage.TheVariants as stages
 use Rattle.cert_text.specs.Control.{give, give_at, fits_number}
 use Rattle.cert_text.specs.Letters.{is_digit, grown}
 use Rattle.cert_text.specs.Tree.{Built, applied}
-use Rattle.cert_text.specs.Reading.{going, malformed, over, idle, letters, digits, step, after, staged, is_whole, number_grown, token_taken, and_begun}
+use Rattle.cert_text.specs.Reading.{going, malformed, over, idle, digits, step, after, staged, is_whole, number_grown, token_taken, and_begun}
 use Rattle.cert_text.specs.Run.{scan_at}
 use Rattle.cert_text.proofs.Stopping.{stopped_after, after-append}
 use Rattle.cert_laws.specs.Spelled.{letters_of, AreAll, value_behind, IsSpelling, EndsAt}

@@ -1,16 +1,14 @@
 -- How the machine goes over bytes, told in tokens: the tokens that it takes, where they lead, and what becomes of the rest. The
 -- rest is blanks and perhaps a token of which more may come; or a token that is refused, or passes a limit, follows the blanks.
-use Rattle.std.proofs.Common.{◌≡◌, ℕ, suc, ◌+◌, ◌<◌, ◌^◌, Bool, true, false, cond, ◌&&◌, ◌⊎◌, inl, inr, List, [], ◌∷◌, ◌++◌, length, refl, sym, ap, ◌∙◌, subst, arith, nat_lt, Option, Some, None, append_assoc}
+use Rattle.std.proofs.Common.{◌≡◌, ℕ, ◌+◌, true, false, ◌⊎◌, List, [], ◌∷◌, ◌++◌, length, refl, sym, ap, ◌∙◌, subst, arith, append_assoc}
 use Rattle.std.proofs.lemmas.List.{length-append}
-use Rattle.cert_text.specs.declared.scan.Word.{Word}
 use Rattle.cert_text.specs.declared.scan.Token.{Token}
 use Rattle.cert_text.specs.declared.scan.Token.TheVariants as tokens
 use Rattle.cert_text.specs.declared.scan.Scan.{Scan}
 use Rattle.cert_text.specs.declared.scan.Action.{Action}
-use Rattle.cert_text.specs.declared.scan.Given.{Given}
 use Rattle.cert_text.specs.declared.scan.Given.TheVariants as givens
 use Rattle.cert_text.specs.Control.{give, fits_word, fits_number}
-use Rattle.cert_text.specs.Letters.{is_blank, is_letter, is_digit, grown}
+use Rattle.cert_text.specs.Letters.{is_blank, is_letter, is_digit}
 use Rattle.cert_text.specs.Tree.{Built, applied}
 use Rattle.cert_text.specs.Reading.{State, Pending, going, malformed, over, whole, idle, letters, digits, after, is_whole}
 use Rattle.cert_laws.specs.Spelled.{AreAll, value_behind, IsSpelling, EndsAt}

@@ -1,12 +1,8 @@
 -- Where the machine refuses something as wrong stands the first token with which no block is begun; and where it reads a block
 -- whole, what it has read is a text of it.
-use Rattle.std.proofs.Common.{◌≡◌, ℕ, ◌+◌, ◌<◌, ◌^◌, Bool, true, false, ◌||◌, ◌⊎◌, inl, inr, List, [], ◌∷◌, ◌++◌, length, refl, sym, ap, ◌∙◌, subst, arith, append_assoc}
+use Rattle.std.proofs.Common.{◌≡◌, ℕ, ◌+◌, ◌<◌, ◌^◌, true, false, inl, inr, List, [], ◌∷◌, ◌++◌, length, refl, sym, ap, ◌∙◌, subst, arith, append_assoc}
 use Rattle.std.proofs.lemmas.List.{length-append, append-nil}
-use Rattle.cert_text.specs.declared.scan.Word.TheVariants as words
 use Rattle.cert_text.specs.declared.scan.Token.{Token}
-use Rattle.cert_text.specs.declared.scan.Token.TheVariants as tokens
-use Rattle.cert_text.specs.declared.scan.Want.{Want}
-use Rattle.cert_text.specs.declared.scan.Want.TheVariants as wants
 use Rattle.cert_text.specs.declared.scan.Scan.{Scan}
 use Rattle.cert_text.specs.declared.scan.Action.{Action}
 use Rattle.cert_text.specs.declared.scan.Given.TheVariants as givens
@@ -23,7 +19,7 @@ use Rattle.cert_laws.proofs.BlockRead.{whole_is}
 use Rattle.cert_laws.proofs.Seams.{IsExact}
 use Rattle.cert_laws.proofs.Told.{Reads, IsRefused, Last, l_open, l_wrong, l_over, l_whole, Told}
 use Rattle.cert_laws.proofs.Telling.{told}
-use Rattle.cert_laws.proofs.Tails.{TailOf, Tail, step_back, tail_back}
+use Rattle.cert_laws.proofs.Tails.{Tail, step_back, tail_back}
 use Rattle.cert_laws.proofs.Begun.{Start, none_built, is_next, IsSome, some_joined, joins_blanks, same_number, front_begins}
 use Rattle.cert_laws.proofs.Forward.{some_behind}
 use Rattle.cert_laws.proofs.NeverWrong.{IsEnd, text_ends, wrong_begins_none}
@@ -110,10 +106,18 @@ module _ (h : Held) (n : h.number < 2 ^ 32) where
         let len = length-append front blanks in
         let spot : at + length blanks ≡ h.place + length (front ++ blanks) = omega (arith, p, len) in
         let stops = front_stops ts front blanks (cs ++ rest) (Start h) none_built s b r2 c in
-        let seam = ap (runs_on (front ++ blanks)) o.2 ∙ runs_first (front ++ blanks) o.0 o.1 (o.1 ++ rest) ∙ ap (λ l. runs_on (front ++ blanks) (l ++ rest)) (sym o.2) ∙ stops in
-        (front ++ blanks, cs, rest, f ∙ ap (λ l. front ++ l) k ∙ sym (append_assoc front blanks (cs ++ rest)), o, seam,
-        front_begins h ts front (blanks ++ (cs ++ rest)) blanks s b r2 c w (same_number ts front (blanks ++ (cs ++ rest)) (Start h) none_built s b r2),
-        no_limit front ts blanks cs rest s b r2 c w, none_goes_on front ts blanks cs rest s b r2 c w o (subst (λ m. IsRefused s b m cs rest) spot i), ap (place_in place) (sym e ∙ q) ∙ spot)
+        let seam = ap (runs_on (front ++ blanks)) o.2 ∙ runs_first (front ++ blanks) o.0 o.1 (o.1 ++ rest) ∙ ap (λ l. runs_on (front ++ blanks) (l ++ rest)) (sym o.2) ∙ stops in (
+          front ++ blanks,
+          cs,
+          rest,
+          f ∙ ap (λ l. front ++ l) k ∙ sym (append_assoc front blanks (cs ++ rest)),
+          o,
+          seam,
+          front_begins h ts front (blanks ++ (cs ++ rest)) blanks s b r2 c w (same_number ts front (blanks ++ (cs ++ rest)) (Start h) none_built s b r2),
+          no_limit front ts blanks cs rest s b r2 c w,
+          none_goes_on front ts blanks cs rest s b r2 c w o (subst (λ m. IsRefused s b m cs rest) spot i),
+          ap (place_in place) (sym e ∙ q) ∙ spot,
+        )
 
     by : Told bytes h.place (Start h) none_built (after h.place (start h.number h.second) bytes) → Wrong bytes place
     by r = from r.0 r.1 r.2 r.3 r.4 r.5 r.6 r.7 r.8 r.10 r.9

@@ -1,6 +1,6 @@
 -- Which tokens of a block pass a certificate limit: for each token, in their order, whether it does. That a tree has 400 trees
 -- round it, or 100,000 before it in its block, is told by its first word; that a leaf has 4,096 picks before it, by a row's number.
-use Rattle.std.specs.Prelude.{ℕ, ◌+◌, Bool, true, false, ◌||◌, nat_le, if◌then◌else◌, List, [], ◌∷◌}
+use Rattle.std.specs.Prelude.{ℕ, ◌+◌, Bool, false, ◌||◌, nat_le, if◌then◌else◌, List, [], ◌∷◌}
 use Rattle.cert_text.specs.Grammar.{Int, Written, Rows, w_absurd, w_farkas, w_linear, w_node, w_cut, w_last, w_and, tree_count, none_left, is_long, is_long_entry}
 
 -- the mark of a number with its sign; a sign passes no limit

@@ -1,6 +1,6 @@
 -- Why no block is answered. What is held is compared with the texts of the next block: its number is the next one, a header
 -- may stand before it where one may, and limits are left aside. Each answer says how far what is held begins such a text.
-use Rattle.std.specs.Prelude.{◌≡◌, ℕ, ◌+◌, ◌<◌, ◌^◌, Bool, true, false, ◌&&◌, ◌||◌, nat_lt, if◌then◌else◌, ◌⊎◌, List, [], ◌∷◌, ◌++◌, length}
+use Rattle.std.specs.Prelude.{◌≡◌, ℕ, ◌+◌, ◌<◌, ◌^◌, Bool, true, false, ◌&&◌, ◌||◌, if◌then◌else◌, ◌⊎◌, List, [], ◌∷◌, ◌++◌, length}
 use Rattle.cert_text.specs.declared.scan.Token.{Token}
 use Rattle.cert_text.specs.Letters.{is_blank, is_letter, is_digit}
 use Rattle.cert_text.specs.Grammar.{Written, IsProper, block_tokens, tree_over}

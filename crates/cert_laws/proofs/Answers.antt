@@ -1,22 +1,18 @@
 -- Why no block is answered: each answer tells the truth.
-use Rattle.std.proofs.Common.{◌≡◌, ℕ, ◌+◌, ◌<◌, ◌^◌, Bool, true, false, cond, ◌||◌, ◌⊎◌, inl, inr, List, [], ◌∷◌, ◌++◌, length, refl, sym, ap, ◌∙◌, subst, Option, Some, None}
+use Rattle.std.proofs.Common.{◌≡◌, ℕ, ◌+◌, ◌<◌, ◌^◌, Bool, true, false, cond, ◌||◌, ◌⊎◌, inl, inr, List, [], ◌∷◌, ◌++◌, length, refl, sym, ap, ◌∙◌, subst}
 use Rattle.std.proofs.lemmas.List.{append-nil}
-use Rattle.st_certificate.specs.Tree.{Tree}
-use Rattle.cert_text.specs.declared.scan.Word.{Word}
 use Rattle.cert_text.specs.declared.scan.Token.{Token}
 use Rattle.cert_text.specs.declared.scan.Token.TheVariants as tokens
 use Rattle.cert_text.specs.declared.scan.Want.{Want}
 use Rattle.cert_text.specs.declared.scan.Want.TheVariants as wants
 use Rattle.cert_text.specs.declared.scan.Scan.{Scan}
 use Rattle.cert_text.specs.declared.scan.Action.TheVariants as actions
-use Rattle.cert_text.specs.declared.scan.Given.{Given}
-use Rattle.cert_text.specs.declared.scan.Given.TheVariants as givens
 use Rattle.cert_text.specs.Control.{give, word_of}
 use Rattle.cert_text.specs.Letters.{is_blank}
 use Rattle.cert_text.specs.Tree.{Built, applied, last_tree}
 use Rattle.cert_text.specs.Reading.{State, Pending, going, malformed, over, whole, idle, letters, digits, after, start}
 use Rattle.cert_text.specs.Run.{scan_at}
-use Rattle.cert_text.specs.Answer.{Answer, block, need, no_more, malformed_at, limit_at, at_end, judged, word_judged, blank_end}
+use Rattle.cert_text.specs.Answer.{need, no_more, malformed_at, limit_at, at_end, blank_end}
 use Rattle.cert_text.specs.Grammar.{tree_over}
 use Rattle.cert_text.specs.Held.{Held, answer_of, answer_at, outcome}
 use Rattle.cert_laws.specs.Spelled.{AreAll, IsFront}
@@ -33,85 +29,10 @@ use Rattle.cert_laws.proofs.LimitRead.{limit_read}
 use Rattle.cert_laws.proofs.NeverWrong.{IsEnd, text_ends}
 use Rattle.cert_laws.proofs.WrongTold.{wrong_told}
 use Rattle.cert_laws.proofs.Standing.{settled, standing_answer}
+use Rattle.cert_laws.proofs.Apart.{need_end, need_wrong, need_limit, end_wrong, end_limit, wrong_limit, block_need, block_end, block_wrong, block_limit, place_in, blank_need, blank_limit, blank_wrong, blank_more, judged_more, word_more, if_finished}
 
 no_truth : false ≡ true → ⊥
 no_truth h = cc
-
--- answers that differ
-
-need_end : need ≡ no_more → ⊥
-need_end e = cc
-
-need_wrong : (p : ℕ) → need ≡ malformed_at p → ⊥
-need_wrong p e = cc
-
-need_limit : (p : ℕ) → need ≡ limit_at p → ⊥
-need_limit p e = cc
-
-end_wrong : (p : ℕ) → no_more ≡ malformed_at p → ⊥
-end_wrong p e = cc
-
-end_limit : (p : ℕ) → no_more ≡ limit_at p → ⊥
-end_limit p e = cc
-
-wrong_limit : (p m : ℕ) → malformed_at p ≡ limit_at m → ⊥
-wrong_limit p m e = cc
-
-pub block_need : (n : ℕ) (t : Tree) → block n t ≡ need → ⊥
-block_need n t e = cc
-
-pub block_end : (n : ℕ) (t : Tree) → block n t ≡ no_more → ⊥
-block_end n t e = cc
-
-pub block_wrong : (n : ℕ) (t : Tree) (p : ℕ) → block n t ≡ malformed_at p → ⊥
-block_wrong n t p e = cc
-
-pub block_limit : (n : ℕ) (t : Tree) (p : ℕ) → block n t ≡ limit_at p → ⊥
-block_limit n t p e = cc
-
-abbrev place_in : ℕ → Answer → ℕ
-place_in m (block n t) = m
-place_in m need = m
-place_in m no_more = m
-place_in m (malformed_at p) = p
-place_in m (limit_at p) = p
-
--- the end of a text
-
-blank_need : (want : Want) (end : ℕ) → blank_end want end ≡ need → ⊥
-blank_need (wants.Block header) end e = need_end (sym e)
-blank_need wants.HeaderNumber end e = need_wrong end (sym e)
-blank_need _ end e = need_wrong end (sym e)
-
-blank_limit : (want : Want) (end p : ℕ) → blank_end want end ≡ limit_at p → ⊥
-blank_limit (wants.Block header) end p e = end_limit p e
-blank_limit wants.HeaderNumber end p e = wrong_limit end p e
-blank_limit _ end p e = wrong_limit end p e
-
-blank_wrong : (want : Want) (end p : ℕ) → blank_end want end ≡ malformed_at p → end ≡ p
-blank_wrong (wants.Block header) end p e = absurd (end_wrong p e)
-blank_wrong wants.HeaderNumber end p e = ap (place_in end) e
-blank_wrong _ end p e = ap (place_in end) e
-
-blank_more : (want : Want) (end : ℕ) → blank_end want end ≡ no_more → (header : Bool) × (want ≡ wants.Block header)
-blank_more (wants.Block header) end e = (header, refl)
-blank_more wants.HeaderNumber end e = absurd (end_wrong end (sym e))
-blank_more _ end e = absurd (end_wrong end (sym e))
-
-judged_more : (g : Given) (place end : ℕ) → judged g place end ≡ no_more → ⊥
-judged_more (givens.On s a) place end e = end_wrong end (sym e)
-judged_more givens.Wrong place end e = end_wrong place (sym e)
-judged_more givens.Over place end e = end_limit place (sym e)
-
-word_more : (s : Scan) (w : Option Word) (place end : ℕ) → word_judged s w place end ≡ no_more → ⊥
-word_more s (Some w) place end e = judged_more (give s (tokens.Word w)) place end e
-word_more s None place end e = end_wrong place (sym e)
-
--- an answer that is looked for, by whether the text is finished
-
-if_finished : (P : Type 0) (c : Bool) (x y a : Answer) → (c ≡ true → x ≡ a → P) → (c ≡ false → y ≡ a → P) → cond c x y ≡ a → P
-if_finished P true x y a f g e = f refl e
-if_finished P false x y a f g e = g refl e
 
 module _ (h : Held) (n : h.number < 2 ^ 32) where
   abbrev from_start : List ℕ → State

@@ -25,7 +25,8 @@ use Rattle.cert_laws.proofs.Told.{Reads, IsOpen, Last, l_open, l_wrong, l_over, 
 use Rattle.cert_laws.proofs.Telling.{told}
 use Rattle.cert_laws.proofs.Tails.{TailOf, ABlock, Joins, tail_back}
 use Rattle.cert_laws.proofs.Opens.{tail_starts}
-use Rattle.cert_laws.proofs.OpenTokens.{opens_word, opens_number}
+use Rattle.cert_laws.proofs.OpenWords.{opens_word}
+use Rattle.cert_laws.proofs.OpenNumbers.{opens_number}
 
 pub both : (a second : Bool) → (a && cond second false true) ≡ true → (a ≡ true) × (second ≡ false)
 both true false h = (refl, refl)

@@ -1,7 +1,6 @@
 -- What a token that may stand leads to: with what completes the block behind it, the token completes the block before it; and a
 -- token that passes a limit has something that completes the block behind it, too. So each state of the control can be completed.
-use Rattle.std.proofs.Common.{◌≡◌, ℕ, ◌+◌, ◌-◌, ◌<◌, ◌≤◌, Bool, true, false, cond, ◌&&◌, ◌||◌, ◌⊎◌, inl, inr, List, [], ◌∷◌, refl, sym, ap, ◌∙◌, subst, arith, nat_lt, nat_le, ◌==◌}
-use Rattle.std.proofs.lemmas.Bool.Decides.{nat_tests}
+use Rattle.std.proofs.Common.{◌≡◌, ℕ, ◌+◌, ◌-◌, ◌<◌, Bool, true, false, cond, ◌&&◌, ◌||◌, ◌⊎◌, inl, inr, List, [], ◌∷◌, refl, sym, ap, ◌∙◌, subst, arith, nat_lt, nat_le, ◌==◌}
 use Rattle.cert_text.specs.declared.scan.Word.{Word}
 use Rattle.cert_text.specs.declared.scan.Word.TheVariants as words
 use Rattle.cert_text.specs.declared.scan.Branching.{Branching}
@@ -17,50 +16,13 @@ use Rattle.cert_text.specs.declared.scan.Given.{Given}
 use Rattle.cert_text.specs.declared.scan.Given.TheVariants as givens
 use Rattle.cert_text.specs.Control.{give_at, at_tree, behind, only_sign, is_full, picks_closed}
 use Rattle.cert_text.specs.Run.{scan_at}
-use Rattle.cert_text.specs.Grammar.{Int, int_tokens, picks_tokens, lines_tokens, more_terms, w_absurd, w_farkas, w_linear, w_node, w_cut, word_of_node}
+use Rattle.cert_text.specs.Grammar.{int_tokens, more_terms, w_absurd, w_farkas, w_linear, w_node, w_cut, word_of_node}
 use Rattle.cert_laws.proofs.Givens.{is_inside}
-use Rattle.cert_laws.proofs.Ends.{Goes, g_end, g_leave, g_tree, goes, ARow, row_from, ATree, ABrace, IsAllowed, AreAllowed, AMore, AnInt, APick, SomeTerms, AVariable, AColon, ACoefficient, AnEnd, Brackets, Completes, AreSpellable, ending}
+use Rattle.cert_laws.proofs.Ends.{Goes, g_end, g_leave, g_tree, goes, ARow, row_from, ATree, ABrace, IsAllowed, AMore, AnInt, APick, SomeTerms, AVariable, AColon, ACoefficient, AnEnd, Brackets, Completes, AreSpellable, ending}
+use Rattle.cert_laws.proofs.Plain.{plain_picks, int_plain, lines_plain, same_if, one_more, some_size, risen, not_zero, is_zero, left_one, both}
 
 no_truth : false ≡ true → ⊥
 no_truth h = cc
-
--- picks without signs are lines
-
-abbrev plain_picks : List (ℕ × Int) → List (ℕ × ℕ)
-plain_picks [] = []
-plain_picks (p ∷ ps) = (p.0, p.1.1) ∷ plain_picks ps
-
-int_plain : (i : Int) (k : List Token) → i.0 ≡ false → int_tokens i k ≡ tokens.Number i.1 ∷ k
-int_plain i k h = ap (λ c. cond c (tokens.Sign 45 ∷ tokens.Number i.1 ∷ k) (tokens.Number i.1 ∷ k)) h
-
-lines_plain : (ps : List (ℕ × Int)) (k : List Token) → AreAllowed false ps → lines_tokens ps k ≡ picks_tokens (plain_picks ps) k
-lines_plain [] k h = refl
-lines_plain (p ∷ ps) k h = ap (λ j. tokens.Sign 44 ∷ tokens.Number (p.0 + 1) ∷ tokens.Sign 42 ∷ j) (int_plain p.1 (lines_tokens ps k) h.0 ∙ ap (λ j. tokens.Number p.1.1 ∷ j) (lines_plain ps k h.1))
-
-same_if : (a b : ℕ) → (a == b) ≡ true → a ≡ b
-same_if a b h = grind (arith, nat_tests)
-
-one_more : (n : ℕ) → (n == 0) ≡ false → n ≡ n - 1 + 1
-one_more n h = grind (arith, nat_tests)
-
-some_size : (n : ℕ) → (n == 0) ≡ false → 0 < n
-some_size n h = grind (arith, nat_tests)
-
-risen : (n last : ℕ) → nat_le n last ≡ false → (n ≡ n - 1 + 1) × (last ≤ n - 1)
-risen n last h = (grind (arith, nat_tests), grind (arith, nat_tests))
-
-not_zero : (n : ℕ) → (n == 0) ≡ false → 0 < n
-not_zero n h = grind (arith, nat_tests)
-
-is_zero : (n : ℕ) → (n == 0) ≡ true → n ≡ 0
-is_zero n h = grind (arith, nat_tests)
-
-left_one : (d : ℕ) → nat_lt 0 d ≡ true → d ≡ d - 1 + 1
-left_one d h = grind (arith, nat_tests)
-
-both : (a c : Bool) → (a && c) ≡ true → (a ≡ true) × (c ≡ true)
-both true c h = (refl, h)
-both false c h = absurd (no_truth h)
 
 module _ (number : ℕ) (second : Bool) where
   abbrev pub Done : Scan → List Token → Type 0

@@ -8,6 +8,7 @@ pub mod WrittenRead
 pub mod OneRead
 pub mod ReadBack
 pub mod Ends
+pub mod Plain
 pub mod Leads
 pub mod Follows
 pub mod TreeFollows
@@ -17,7 +18,8 @@ pub mod Told
 pub mod Telling
 pub mod Tails
 pub mod Opens
-pub mod OpenTokens
+pub mod OpenWords
+pub mod OpenNumbers
 pub mod Begun
 pub mod TokenReads
 pub mod Forward
@@ -31,6 +33,7 @@ pub mod LimitTold
 pub mod LimitRead
 pub mod Standing
 pub mod WrongTold
+pub mod Apart
 pub mod Answers
 pub mod Cuts
 pub mod Answered

@@ -17,7 +17,7 @@ use Rattle.cert_laws.proofs.HeaderRead.{header-answered}
 use Rattle.cert_laws.proofs.NeverWrong.{IsEnd, text_ends}
 use Rattle.cert_laws.proofs.WrongTold.{whole_told}
 use Rattle.cert_laws.proofs.Standing.{settled, standing_answer, blank_whole}
-use Rattle.cert_laws.proofs.Answers.{block_need, block_end, block_wrong, block_limit}
+use Rattle.cert_laws.proofs.Apart.{block_need, block_end, block_wrong, block_limit}
 
 abbrev number_in : ℕ → Answer → ℕ
 number_in m (block n t) = n

@@ -39,3 +39,4 @@ pub mod Cuts
 pub mod Answered
 pub mod MarksLimits
 pub mod Small
+pub mod MarksCount

@@ -114,6 +114,8 @@ LimitIsExact = (h : Held) (place : ℕ) → h.number < 2 ^ 32 → Exactly (answe
 abbrev pub MalformedIsExact : Type 0
 MalformedIsExact = (h : Held) (place : ℕ) → h.number < 2 ^ 32 → Exactly (answer_of h ≡ malformed_at place) (WrongAt h place ⊎ BreaksOffAt h place)
 
--- the marks are the limits: a block is within them exactly where none of its tokens is marked
+-- the marks are the limits: each token has one, and a block is within the limits exactly where none of its tokens is marked
 abbrev pub MarksAreLimits : Type 0
-MarksAreLimits = (second : Bool) (w : Written) → IsProper second w → Exactly (tree_over 0 0 w ≡ false) (HasNoMark (block_marks w))
+MarksAreLimits =
+    (number : ℕ) (second : Bool) (w : Written) → IsProper second w →
+    (length (block_marks w) ≡ length (block_tokens number w [])) × Exactly (tree_over 0 0 w ≡ false) (HasNoMark (block_marks w))

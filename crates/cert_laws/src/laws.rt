@@ -48,7 +48,7 @@ pub fn malformed_is_exact()
     ensures { MalformedIsExact }
 {}
 
-/// A block is within the limits exactly where none of its tokens passes one.
+/// Each token of a block has a mark, and a block is within the limits exactly where none of its tokens is marked.
 pub fn marks_are_limits()
     ensures { MarksAreLimits }
 {}

@@ -38,10 +38,10 @@ abbrev empty : List ℕ
 empty = []
 
 -- where a run of tokens goes on, its first token was taken
-abbrev Taken : (Scan → Type 0) → Given → Built → List Token → Scan → Built → Type 0
+abbrev pub Taken : (Scan → Type 0) → Given → Built → List Token → Scan → Built → Type 0
 Taken p g built ts s b = (s1 : Scan) × (a : Action) × (g ≡ givens.On s1 a) × p s1 × (run ts s1 (applied a built) ≡ on s b)
 
-was_taken : (p : Scan → Type 0) (g : Given) (built : Built) (ts : List Token) (s : Scan) (b : Built) → OnlyOn p g → go g built (run ts) ≡ on s b → Taken p g built ts s b
+pub was_taken : (p : Scan → Type 0) (g : Given) (built : Built) (ts : List Token) (s : Scan) (b : Built) → OnlyOn p g → go g built (run ts) ≡ on s b → Taken p g built ts s b
 was_taken p (givens.On s1 a) built ts s b h r = (s1, a, refl, h, r)
 was_taken p givens.Wrong built ts s b h r = cc
 was_taken p givens.Over built ts s b h r = cc
@@ -56,7 +56,7 @@ built_in c (on t b) = b
 built_in c wrong = c
 built_in c passed = c
 
-abbrev First : List ℕ → Type 0
+abbrev pub First : List ℕ → Type 0
 First bs = (x : ℕ) × (xs : List ℕ) × (bs ≡ x ∷ xs)
 
 first_letter : (w : Word) → First (letters_of w)
@@ -79,7 +79,7 @@ first_joined : (bs cs rest : List ℕ) → First cs → First (bs ++ (cs ++ rest
 first_joined [] cs rest f = (f.0, f.1 ++ rest, ap (λ xs. xs ++ rest) f.2)
 first_joined (x ∷ xs) cs rest f = (x, xs ++ (cs ++ rest), refl)
 
-first_byte : (bs : List ℕ) (t : Token) (ts : List Token) → Spells bs (t ∷ ts) → First bs
+pub first_byte : (bs : List ℕ) (t : Token) (ts : List Token) → Spells bs (t ∷ ts) → First bs
 first_byte bs t ts h = let f = first_joined h.0 h.1 h.2 (first_of t h.1 h.5) in (f.0, f.1, h.3 ∙ f.2)
 
 -- a token was read and what is next goes on as if nothing were pending
@@ -95,7 +95,7 @@ goes_on (t ∷ ts) more rest at state s1 s b1 b h r g w f =
 abbrev Next : List Token → List ℕ → List ℕ → Scan → Built → Type 0
 Next ts more rest s b = (at : ℕ) (s1 : Scan) (b1 : Built) → s1.number < 2 ^ 32 → is_inside s1.want ≡ true → is_whole s1.want ≡ false → run ts s1 b1 ≡ on s b → after at (going s1 b1 idle) (more ++ rest) ≡ whole (at + length more) s b
 
-not_header : (want : Want) → is_inside want ≡ true → NotHeader want
+pub not_header : (want : Want) → is_inside want ≡ true → NotHeader want
 not_header (wants.Block header) i = tt
 not_header wants.HeaderNumber i = absurd (no_truth i)
 not_header wants.HeaderEnd i = tt
@@ -120,7 +120,7 @@ not_header (wants.CutBranches negative size) i = tt
 not_header wants.End i = tt
 not_header wants.Whole i = tt
 
-whole_is : (want : Want) → is_whole want ≡ true → want ≡ wants.Whole
+pub whole_is : (want : Want) → is_whole want ≡ true → want ≡ wants.Whole
 whole_is (wants.Block header) i = absurd (no_truth i)
 whole_is wants.HeaderNumber i = absurd (no_truth i)
 whole_is wants.HeaderEnd i = absurd (no_truth i)
@@ -206,7 +206,7 @@ token_read (tokens.Sign c) cs ts more rest at scan built s b n i r z sp f h next
     ∙ ap (λ xs. whole (at + length xs + length more) s b) (sym sp.0)
 
 -- the bytes of a token with its blanks, and what follows
-regrouped : (blanks cs more rest : List ℕ) → (blanks ++ (cs ++ more)) ++ rest ≡ blanks ++ (cs ++ (more ++ rest))
+pub regrouped : (blanks cs more rest : List ℕ) → (blanks ++ (cs ++ more)) ++ rest ≡ blanks ++ (cs ++ (more ++ rest))
 regrouped blanks cs more rest = append_assoc blanks (cs ++ more) rest ∙ ap (λ xs. blanks ++ xs) (append_assoc cs more rest)
 
 reached : (at : ℕ) (bs blanks cs more : List ℕ) → bs ≡ blanks ++ (cs ++ more) → at + length blanks + length cs + length more ≡ at + length bs
@@ -226,7 +226,7 @@ tokens_read (t ∷ ts) bs rest at scan built s b n i g z r h =
     ∙ ap (λ m. whole m s b) (reached at bs h.0 h.1 h.2 h.3)
 
 -- `cert` before all that
-block_tokens_read : (number : ℕ) (second header : Bool) (ts : List Token) (bs rest : List ℕ) (at : ℕ) (built : Built) (s : Scan) (b : Built) → number < 2 ^ 32 → is_whole s.want ≡ true → run ts (scan_at number second wants.BlockNumber 0 0) built ≡ on s b → Spells bs (tokens.Word words.Cert ∷ ts) → after at (going (scan_at number second (wants.Block header) 0 0) built idle) (bs ++ rest) ≡ whole (at + length bs) s b
+pub block_tokens_read : (number : ℕ) (second header : Bool) (ts : List Token) (bs rest : List ℕ) (at : ℕ) (built : Built) (s : Scan) (b : Built) → number < 2 ^ 32 → is_whole s.want ≡ true → run ts (scan_at number second wants.BlockNumber 0 0) built ≡ on s b → Spells bs (tokens.Word words.Cert ∷ ts) → after at (going (scan_at number second (wants.Block header) 0 0) built idle) (bs ++ rest) ≡ whole (at + length bs) s b
 block_tokens_read number second header ts bs rest at built s b n z r h =
     let scan = scan_at number second (wants.Block header) 0 0 in
     ap (λ xs. after at (going scan built idle) (xs ++ rest)) h.3

@@ -125,7 +125,7 @@ sign_taken wants.End scan c i = on_if (SignTaken scan.number) (c == 59) _ _ (λ 
 sign_taken wants.Whole scan c i = tt
 
 -- a word may stand where it is read, letter by letter
-abbrev Reads : Scan → Word → Type 0
+abbrev pub Reads : Scan → Word → Type 0
 Reads scan w = (at : ℕ) (built : Built) → after at (going scan built idle) (letters_of w) ≡ going scan built (letters at (letters_of w))
 
 pub record WordTaken (scan : Scan) (w : Word) (s : Scan) : Type 0 where
@@ -134,35 +134,35 @@ pub record WordTaken (scan : Scan) (w : Word) (s : Scan) : Type 0 where
   pub inside : is_inside s.want ≡ true
   pub same : s.number ≡ scan.number
 
-absurd_reads : (number : ℕ) (second end : Bool) (depth trees : ℕ) → Reads (scan_at number second (wants.Tree end) depth trees) words.Absurd
+pub absurd_reads : (number : ℕ) (second end : Bool) (depth trees : ℕ) → Reads (scan_at number second (wants.Tree end) depth trees) words.Absurd
 unfolding step begins
 absurd_reads number second end depth trees at built = refl
 
-farkas_reads : (number : ℕ) (second end : Bool) (depth trees : ℕ) → Reads (scan_at number second (wants.Tree end) depth trees) words.Farkas
+pub farkas_reads : (number : ℕ) (second end : Bool) (depth trees : ℕ) → Reads (scan_at number second (wants.Tree end) depth trees) words.Farkas
 unfolding step begins
 farkas_reads number second end depth trees at built = refl
 
-case_reads : (number : ℕ) (second end : Bool) (depth trees : ℕ) → Reads (scan_at number second (wants.Tree end) depth trees) words.Case
+pub case_reads : (number : ℕ) (second end : Bool) (depth trees : ℕ) → Reads (scan_at number second (wants.Tree end) depth trees) words.Case
 unfolding step begins
 case_reads number second end depth trees at built = refl
 
-bool_reads : (number : ℕ) (second end : Bool) (depth trees : ℕ) → Reads (scan_at number second (wants.Tree end) depth trees) words.Truth
+pub bool_reads : (number : ℕ) (second end : Bool) (depth trees : ℕ) → Reads (scan_at number second (wants.Tree end) depth trees) words.Truth
 unfolding step begins
 bool_reads number second end depth trees at built = refl
 
-split_reads : (number : ℕ) (second end : Bool) (depth trees : ℕ) → Reads (scan_at number second (wants.Tree end) depth trees) words.Split
+pub split_reads : (number : ℕ) (second end : Bool) (depth trees : ℕ) → Reads (scan_at number second (wants.Tree end) depth trees) words.Split
 unfolding step begins
 split_reads number second end depth trees at built = refl
 
-cut_reads : (number : ℕ) (second end : Bool) (depth trees : ℕ) → Reads (scan_at number second (wants.Tree end) depth trees) words.Cut
+pub cut_reads : (number : ℕ) (second end : Bool) (depth trees : ℕ) → Reads (scan_at number second (wants.Tree end) depth trees) words.Cut
 unfolding step begins
 cut_reads number second end depth trees at built = refl
 
-linear_reads : (number : ℕ) (end : Bool) (depth trees : ℕ) → Reads (scan_at number true (wants.Tree end) depth trees) words.Linear
+pub linear_reads : (number : ℕ) (end : Bool) (depth trees : ℕ) → Reads (scan_at number true (wants.Tree end) depth trees) words.Linear
 unfolding step begins
 linear_reads number end depth trees at built = refl
 
-cert_reads : (number : ℕ) (second header : Bool) (depth trees : ℕ) → Reads (scan_at number second (wants.Block header) depth trees) words.Cert
+pub cert_reads : (number : ℕ) (second header : Bool) (depth trees : ℕ) → Reads (scan_at number second (wants.Block header) depth trees) words.Cert
 unfolding step begins
 cert_reads number second header depth trees at built = refl
 

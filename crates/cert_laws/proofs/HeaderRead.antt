@@ -21,14 +21,14 @@ use Rattle.cert_laws.specs.Spelled.{AreAll, Spells, IsHeader}
 use Rattle.cert_laws.proofs.Lexing.{blanks_read, sign_step, ended, word_ends, number_ends, first_digit, digit_step}
 use Rattle.cert_laws.proofs.BlockRead.{spelled-from, only_last}
 
-version_reads : (at : ℕ) (number : ℕ) (built : Built) → after at (going (scan_at number false (wants.Block true) 0 0) built idle) (codes "version") ≡ going (scan_at number false (wants.Block true) 0 0) built (letters at (codes "version"))
+pub version_reads : (at : ℕ) (number : ℕ) (built : Built) → after at (going (scan_at number false (wants.Block true) 0 0) built idle) (codes "version") ≡ going (scan_at number false (wants.Block true) 0 0) built (letters at (codes "version"))
 unfolding step begins
 version_reads at number built = refl
 
-blank_no_letter : (x : ℕ) → is_blank x ≡ true → is_letter x ≡ false
+pub blank_no_letter : (x : ℕ) → is_blank x ≡ true → is_letter x ≡ false
 blank_no_letter x h = grind (arith, nat_tests)
 
-blank_no_digit : (x : ℕ) → is_blank x ≡ true → is_digit x ≡ false
+pub blank_no_digit : (x : ℕ) → is_blank x ≡ true → is_digit x ≡ false
 blank_no_digit x h = grind (arith, nat_tests)
 
 -- behind a word or number, where blanks and then another byte follow
@@ -36,10 +36,10 @@ then_blanks : (bs : List ℕ) (c : ℕ) (more : List ℕ) (at : ℕ) (state : St
 then_blanks [] c more at state s built h f e = ap (λ q. after (at + 1) q more) e
 then_blanks (b ∷ bs) c more at state s built h f e = ap (λ q. after (at + 1) q (bs ++ c ∷ more)) (f b h.0)
 
-abbrev Before : ℕ → Built → State
+abbrev pub Before : ℕ → Built → State
 Before number built = going (scan_at number false (wants.Block true) 0 0) built idle
 
-abbrev Behind : ℕ → Built → State
+abbrev pub Behind : ℕ → Built → State
 Behind number built = going (scan_at number true (wants.Block false) 0 0) built idle
 
 abbrev At2 : ℕ → Scan
@@ -80,7 +80,7 @@ header_read number built front bs cs rest at g h k =
     ∙ number_part number built bs cs rest (p + 7) h k
 
 -- a header's bytes and what follows
-regrouped : (front bs cs rest : List ℕ) → (front ++ (codes "version" ++ (bs ++ 50 ∷ (cs ++ 59 ∷ [])))) ++ rest ≡ front ++ (codes "version" ++ (bs ++ 50 ∷ (cs ++ 59 ∷ rest)))
+pub regrouped : (front bs cs rest : List ℕ) → (front ++ (codes "version" ++ (bs ++ 50 ∷ (cs ++ 59 ∷ [])))) ++ rest ≡ front ++ (codes "version" ++ (bs ++ 50 ∷ (cs ++ 59 ∷ rest)))
 regrouped front bs cs rest =
     append_assoc front (codes "version" ++ (bs ++ 50 ∷ (cs ++ 59 ∷ []))) rest
     ∙ ap (λ xs. front ++ (codes "version" ++ xs)) (append_assoc bs (50 ∷ (cs ++ 59 ∷ [])) rest)
@@ -94,14 +94,14 @@ reached at head front bs cs e =
     let d = ap length e in
     omega (arith, a, b, c, d)
 
-header_taken : (number : ℕ) (built : Built) (head rest : List ℕ) (at : ℕ) → IsHeader head → after at (Before number built) (head ++ rest) ≡ after (at + length head) (Behind number built) rest
+pub header_taken : (number : ℕ) (built : Built) (head rest : List ℕ) (at : ℕ) → IsHeader head → after at (Before number built) (head ++ rest) ≡ after (at + length head) (Behind number built) rest
 header_taken number built head rest at h =
     ap (λ xs. after at (Before number built) (xs ++ rest)) h.3
     ∙ ap (after at (Before number built)) (regrouped h.0 h.1 h.2 rest)
     ∙ header_read number built h.0 h.1 h.2 rest at h.4 h.5 h.6
     ∙ ap (λ n. after n (Behind number built) rest) (reached at head h.0 h.1 h.2 h.3)
 
-first_start : (number : ℕ) (second : Bool) → nat_lt number 2 ≡ true → second ≡ false → start number second ≡ Before number (built_at [] [])
+pub first_start : (number : ℕ) (second : Bool) → nat_lt number 2 ≡ true → second ≡ false → start number second ≡ Before number (built_at [] [])
 first_start number second l e = ap (λ b. going (scan_at number b (wants.Block (nat_lt number 2 && cond b false true)) 0 0) (built_at [] []) idle) e ∙ ap (λ b. going (scan_at number false (wants.Block (b && true)) 0 0) (built_at [] []) idle) l
 
 first_small : (n : ℕ) → nat_lt n 2 ≡ true → n < 2 ^ 32

@@ -1,6 +1,8 @@
 -- Blanks, words and numbers are read by their bytes.
-use Rattle.std.proofs.Common.{◌≡◌, ℕ, ◌+◌, ◌-◌, ◌*◌, ◌^◌, ◌<◌, ◌≤◌, true, false, cond, List, [], ◌∷◌, ◌++◌, length, refl, sym, ap, ◌∙◌, arith, Some}
+use Rattle.std.proofs.Common.{◌≡◌, ℕ, ◌+◌, ◌-◌, ◌*◌, ◌^◌, ◌<◌, ◌≤◌, true, false, cond, List, [], ◌∷◌, ◌++◌, length, refl, sym, ap, subst, ◌∙◌, arith, Some, None, Bool, Option, codes}
 use Rattle.std.proofs.lemmas.Bool.Decides.{nat_tests}
+use Rattle.std.specs.Str.{bytes_eq}
+use Rattle.std.proofs.lemmas.Slice.Eq.{bytes_eq-Decides}
 use Rattle.cert_text.specs.declared.scan.Word.{Word}
 use Rattle.cert_text.specs.declared.scan.Word.TheVariants as words
 use Rattle.cert_text.specs.declared.scan.Token.TheVariants as tokens
@@ -114,3 +116,36 @@ pub number_read : (d : ℕ) (ds rest : List ℕ) (at : ℕ) (scan : Scan) (built
 number_read d ds rest at scan built i h k s f =
     ap (λ t. after (at + 1) t (ds ++ rest)) (first_digit at d scan built k.0)
     ∙ digits_read (d ∷ ds) rest at at 0 scan built i h k s f
+
+-- letters that are read as a word spell it
+
+same_bytes : (xs ys : List ℕ) → bytes_eq xs ys ≡ true → xs ≡ ys
+same_bytes xs ys h = (bytes_eq-Decides xs ys).0 h
+
+abbrev IsWord : List ℕ → Word → Type 0
+IsWord ls w = ls ≡ letters_of w
+
+abbrev value_in : Word → Option Word → Word
+value_in v (Some w) = w
+value_in v None = v
+
+or_next : (c : Bool) (ls : List ℕ) (v w : Word) (next : Option Word) → (c ≡ true → IsWord ls v) → (next ≡ Some w → IsWord ls w) → cond c (Some v) next ≡ Some w → IsWord ls w
+or_next true ls v w next f g h = subst (IsWord ls) (ap (value_in v) h) (f refl)
+or_next false ls v w next f g h = g h
+
+no_word : (ls : List ℕ) (w : Word) → None ≡ Some w → IsWord ls w
+no_word ls w h = cc
+
+pub spelled_word : (ls : List ℕ) (w : Word) → word_of ls ≡ Some w → IsWord ls w
+unfolding word_of
+spelled_word ls w =
+    or_next (bytes_eq ls (codes "version")) ls words.Version w _ (λ e. same_bytes ls (codes "version") e) (
+    or_next (bytes_eq ls (codes "cert")) ls words.Cert w _ (λ e. same_bytes ls (codes "cert") e) (
+    or_next (bytes_eq ls (codes "absurd")) ls words.Absurd w _ (λ e. same_bytes ls (codes "absurd") e) (
+    or_next (bytes_eq ls (codes "farkas")) ls words.Farkas w _ (λ e. same_bytes ls (codes "farkas") e) (
+    or_next (bytes_eq ls (codes "linear")) ls words.Linear w _ (λ e. same_bytes ls (codes "linear") e) (
+    or_next (bytes_eq ls (codes "case")) ls words.Case w _ (λ e. same_bytes ls (codes "case") e) (
+    or_next (bytes_eq ls (codes "bool")) ls words.Truth w _ (λ e. same_bytes ls (codes "bool") e) (
+    or_next (bytes_eq ls (codes "split")) ls words.Split w _ (λ e. same_bytes ls (codes "split") e) (
+    or_next (bytes_eq ls (codes "cut")) ls words.Cut w _ (λ e. same_bytes ls (codes "cut") e) (
+    no_word ls w)))))))))

@@ -25,10 +25,10 @@ is_same : (a b : ℕ) → a ≡ b → (a == b) ≡ true
 is_same a b h = grind (arith, nat_tests)
 
 -- nothing yet, or the number without some of its last digits
-abbrev Begins : ℕ → ℕ → Type 0
+abbrev pub Begins : ℕ → ℕ → Type 0
 Begins number n = (((((((((((n ≡ 0) ⊎ (n ≡ number)) ⊎ (n ≡ (number / 10))) ⊎ (n ≡ (number / 100))) ⊎ (n ≡ (number / 1000))) ⊎ (n ≡ (number / 10000))) ⊎ (n ≡ (number / 100000))) ⊎ (n ≡ (number / 1000000))) ⊎ (n ≡ (number / 10000000))) ⊎ (n ≡ (number / 100000000))) ⊎ (n ≡ (number / 1000000000)))
 
-begins_told : (number n : ℕ) → begins_number number n ≡ true → Begins number n
+pub begins_told : (number n : ℕ) → begins_number number n ≡ true → Begins number n
 unfolding begins_number
 begins_told number n = (one_of (one_of (one_of (one_of (one_of (one_of (one_of (one_of (one_of (one_of (same n 0) (same n number)) (same n (number / 10))) (same n (number / 100))) (same n (number / 1000))) (same n (number / 10000))) (same n (number / 100000))) (same n (number / 1000000))) (same n (number / 10000000))) (same n (number / 100000000))) (same n (number / 1000000000)))
 

@@ -23,7 +23,7 @@ value_last : (m d : ℕ) (ds : List ℕ) → value_behind m (ds ++ d ∷ []) ≡
 value_last m d [] = refl
 value_last m d (e ∷ ds) = value_last (m * 10 + (e - 48)) d ds
 
-all_more : (test : ℕ → Bool) (bs : List ℕ) (b : ℕ) → AreAll test bs → test b ≡ true → AreAll test (bs ++ b ∷ [])
+pub all_more : (test : ℕ → Bool) (bs : List ℕ) (b : ℕ) → AreAll test bs → test b ≡ true → AreAll test (bs ++ b ∷ [])
 all_more test [] b h k = (k, tt)
 all_more test (c ∷ bs) b h k = (h.0, all_more test bs b h.1 k)
 
@@ -53,7 +53,7 @@ tenth left n b =
     let p : 10 ^ (suc left + 1) ≡ 10 ^ (left + 1) * 10 = ap (λ m. 10 ^ m) e ∙ pow-suc 10 (left + 1) in
     omega (arith, p)
 
-digits_are : (left n : ℕ) → n < 10 ^ (left + 1) → AreOf n (digits_in left n)
+pub digits_are : (left n : ℕ) → n < 10 ^ (left + 1) → AreOf n (digits_in left n)
 unfolding digits_in
 digits_are zero n b = one_digit n (ten n b) where
   ten : (m : ℕ) → m < 10 ^ (0 + 1) → m < 10
@@ -76,7 +76,7 @@ decimal_is n h = digits_are 39 n (wide n h) where
 pub respelled : (ts : List Token) (bs cs : List ℕ) → bs ≡ cs → Spells cs ts → Spells bs ts
 respelled ts bs cs e h = subst (λ xs. Spells xs ts) (sym e) h
 
-ends_sign : (c : ℕ) (rest : List ℕ) → EndsAt (tokens.Sign c) rest
+pub ends_sign : (c : ℕ) (rest : List ℕ) → EndsAt (tokens.Sign c) rest
 ends_sign c [] = tt
 ends_sign c (b ∷ bs) = tt
 
@@ -89,7 +89,7 @@ word w rest k e h = ([], letters_of w, rest, refl, tt, refl, e, h)
 number : (n : ℕ) (rest : List ℕ) (k : List Token) → n < 2 ^ 64 → EndsAt (tokens.Number n) rest → Spells rest k → Spells (decimal n ++ rest) (tokens.Number n ∷ k)
 number n rest k s e h = ([], decimal n, rest, refl, tt, decimal_is n s, e, h)
 
-blank : (t : Token) (rest : List ℕ) (k : List Token) → Spells rest (t ∷ k) → Spells (32 ∷ rest) (t ∷ k)
+pub blank : (t : Token) (rest : List ℕ) (k : List Token) → Spells rest (t ∷ k) → Spells (32 ∷ rest) (t ∷ k)
 blank t rest k h = (32 ∷ h.0, h.1, h.2, ap (λ xs. 32 ∷ xs) h.3, (refl, h.4), h.5, h.6, h.7)
 
 blank_tree : (w : Written) (rest : List ℕ) (k : List Token) → Spells rest (tree_tokens w k) → Spells (32 ∷ rest) (tree_tokens w k)

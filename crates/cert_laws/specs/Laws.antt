@@ -2,14 +2,11 @@
 -- begins with bytes; the answer is that of next_block, and what is held behind it begins right behind them, whatever follows.
 use Rattle.std.specs.Prelude.{◌≡◌, ℕ, ◌+◌, ◌^◌, ◌<◌, Bool, true, false, nat_lt, ◌||◌, List, [], ◌∷◌, ◌++◌, length}
 use Rattle.st_certificate.specs.Tree.{Tree}
-use Rattle.cert_text.specs.declared.scan.Word.TheVariants as words
-use Rattle.cert_text.specs.declared.scan.Token.{Token}
-use Rattle.cert_text.specs.declared.scan.Token.TheVariants as tokens
 use Rattle.cert_text.specs.Grammar.{Written, IsBlock, block_tokens, meaning}
 use Rattle.cert_text.specs.Held.{Held, answer_of, taken_from}
 use Rattle.cert_text.specs.Answer.{block}
 use Rattle.cert_text.specs.Spelling.{block_text}
-use Rattle.cert_laws.specs.Spelled.{Spells, IsHeader}
+use Rattle.cert_laws.specs.Spelled.{Spells, IsHeader, IsFront}
 
 -- bytes that spell the next block, within the limits, are read as its tree
 abbrev pub SpelledIsRead : Type 0
@@ -45,20 +42,12 @@ OneBlock =
     Spells bs (block_tokens number w []) → Spells cs (block_tokens number v []) → bs ++ rest ≡ cs ++ more →
     (bs ≡ cs) × (meaning w ≡ meaning v)
 
--- the tokens of the next block, with a header before it or without
-abbrev pub next_tokens : Bool → ℕ → Written → List Token
-next_tokens false number w = block_tokens number w []
-next_tokens true number w = tokens.Word words.Version ∷ tokens.Number 2 ∷ tokens.Sign 59 ∷ block_tokens number w []
-
--- a header stands only before the first block of a text of version 1
-abbrev pub MayStand : Bool → Held → Type 0
-MayStand false h = Unit {0}
-MayStand true h = (nat_lt h.number 2 ≡ true) × (h.second ≡ false)
-
--- the other way round: where a block is answered, what is held begins with bytes that spell it, within the limits
+-- the other way round: where a block is answered, what is held begins with bytes that spell it, within the limits, behind a
+-- header or none; exactly they are taken
 abbrev pub ReadIsSpelled : Type 0
 ReadIsSpelled =
     (h : Held) (n : ℕ) (t : Tree) → h.number < 2 ^ 32 → answer_of h ≡ block n t →
-    (header : Bool) × (w : Written) × (bs : List ℕ) × (rest : List ℕ) × (h.bytes ≡ bs ++ rest)
-    × MayStand header h × Spells bs (next_tokens header h.number w) × IsBlock h.number (header || h.second) w
+    (header : Bool) × (w : Written) × (head : List ℕ) × (bs : List ℕ) × (rest : List ℕ) × (h.bytes ≡ head ++ (bs ++ rest))
+    × IsFront header h head × Spells bs (block_tokens h.number w []) × IsBlock h.number (header || h.second) w
     × (n ≡ h.number) × (t ≡ meaning w)
+    × (taken_from h ≡ record h { bytes = rest; place = h.place + length head + length bs; number = h.number + 1; second = header || h.second })

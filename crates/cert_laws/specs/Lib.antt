@@ -1,2 +1,4 @@
 pub mod Spelled
 pub mod Laws
+pub mod Limits
+pub mod Refused

@@ -1,11 +1,12 @@
 -- Which bytes spell which tokens: the lexical half of the grammar of certificate texts. The other half, which tokens a block
 -- has, is Grammar of cert_text.
-use Rattle.std.specs.Prelude.{◌≡◌, ℕ, ◌+◌, ◌-◌, ◌*◌, Bool, true, false, List, [], ◌∷◌, ◌++◌, codes}
+use Rattle.std.specs.Prelude.{◌≡◌, ℕ, ◌+◌, ◌-◌, ◌*◌, Bool, true, false, nat_lt, List, [], ◌∷◌, ◌++◌, codes}
 use Rattle.cert_text.specs.declared.scan.Word.{Word}
 use Rattle.cert_text.specs.declared.scan.Word.TheVariants as words
 use Rattle.cert_text.specs.declared.scan.Token.{Token}
 use Rattle.cert_text.specs.declared.scan.Token.TheVariants as tokens
 use Rattle.cert_text.specs.Letters.{is_blank, is_letter, is_digit}
+use Rattle.cert_text.specs.Held.{Held}
 
 abbrev pub letters_of : Word → List ℕ
 letters_of words.Version = codes "version"
@@ -57,3 +58,8 @@ IsHeader head =
     (front : List ℕ) × (between : List ℕ) × (behind : List ℕ)
     × (head ≡ front ++ (codes "version" ++ (between ++ 50 ∷ (behind ++ 59 ∷ []))))
     × AreAll is_blank front × AreAll is_blank between × AreAll is_blank behind
+
+-- nothing, or a header where one may stand: before the first block of a text of version 1
+abbrev pub IsFront : Bool → Held → List ℕ → Type 0
+IsFront false h head = head ≡ []
+IsFront true h head = (nat_lt h.number 2 ≡ true) × (h.second ≡ false) × IsHeader head

@@ -7,6 +7,3 @@ pub mod LeafReads
 pub mod CutReads
 pub mod TreeReads
 pub mod Digits
-pub mod Back
-pub mod Bytes
-pub mod Numbers

@@ -1,7 +1,7 @@
 //! Leaves: rows or lines of the conjuncts whose picked multiples sum to a negative constant, as in Farkas' lemma
 //! (Schrijver, *Theory of Linear and Integer Programming*, 1986, section 7.3).
 
-ghost use Rattle.std.specs.Prelude.{◌≡◌, ◌<◌, ◌^◌, IfOk, length, true, None, Some, unsigned_abs, []};
+ghost use Rattle.std.specs.Prelude.{◌≡◌, ◌<◌, ◌^◌, ◌++◌, ◌∷◌, IfOk, OnOk, length, true, None, Some, unsigned_abs, []};
 ghost use Rattle.st_form.specs.Plain.{plain, plain_list};
 ghost use Rattle.st_form.specs.Formula.{more};
 ghost use Rattle.st_form.specs.Simple.{append};
@@ -21,19 +21,27 @@ use st_linear::{Lin, Line};
 use st_memory::Memory;
 use std::alloc::Global;
 
-pub fn rows_with(alloc: Global, f: &Form) -> Result<Vec<Lin>, Memory>
-    ensures { IfOk result (λ v. v.items ≡ rows_with (plain f.now) []) }
+/// Puts the rows of a conjunct behind others.
+fn push_rows(alloc: Global, out: &mut Vec<Lin>, f: &Form) -> Result<(), Memory>
+    ensures { OnOk result (out.new.items ≡ out.old.items ++ rows_with (plain f.now) []) }
 {
     match f {
-        Form::True => Ok(Vec::new(alloc)),
-        Form::False => Ok(Vec::new(alloc)),
-        Form::Row(g) => Ok(vec![in alloc; g.copy(alloc)?]?),
-        Form::Equal(g) => Ok(vec![in alloc; g.copy(alloc)?, g.negated(alloc)?]?),
-        Form::BoolVar(_) => Ok(Vec::new(alloc)),
-        Form::At(_) => Ok(Vec::new(alloc)),
-        Form::Not(_) => Ok(Vec::new(alloc)),
-        Form::And(_) => Ok(Vec::new(alloc)),
-        Form::Or(_) => Ok(Vec::new(alloc)),
+        Form::True => Ok(()),
+        Form::False => Ok(()),
+        Form::Row(g) => {
+            out.push(g.copy(alloc)?)?;
+            Ok(())
+        }
+        Form::Equal(g) => {
+            out.push(g.copy(alloc)?)?;
+            out.push(g.negated(alloc)?)?;
+            Ok(())
+        }
+        Form::BoolVar(_) => Ok(()),
+        Form::At(_) => Ok(()),
+        Form::Not(_) => Ok(()),
+        Form::And(_) => Ok(()),
+        Form::Or(_) => Ok(()),
     }
 }
 
@@ -41,48 +49,45 @@ pub fn rows_with(alloc: Global, f: &Form) -> Result<Vec<Lin>, Memory>
 pub fn rows_of(alloc: Global, fs: &[Form]) -> Result<Vec<Lin>, Memory>
     ensures { IfOk result (λ v. v.items ≡ rows_of (plain_list fs.now)) }
 {
-    let mut out = Vec::new(alloc);
+    let mut out = Vec::with_capacity(alloc, fs.len())?;
     for f in fs {
-        let mut more = rows_with(alloc, f)?;
-        out.append(&mut more)?;
+        push_rows(alloc, &mut out, f)?;
     }
     Ok(out)
 }
 
-pub fn lines_with(alloc: Global, f: &Form) -> Result<Vec<Line>, Memory>
-    ensures { IfOk result (λ v. v.items ≡ lines_with (plain f.now) []) }
+/// Puts the line of a conjunct, where it is one, behind others.
+pub fn push_line(alloc: Global, out: &mut Vec<Line>, f: &Form) -> Result<(), Memory>
+    ensures { OnOk result (out.new.items ≡ out.old.items ++ lines_with (plain f.now) []) }
 {
     match f {
-        Form::True => Ok(Vec::new(alloc)),
-        Form::False => Ok(Vec::new(alloc)),
-        Form::Row(g) => Ok(vec![in alloc;
-            Line {
-                form: g.copy(alloc)?,
-                equal: false
-            },
-        ]?),
-        Form::Equal(g) => Ok(vec![in alloc;
-            Line {
-                form: g.copy(alloc)?,
-                equal: true
-            },
-        ]?),
-        Form::BoolVar(_) => Ok(Vec::new(alloc)),
-        Form::At(_) => Ok(Vec::new(alloc)),
-        Form::Not(_) => Ok(Vec::new(alloc)),
-        Form::And(_) => Ok(Vec::new(alloc)),
-        Form::Or(_) => Ok(Vec::new(alloc)),
+        Form::True => Ok(()),
+        Form::False => Ok(()),
+        Form::Row(g) => push_copy(alloc, out, g, false),
+        Form::Equal(g) => push_copy(alloc, out, g, true),
+        Form::BoolVar(_) => Ok(()),
+        Form::At(_) => Ok(()),
+        Form::Not(_) => Ok(()),
+        Form::And(_) => Ok(()),
+        Form::Or(_) => Ok(()),
     }
+}
+
+fn push_copy(alloc: Global, out: &mut Vec<Line>, f: &Lin, equal: bool) -> Result<(), Memory>
+    ensures { OnOk result (out.new.items ≡ out.old.items ++ record { form = f.now; equal = equal } ∷ []) }
+{
+    let form = f.copy(alloc)?;
+    out.push(Line { form, equal })?;
+    Ok(())
 }
 
 /// The lines of conjuncts.
 pub fn lines_of(alloc: Global, fs: &[Form]) -> Result<Vec<Line>, Memory>
     ensures { IfOk result (λ v. v.items ≡ lines_of (plain_list fs.now)) }
 {
-    let mut out = Vec::new(alloc);
+    let mut out = Vec::with_capacity(alloc, fs.len())?;
     for f in fs {
-        let mut more = lines_with(alloc, f)?;
-        out.append(&mut more)?;
+        push_line(alloc, &mut out, f)?;
     }
     Ok(out)
 }

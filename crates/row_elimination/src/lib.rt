@@ -14,3 +14,5 @@ pub use top::{Elimination, WideStage, eliminate};
 
 #[cfg(test)]
 mod tests;
+#[cfg(test)]
+mod wide_tests;

@@ -21,7 +21,7 @@ fn answer(alloc: Global, picks: &[(u32, i128)]) -> Result<Vec<(u32, i64)>, Memor
     requires { IsTrue (are_within (2 ^ 40) picks.now) }
     ensures { IfOk result (λ v. v.items ≡ picks.now) }
 {
-    let mut out = Vec::new(alloc);
+    let mut out = Vec::with_capacity(alloc, picks.len())?;
     for p in picks {
         out.push((p.0, narrow(&p.1)))?;
     }
@@ -33,7 +33,7 @@ fn turned_answer(alloc: Global, picks: &[(u32, i128)]) -> Result<Vec<(u32, i64)>
     requires { IsTrue (are_within (2 ^ 40) picks.now) }
     ensures { IfOk result (λ v. v.items ≡ turned picks.now) }
 {
-    let mut out = Vec::new(alloc);
+    let mut out = Vec::with_capacity(alloc, picks.len())?;
     for p in picks {
         out.push((p.0, turn(&p.1)))?;
     }
@@ -83,7 +83,7 @@ fn solve(alloc: Global, var: u32, equation: &Row, lines: Vec<Row>) -> Result<Vec
     requires { is_zero (part var equation.now.entries.items) ≡ false }
     ensures { GivesRows result (sift_from [] (map (freed var (tracked_row equation.now)) (rows lines.items))) }
 {
-    let mut next = Vec::new(alloc);
+    let mut next = Vec::with_capacity(alloc, lines.len())?;
     let mut rest = VecDeque::from_vec(lines);
     while let Some(line) = rest.pop_front() {
         let made = freed(alloc, var, equation, line)?;

@@ -89,7 +89,7 @@ fn first_rows(alloc: Global, lines: &[Line]) -> Result<Vec<Row>, Halt>
     requires few { length lines.now ≤ 4096 }
     ensures { GivesRows result (sift_from [] (map Some (tracked 0 lines.now))) }
 {
-    let mut next = Vec::new(alloc);
+    let mut next = Vec::with_capacity(alloc, lines.len())?;
     for i in 0..lines.len() {
         let row = first(alloc, i as u32, &lines[i])?;
         place(alloc, &mut next, row)?;

@@ -1,7 +1,7 @@
 use Rattle.std.proofs.Common.{◌≡◌, drop, map, []}
-use Rattle.spl_typer.specs.GroupViews.{link_view, path_views, composition_view}
+use Rattle.spl_typer.specs.GroupViews.{link_view}
 use Rattle.spl_typer.specs.Groups as rules
-use Rattle.spl_typer.proofs.composing.numbers_on.Given as goal
+use Rattle.spl_typer.proofs.numbers.numbers_on.Given as goal
 
 abbrev pub invariant-loop-link : goal.invariant-loop-link
 invariant-loop-link l =

@@ -1,6 +1,6 @@
 use Rattle.std.proofs.Common.{arith, ◌∙◌}
 use Rattle.spl_typer.proofs.Inserting.{put_here}
-use Rattle.spl_typer.proofs.composing.insert.Goals as goal
+use Rattle.spl_typer.proofs.numbers.insert.Goals as goal
 
 pub returns-then-index-var-2 : goal.returns-then-index-var-2
 returns-then-index-var-2 g c =

@@ -1,7 +1,7 @@
 use Rattle.std.proofs.Common.{◌≡◌, drop, []}
 use Rattle.st_program.specs.Plain.{plain_targets}
 use Rattle.spl_typer.specs.Groups as rules
-use Rattle.spl_typer.proofs.composing.numbers_of.Given as goal
+use Rattle.spl_typer.proofs.numbers.numbers_of.Given as goal
 
 abbrev pub invariant-loop-change : goal.invariant-loop-change
 invariant-loop-change l =

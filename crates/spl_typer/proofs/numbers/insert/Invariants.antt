@@ -1,6 +1,6 @@
 use Rattle.std.proofs.Common.{◌≡◌, ◌≤◌, ◌-◌, ◌++◌, length, take, drop}
 use Rattle.st_program.specs.Groups.{inserted}
-use Rattle.spl_typer.proofs.composing.insert.Given as goal
+use Rattle.spl_typer.proofs.numbers.insert.Given as goal
 
 abbrev pub invariant-loop-i : goal.invariant-loop-i
 invariant-loop-i g l = record {

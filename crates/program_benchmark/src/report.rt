@@ -32,9 +32,7 @@ impl Spans {
 /// Microseconds since an instant, at least 1.
 fn since<R: Clock>(rt: &R, begin: Instant) -> Result<u64, Trouble> {
     let passed = Instant::now(rt)?.saturating_duration_since(begin);
-    Ok(u64::try_from(passed.as_micros())
-        .unwrap_or(u64::MAX)
-        .max(1))
+    Ok(u64::try_from(passed.as_micros()).unwrap_or(u64::MAX).max(1))
 }
 
 /// The plain loop: how many lines a text has.
@@ -108,7 +106,11 @@ pub fn print_times<R: Clock + Print>(rt: &R, alloc: Global, length: usize) -> Re
 }
 
 /// Times how long a hostile group takes to be refused for its atoms.
-pub fn print_hostile<R: Clock + Print>(rt: &R, alloc: Global, length: usize) -> Result<(), Trouble> {
+pub fn print_hostile<R: Clock + Print>(
+    rt: &R,
+    alloc: Global,
+    length: usize,
+) -> Result<(), Trouble> {
     let text = hostile_text(alloc, length)?;
     let begin = Instant::now(rt)?;
     let raw = parse_program(alloc, text.as_bytes())?;

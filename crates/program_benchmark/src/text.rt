@@ -18,7 +18,12 @@ const CLAUSE: &str = "(x3 + 2 * x11 - 7 * x30 <= 17 /\\ ~b5 \\/ x3 = 4 -> b29)";
 const SUMMAND: &str = " + 3 * (x7 - x30) - 3 * x7 + 3 * x30";
 
 /// So many variables of one type, the first of which begins as the text says.
-fn push_variables(text: &mut String, alloc: Global, letter: &str, kind: &str) -> Result<(), Memory> {
+fn push_variables(
+    text: &mut String,
+    alloc: Global,
+    letter: &str,
+    kind: &str,
+) -> Result<(), Memory> {
     text.push_str("local ")?;
     for i in 0..VARIABLES {
         if 0 < i {

@@ -20,7 +20,8 @@ pub enum Trouble {
 impl Trouble {
     pub fn text(self) -> &'static str {
         match self {
-            Trouble::Words => "usage: program_benchmark counts|times|hostile BYTES, BYTES up to 4194304",
+            Trouble::Words =>
+                "usage: program_benchmark counts|times|hostile BYTES, BYTES up to 4194304",
             Trouble::Memory => "out of memory",
             Trouble::Outside => "a clock, the words or standard output failed",
             Trouble::Program => "the program is refused",

@@ -11,7 +11,7 @@ mod trouble;
 use report::{print_counts, print_hostile, print_times};
 use std::alloc::Global;
 use std::process::ExitCode;
-use std::time::Clock;
+use std::time::CpuClock;
 use std::{env, io};
 use trouble::Trouble;
 
@@ -35,7 +35,7 @@ fn words(rt: &HostRuntime) -> Result<Vec<String>, Trouble> {
     Ok(words)
 }
 
-fn run<R: Clock + Print>(rt: &R, alloc: Global, words: &[String]) -> Result<(), Trouble> {
+fn run<R: CpuClock + Print>(rt: &R, alloc: Global, words: &[String]) -> Result<(), Trouble> {
     if words.len() != 3 {
         return Err(Trouble::Words);
     }

@@ -6,11 +6,11 @@ use spl_parser::parse_program;
 use spl_typer::{TypeFault, type_program};
 use st_tokens::LimitKind;
 use std::alloc::Global;
-use std::time::{Clock, Instant};
+use std::time::{CpuClock, Duration};
 
 const ROUNDS: u32 = 5;
 
-/// Microseconds: of the loop over the bytes, of reading, and of typing.
+/// Microseconds of the processor: of the loop over the bytes, of reading, and of typing.
 #[derive(Clone, Copy, Debug, PartialEq, Eq)]
 struct Spans {
     plain: u64,
@@ -29,9 +29,9 @@ impl Spans {
     }
 }
 
-/// Microseconds since an instant, at least 1.
-fn since<R: Clock>(rt: &R, begin: Instant) -> Result<u64, Trouble> {
-    let passed = Instant::now(rt)?.saturating_duration_since(begin);
+/// Microseconds of the processor since a reading, at least 1.
+fn since<R: CpuClock>(rt: &R, begin: Duration) -> Result<u64, Trouble> {
+    let passed = rt.process_cpu_time()?.saturating_sub(begin);
     Ok(u64::try_from(passed.as_micros()).unwrap_or(u64::MAX).max(1))
 }
 
@@ -47,14 +47,14 @@ fn lines(text: &[u8]) -> u64 {
 }
 
 /// The lines of a text, and what the phases take.
-fn round<R: Clock>(rt: &R, alloc: Global, text: &[u8]) -> Result<(u64, Spans), Trouble> {
-    let begin = Instant::now(rt)?;
+fn round<R: CpuClock>(rt: &R, alloc: Global, text: &[u8]) -> Result<(u64, Spans), Trouble> {
+    let begin = rt.process_cpu_time()?;
     let lines = lines(text);
     let plain = since(rt, begin)?;
-    let begin = Instant::now(rt)?;
+    let begin = rt.process_cpu_time()?;
     let raw = parse_program(alloc, text)?;
     let parsed = since(rt, begin)?;
-    let begin = Instant::now(rt)?;
+    let begin = rt.process_cpu_time()?;
     let typed = type_program(alloc, &raw)?;
     let typed_in = since(rt, begin)?;
     drop(typed);
@@ -91,7 +91,11 @@ pub fn print_counts<R: Print>(rt: &R, alloc: Global, length: usize) -> Result<()
 }
 
 /// Times each phase, and prints what it takes.
-pub fn print_times<R: Clock + Print>(rt: &R, alloc: Global, length: usize) -> Result<(), Trouble> {
+pub fn print_times<R: CpuClock + Print>(
+    rt: &R,
+    alloc: Global,
+    length: usize,
+) -> Result<(), Trouble> {
     let text = program_text(alloc, length)?;
     let (lines, mut spans) = round(rt, alloc, text.as_bytes())?;
     for _ in 1..ROUNDS {
@@ -106,13 +110,13 @@ pub fn print_times<R: Clock + Print>(rt: &R, alloc: Global, length: usize) -> Re
 }
 
 /// Times how long a hostile group takes to be refused for its atoms.
-pub fn print_hostile<R: Clock + Print>(
+pub fn print_hostile<R: CpuClock + Print>(
     rt: &R,
     alloc: Global,
     length: usize,
 ) -> Result<(), Trouble> {
     let text = hostile_text(alloc, length)?;
-    let begin = Instant::now(rt)?;
+    let begin = rt.process_cpu_time()?;
     let raw = parse_program(alloc, text.as_bytes())?;
     let typed = type_program(alloc, &raw);
     let passed = since(rt, begin)?;

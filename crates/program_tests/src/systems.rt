@@ -1,6 +1,6 @@
 //! Texts of programs have their systems and their names.
 
-use crate::texts::{COOPERATION, COUNT, GROUP, PETERSON, SELECTION, SEMAPHORE};
+use crate::texts::{COOPERATION, COUNT, GROUP, PETERSON, SELECTION, SEMAPHORE, SIX};
 use control_facts::components;
 use spl_parser::parse_program;
 use spl_translation::translate;
@@ -36,6 +36,7 @@ fn texts_have_their_systems(rt: HostRuntime) -> Result<(), Fail> {
         (SELECTION, [1, 2, 3, 3]),
         (COOPERATION, [3, 7, 6, 7]),
         (GROUP, [1, 2, 2, 3]),
+        (SIX, [1, 2, 2, 65]),
     ] {
         assert_eq!(rt; counts(alloc, text)?, wanted);
     }

@@ -31,3 +31,7 @@ pub const DOUBLING: &[u8] = b"local x: integer; P :: [ x := x + x ]";
 
 /// A group that looks at what it has just assigned.
 pub const RISE: &[u8] = b"local x: integer; P :: [ << x := x + 1; await x > 5 >> ]";
+
+/// A group with six conditionals in a row, so with as many paths as there may be.
+pub const SIX: &[u8] =
+    b"local x: integer; P :: [ << if x > 0 then x := x + 1 fi; if x > 0 then x := x + 1 fi; if x > 0 then x := x + 1 fi; if x > 0 then x := x + 1 fi; if x > 0 then x := x + 1 fi; if x > 0 then x := x + 1 fi >> ]";

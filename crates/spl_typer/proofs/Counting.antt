@@ -1,11 +1,11 @@
 -- How many paths there are, up to 65.
-use Rattle.std.proofs.Common.{◌≡◌, ℕ, zero, suc, ◌+◌, ◌*◌, ◌<◌, ◌≤◌, Bool, true, false, min, nat_le, List, [], ◌∷◌, ◌++◌, length, map, drop, get_or, refl, ap, sym, ◌∙◌, arith, ◌⊎◌, inl, inr}
+use Rattle.std.proofs.Common.{◌≡◌, ℕ, zero, suc, ◌+◌, ◌*◌, ◌<◌, ◌≤◌, Bool, true, false, min, nat_le, List, ◌∷◌, length, map, drop, get_or, refl, ap, sym, ◌∙◌, arith, ◌⊎◌, inl, inr}
 use Rattle.std.proofs.Math.Nat.{mul-suc, mul_assoc, mul-zero, mul_comm}
 use Rattle.std.proofs.lemmas.Bool.Decides.{nat_tests}
 use Rattle.std.proofs.lemmas.List.{drop_more, length-map, length-append}
 use Rattle.st_form.specs.Formula.{Formula}
 use Rattle.st_program.specs.declared.trees.Inner.{Inner}
-use Rattle.st_program.specs.Tree.{Piece, Pieces, piece, piece_if}
+use Rattle.st_program.specs.Tree.{Piece, piece, piece_if}
 use Rattle.st_program.specs.Plain.{plain_inner, plain_pieces}
 use Rattle.st_program.specs.Groups.{Link, tested, paths, paths_along}
 use Rattle.spl_typer.proofs.Products.{length-times}

@@ -14,6 +14,7 @@ pub mod Fitting
 pub mod Grouping
 pub mod Holding
 pub mod Keeping
+pub mod Measures
 pub mod Numerals
 pub mod Occurrences
 pub mod PartTells
@@ -25,5 +26,6 @@ pub mod Tables
 pub mod Targets
 pub mod Tells
 pub mod Terms
+pub mod Unbounded
 pub mod Whole
 pub mod ProgramTells

@@ -1,5 +1,4 @@
-use Rattle.std.proofs.Common.{◌≡◌, ℕ, ◌^◌, ◌<◌, ◌≤◌, Bool, true, false, cond, List, [], ◌∷◌, refl, ap, sym, ◌∙◌, arith, ℤ, Option, Some, None, Ok, Err, nat_le, nat_lt, unsigned_abs, ◌&&◌}
-use Rattle.std.specs.Prelude.{IsTrue}
+use Rattle.std.proofs.Common.{◌≡◌, ℕ, ◌^◌, ◌<◌, Bool, true, false, cond, List, [], ◌∷◌, refl, arith, ℤ, Some, None, Ok, Err, nat_le, nat_lt, unsigned_abs}
 use Rattle.std.proofs.lemmas.Bool.{and_parts, and_from}
 use Rattle.std.proofs.lemmas.Bool.Decides.{nat_tests}
 use Rattle.st_linear.specs.Linear.{Linear, is_within, is_small, are_small, fits, fitting}
@@ -8,7 +7,7 @@ use Rattle.st_linear.specs.Answers as sums
 use Rattle.st_linear.specs.declared.linear.Lin.{Lin}
 use Rattle.st_linear.specs.declared.faults.LinFault.{LinFault}
 use Rattle.st_linear.proofs.Fitting.{fitting-is}
-use Rattle.st_program.specs.Groups.{is_written_number, are_written, is_written}
+use Rattle.st_program.specs.Groups.{is_written_number, are_written}
 use Rattle.spl_typer.specs.Written.{is_writable, limited}
 use Rattle.spl_typer.specs.declared.fault.TypeFault.TheVariants.{TooLarge}
 

@@ -1,10 +1,10 @@
 -- How a conditional of a group is seen.
-use Rattle.std.proofs.Common.{◌≡◌, List, [], ◌∷◌, ◌++◌, Vec, Global, refl, ap, ◌∙◌}
+use Rattle.std.proofs.Common.{◌≡◌, Vec, Global, refl, ap, ◌∙◌}
 use Rattle.st_form.specs.declared.formulas.Form.{Form}
 use Rattle.st_form.specs.Plain.{plain}
 use Rattle.st_program.specs.declared.trees.Inner as GInner
 use Rattle.st_program.specs.declared.trees.Inner.TheBlock as TB
-use Rattle.st_program.specs.Tree.{Pieces, piece, piece_if}
+use Rattle.st_program.specs.Tree.{piece, piece_if}
 use Rattle.st_program.specs.Plain.{plain_inner, plain_inners, plain_pieces}
 
 row_items : {n : _} (row : GInner.Row_of-Inner n) → plain_inners row ≡ plain_pieces (GInner.items-the_row-Inner n row)

@@ -9,7 +9,7 @@ use Rattle.std.proofs.Math.ListN.{drop_of_length-le}
 use Rattle.std.proofs.Common.{◌≤◌, Vec, Global}
 use Rattle.st_form.specs.Formula.{Formula}
 use Rattle.st_program.specs.declared.trees.Inner.{Inner}
-use Rattle.st_program.specs.Tree.{Piece, Pieces, piece, no_piece, piece_if}
+use Rattle.st_program.specs.Tree.{Piece, piece, piece_if}
 use Rattle.st_program.specs.Plain.{plain_inner, plain_pieces}
 use Rattle.spl_typer.specs.declared.paths.Link as code
 use Rattle.spl_typer.specs.GroupViews.{link_view, path_view, path_views}

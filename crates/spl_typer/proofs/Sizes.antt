@@ -1,13 +1,12 @@
 -- Differences of written forms are forms.
-use Rattle.std.proofs.Common.{◌≡◌, ℕ, zero, suc, ◌+◌, ◌^◌, ◌<◌, ◌≤◌, Bool, true, false, cond, List, [], ◌∷◌, map, refl, ap, sym, ◌∙◌, arith, ℤ, pos, negsuc, ◌+ℤ◌, Option, Some, None, Result, Ok, Err, nat_le, nat_lt, unsigned_abs, ◌&&◌}
+use Rattle.std.proofs.Common.{◌≡◌, ℕ, zero, suc, ◌+◌, ◌^◌, ◌<◌, ◌≤◌, true, List, [], ◌∷◌, map, refl, arith, ℤ, pos, negsuc, ◌+ℤ◌, Ok, nat_lt, unsigned_abs}
 use Rattle.std.specs.Prelude.{neg_ℤ}
 use Rattle.std.proofs.lemmas.Bool.{and_parts, and_from}
 use Rattle.std.proofs.lemmas.Bool.Decides.{nat_tests}
 use Rattle.std.proofs.lemmas.Int.{ints}
 use Rattle.st_linear.specs.Linear.{Linear, is_within, is_small, are_small, fits, fitting, joined, with_entry, sum_of, number}
-use Rattle.st_linear.specs.Simple.{negated}
 use Rattle.st_linear.proofs.Joined.{joined-ind}
-use Rattle.st_program.specs.Groups.{is_written_number, are_written, is_written}
+use Rattle.st_program.specs.Groups.{is_written_number, are_written}
 use Rattle.spl_typer.specs.Written.{is_writable, fitted, difference, lowered}
 use Rattle.spl_typer.specs.Rules.{minus, less_one}
 
@@ -27,7 +26,7 @@ within_more : (b c : ℕ) (es : List (ℕ × ℤ)) → b ≤ c → Within b es �
 within_more b c [] h k = tt
 within_more b c (e ∷ es) h k = (omega (arith, k.0), within_more b c es h k.1)
 
-within_entry : (b v : ℕ) (c : ℤ) (es : List (ℕ × ℤ)) → unsigned_abs c ≤ b → Within b es → Within b (with_entry v c es)
+pub within_entry : (b v : ℕ) (c : ℤ) (es : List (ℕ × ℤ)) → unsigned_abs c ≤ b → Within b es → Within b (with_entry v c es)
 within_entry b v (pos zero) es h k = k
 within_entry b v (pos (suc n)) es h k = (h, k)
 within_entry b v (negsuc n) es h k = (h, k)
@@ -37,7 +36,7 @@ abs_neg (pos zero) = omega arith
 abs_neg (pos (suc n)) = omega arith
 abs_neg (negsuc n) = omega arith
 
-abs_sum : (x y : ℤ) → unsigned_abs (x +ℤ y) ≤ unsigned_abs x + unsigned_abs y
+pub abs_sum : (x y : ℤ) → unsigned_abs (x +ℤ y) ≤ unsigned_abs x + unsigned_abs y
 abs_sum x y = omega (arith, ints)
 
 within_negated : (b : ℕ) (es : List (ℕ × ℤ)) → Within b es → Within b (map (λ e. (e.0, neg_ℤ e.1)) es)
@@ -86,7 +85,7 @@ bounded_sum b c f g h k = record {
   entries = within_joined b c _ _ h.entries k.entries;
 }
 
-bounded_fits : (b : ℕ) (f : Linear) → b < 2 ^ 100 → Bounded b f → fits f ≡ true
+pub bounded_fits : (b : ℕ) (f : Linear) → b < 2 ^ 100 → Bounded b f → fits f ≡ true
 unfolding is_within
 bounded_fits b f h k = and_from (is_small f.constant) (are_small f.entries) (small_below _ b _ k.constant h) (small_within b f.entries h k.entries)
 

@@ -6,7 +6,9 @@ pub mod Row
 pub mod Walk
 pub mod Statements
 pub mod Groups
+pub mod Measured
 pub mod GroupViews
+pub mod Unbounded
 pub mod Walking
 pub mod Programs
 pub mod Rules

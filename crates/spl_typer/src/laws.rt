@@ -14,6 +14,7 @@ ghost use Rattle.spl_typer.specs.Told.{Told, Tells, IsWritten, IsModest};
 ghost use Rattle.spl_typer.specs.Placed.{IsPlaced, IsLeast};
 ghost use Rattle.spl_typer.specs.Programs.{typing};
 ghost use Rattle.spl_typer.specs.ProgramRules.{program_faults, ProgramModest};
+ghost use Rattle.spl_typer.specs.Unbounded.{IsTooLargeExactly};
 
 /// The walk over an expression gives its meaning exactly where no rule is broken in it, and else the first of the faults.
 /// Numerals are those that texts have.
@@ -41,4 +42,10 @@ pub fn least_is_told_by_names()
 /// The walk over a program gives a program exactly where no rule is broken in it, and else the first of the faults.
 pub fn program_is_told()
     ensures { (p : Program) → ProgramModest p → Tells (λ t. ⊤) (typing p) (program_faults p) }
+{}
+
+/// A group of typed parts is too large exactly where it has few paths and a number of a composed right side is past 2^30, however
+/// large forms may be: no number on the way comes to 2^100.
+pub fn no_number_on_the_way_is_too_large()
+    ensures { IsTooLargeExactly }
 {}

@@ -215,3 +215,60 @@ fn names_are_kept(rt: HostRuntime) -> Result<(), Fail> {
     assert_eq!(rt; names.labelled("l2"), None);
     Ok(())
 }
+
+/// A text with a part that stands several times in it, and another one behind it.
+fn repeated(
+    alloc: Global,
+    head: &[u8],
+    first: (&[u8], usize),
+    middle: &[u8],
+    second: (&[u8], usize),
+    tail: &[u8],
+) -> Result<Vec<u8>, Fail> {
+    let mut text = Vec::new(alloc);
+    text.extend_from_slice(head)?;
+    for _ in 0..first.1 {
+        text.extend_from_slice(first.0)?;
+    }
+    text.extend_from_slice(middle)?;
+    for _ in 0..second.1 {
+        text.extend_from_slice(second.0)?;
+    }
+    text.extend_from_slice(tail)?;
+    Ok(text)
+}
+
+const GROUP: &[u8] = b"local x: integer; local b, c: boolean; P :: [ << b := ";
+
+/// A value of a group that stands in very many places: composed, it would fill the memory.
+#[test]
+fn a_value_in_many_places_is_counted(rt: HostRuntime) -> Result<(), Fail> {
+    let alloc = rt.alloc();
+    let many = (b"x > 0 /\\ ".as_slice(), 2047);
+    let text = repeated(alloc, GROUP, many, b"x > 0; c := ", (b"b /\\ ", 200_000), b"b >> ]")?;
+    assert_eq!(rt; refused(alloc, &text)?, Some(TypeFault::Limit(LimitKind::Atoms, 46)));
+    let many = (b"true /\\ ".as_slice(), 200_000);
+    let text = repeated(alloc, GROUP, many, b"true; c := ", (b"b /\\ ", 200_000), b"b >> ]")?;
+    assert_eq!(rt; refused(alloc, &text)?, None);
+    Ok(())
+}
+
+/// A composed truth value, and a guard, of 2,048 atoms and of one more.
+#[test]
+fn atoms_are_counted_exactly(rt: HostRuntime) -> Result<(), Fail> {
+    let alloc = rt.alloc();
+    let limit = Some(TypeFault::Limit(LimitKind::Atoms, 46));
+    for (count, middle, fault) in [
+        (1023, b"x > 0; c := b".as_slice(), None),
+        (2047, b"x > 0; c := b".as_slice(), None),
+        (2048, b"x > 0; c := b".as_slice(), limit),
+        (1023, b"x > 0; c := b /\\ b".as_slice(), None),
+        (1023, b"x > 0; c := b /\\ b /\\ c".as_slice(), limit),
+        (1023, b"x > 0; await b; await b".as_slice(), None),
+        (1023, b"x > 0; await b; await b; await c".as_slice(), limit),
+    ] {
+        let text = repeated(alloc, GROUP, (b"x > 0 /\\ ", count), middle, (b"", 0), b" >> ]")?;
+        assert_eq!(rt; refused(alloc, &text)?, fault, "{count} {middle:?}");
+    }
+    Ok(())
+}

@@ -124,6 +124,14 @@ fn limits_are_named_once_they_are_passed(rt: HostRuntime) -> Result<(), Fail> {
             "",
             "limit: Processes 16\n",
         ),
+        // A value of a group that stands in very many places.
+        (
+            "local x: integer; local b, c: boolean; P :: [ << b := x > 0 /\\ x > 1 /\\ x > 2 /\\ x > 3; c := b",
+            " /\\ b",
+            200_000,
+            " >> ]",
+            "limit: Atoms 2048\n",
+        ),
     ] {
         let program = repeated(&rt, first, part, count, last)?;
         let mut files = stored(&rt, (&program, PROOF, CERTS), &[], 1000)?;

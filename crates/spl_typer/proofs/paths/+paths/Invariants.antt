@@ -1,7 +1,7 @@
 use Rattle.std.proofs.Common.{◌≡◌, drop}
 use Rattle.st_program.specs.Groups.{paths_along}
 use Rattle.st_program.specs.Plain.{plain_pieces}
-use Rattle.spl_typer.specs.GroupViews.{link_view, path_views, composition_view}
+use Rattle.spl_typer.specs.GroupViews.{path_views}
 use Rattle.spl_typer.proofs.Products.{times}
 use Rattle.spl_typer.proofs.paths.+paths.Given as goal
 

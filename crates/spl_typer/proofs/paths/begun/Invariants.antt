@@ -1,5 +1,5 @@
 use Rattle.std.proofs.Common.{◌≡◌, drop, map, ◌∷◌, ◌++◌}
-use Rattle.spl_typer.specs.GroupViews.{link_view, path_views, composition_view}
+use Rattle.spl_typer.specs.GroupViews.{link_view, path_views}
 use Rattle.spl_typer.proofs.paths.begun.Given as goal
 
 abbrev pub invariant-loop-path : goal.invariant-loop-path

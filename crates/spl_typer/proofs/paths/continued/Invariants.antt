@@ -1,5 +1,5 @@
-use Rattle.std.proofs.Common.{◌≡◌, drop, map, ◌∷◌, ◌++◌}
-use Rattle.spl_typer.specs.GroupViews.{link_view, path_views, composition_view}
+use Rattle.std.proofs.Common.{◌≡◌, drop, map, ◌++◌}
+use Rattle.spl_typer.specs.GroupViews.{link_view, path_views}
 use Rattle.spl_typer.proofs.paths.continued.Given as goal
 
 abbrev pub invariant-loop-more : goal.invariant-loop-more

@@ -1,5 +1,5 @@
-use Rattle.std.proofs.Common.{◌≡◌, drop, map, ◌∷◌, ◌++◌}
-use Rattle.spl_typer.specs.GroupViews.{link_view, path_views, composition_view}
+use Rattle.std.proofs.Common.{◌≡◌, drop, ◌++◌}
+use Rattle.spl_typer.specs.GroupViews.{path_views}
 use Rattle.spl_typer.proofs.Products.{times}
 use Rattle.spl_typer.proofs.paths.product.Given as goal
 

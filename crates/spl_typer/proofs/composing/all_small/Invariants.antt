@@ -1,7 +1,0 @@
-use Rattle.std.proofs.Common.{◌≡◌, drop}
-use Rattle.spl_typer.specs.GroupViews.{link_view, path_views, composition_view}
-use Rattle.spl_typer.specs.Groups as rules
-use Rattle.spl_typer.proofs.composing.all_small.Given as goal
-
-abbrev pub invariant-loop-path : goal.invariant-loop-path
-invariant-loop-path l = rules.all_small l.at (path_views (drop l.path-index l.paths)) ≡ rules.all_small l.at (path_views l.paths)

@@ -12,7 +12,12 @@ returns-in-Ok-clause-follows g c =
     let spelled = rw c.deref.ensures.value at c.in-Ok.ensures in
     rw spelled c.with_goal.ensures.follows
 
-pub returns-in-Err-Unsupported-clause-follows : goal.returns-in-Err-Unsupported-clause-follows
-returns-in-Err-Unsupported-clause-follows g c =
-    let none = rw (c.in-Err-Unsupported.field-0-is, c.deref.ensures.value) at c.in-Err-Unsupported.ensures in
-    rw none (IfOk-weaker c.proof_refused.result _ _ (λ e h. decided_here read_fault_text _ _ _ _ e refl tt h) c.proof_refused.ensures)
+pub returns-in-Err-Fault-clause-follows : goal.returns-in-Err-Fault-clause-follows
+returns-in-Err-Fault-clause-follows g c =
+    let refused = rw (c.in-Err-Fault.field-0-is, c.deref.ensures.value) at c.in-Err-Fault.ensures in
+    rw refused (IfOk-weaker c.proof_refused.result _ _ (λ e h. decided_here read_fault_text _ _ _ _ e refl tt h) c.proof_refused.ensures)
+
+pub returns-in-Err-Limit-clause-follows : goal.returns-in-Err-Limit-clause-follows
+returns-in-Err-Limit-clause-follows g c =
+    let refused = rw (c.in-Err-Limit.field-0-is, c.deref.ensures.value) at c.in-Err-Limit.ensures in
+    rw refused (IfOk-weaker c.limited.result _ _ (λ e h. decided_here read_fault_text _ _ _ _ e refl tt h) c.limited.ensures)

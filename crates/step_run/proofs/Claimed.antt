@@ -4,8 +4,7 @@ use Rattle.st_tokens.specs.Stream.{Stream, text_stream}
 use Rattle.st_form.specs.Formula.{Formula, Formulas, truth_value, row, equal, bool_var, at, negation, every, some, none, more}
 use Rattle.st_form.specs.declared.variables.Variable.{Variable}
 use Rattle.st_reading.specs.declared.mark.Mark.TheVariants as marks
-use Rattle.st_reading.specs.Reading.{Stop, ◌>>=◌, IsStop, Read, expected, named, at_end}
-use Rattle.st_reading.specs.Faults.{Passed}
+use Rattle.st_reading.specs.Reading.{◌>>=◌, expected, named, at_end}
 use Rattle.spl_parser.specs.Reading.{below, expression_of}
 use Rattle.spl_typer.specs.Scope.{Names}
 use Rattle.spl_typer.specs.Programs.{Typed}
@@ -16,11 +15,9 @@ use Rattle.assertions.specs.Reading.{Answer, form_of}
 use Rattle.assertions.specs.Over.{FormulaOver, FormulasOver, NamesOver}
 use Rattle.assertions.proofs.Over.{form_over}
 use Rattle.assertions.proofs.Tabled.{names_stand}
-use Rattle.step_run.specs.declared.refusals.Refusal.{Refusal}
-use Rattle.step_run.specs.Refusals.{IsRefusal, Fails}
 use Rattle.step_run.specs.Source.{IsSpelled}
 use Rattle.step_run.specs.ProofText.{Goal, Taken, taken, claimed, unless, begins_otherwise, has_rule, has_step, step_of, alone, goal_spelled, IsGoal}
-use Rattle.step_run.proofs.Typed.{from_text, fails_stop}
+use Rattle.step_run.proofs.Typed.{from_text}
 
 -- what is taken has the property
 abbrev Has : {A : Type 0} → (A → Type 0) → Taken A → Type 0
@@ -88,8 +85,3 @@ module _ (vs : List Variable) (locations : ℕ) where
 
 pub claim_within : (p : Typed) (g : Goal) → IsSpelled p → IsGoal (names_of p.names) g → FormulaWithin (types p.variables) p.locations (2 ^ 32) g.claim
 claim_within p g spelled goal = over_within p.variables p.locations g.claim (claim_over p g spelled goal)
-
--- refusals of units
-pub taken_err : (A : Type 0) (r : Refusal) (o : Option (Stop Passed)) (read : Read Passed A) → IsRefusal r o → IsStop o read → Fails r (taken read)
-taken_err A r None read is stop = rw is tt
-taken_err A r (Some f) read is stop = rw (is, stop) (fails_stop (A × Stream) f)

@@ -54,19 +54,19 @@ pub spelled_ok : (text : List ℕ) (x : raw.Program) (p : Typed) → parsed text
 unfolding source_spelled
 spelled_ok text x p e f = ap source_of e ∙ ap source_typed f
 
-fails_token : (Y : Type 0) (f : TokenFault) → Fails {Y = Y} (of_token f) (Err (of_token f))
-fails_token Y (tokens.BadByte place) = refl
-fails_token Y (tokens.LongNumber place) = refl
+fails_token : (f : TokenFault) → Fails {Y = Typed} (of_token f) (Err (of_token f))
+fails_token (tokens.BadByte place) = refl
+fails_token (tokens.LongNumber place) = refl
 
-pub fails_stop : (Y : Type 0) (f : Stop Passed) → Fails {Y = Y} (of_stop f) (Err (of_stop f))
-fails_stop Y (syntax place) = refl
-fails_stop Y (broken f) = fails_token Y f
-fails_stop Y (other (passed kind place)) = refl
+fails_stop : (f : Stop Passed) → Fails {Y = Typed} (of_stop f) (Err (of_stop f))
+fails_stop (syntax place) = refl
+fails_stop (broken f) = fails_token f
+fails_stop (other (passed kind place)) = refl
 
 pub spelled_err : (r : Refusal) (o : Option (Stop Passed)) (text : List ℕ) → IsRefusal r o → IsStop o (parsed text) → Fails r (source_spelled text)
 unfolding source_spelled
 spelled_err r None text is stop = rw is tt
-spelled_err r (Some f) text is stop = rw (is, stop) (fails_stop Typed f)
+spelled_err r (Some f) text is stop = rw (is, stop) (fails_stop f)
 
 fails_rule : (f : TypeFault) (r : Result Typed TypeFault) → typer.Fails f r → Fails (of_rule f) (source_typed r)
 fails_rule (faults.Unknown place) r e = ap source_typed e

@@ -1,5 +1,5 @@
 -- What holds of a goal that a text spells: its claim speaks of the program's variables by their types, and of its locations.
-use Rattle.std.proofs.Common.{◌≡◌, ℕ, ◌^◌, List, Option, Some, None, Ok, Err, true, refl, subst, arith, ◌∙◌}
+use Rattle.std.proofs.Common.{◌≡◌, ℕ, ◌^◌, List, Some, None, Ok, Err, true, refl, subst, arith, ◌∙◌}
 use Rattle.st_tokens.specs.Stream.{Stream, text_stream}
 use Rattle.st_form.specs.Formula.{Formula, Formulas, truth_value, row, equal, bool_var, at, negation, every, some, none, more}
 use Rattle.st_form.specs.declared.variables.Variable.{Variable}

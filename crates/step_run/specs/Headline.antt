@@ -2,7 +2,7 @@
 -- proof's text spells a goal over its variables and locations, the certificates' text begins with a valid block for each
 -- condition of basic invariance and has only blanks behind, and the goal holds in every state of every run of that program
 -- by SPL's interleaved steps.
-use Rattle.std.specs.Prelude.{◌≡◌, ℕ, List, Option, Some, None, IfSome, Ok}
+use Rattle.std.specs.Prelude.{◌≡◌, ℕ, List, Option, None, IfSome, Ok}
 use Rattle.spl_parser.specs.ProgramTree as raw
 use Rattle.spl_parser.specs.Theorems.{Spells}
 use Rattle.spl_typer.specs.Programs.{Typed, typing}

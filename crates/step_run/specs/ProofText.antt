@@ -1,7 +1,7 @@
 -- The goal that a proof's text spells: one step `invariant NAME: CLAIM;`, whose claim is a formula over the program's
 -- variables and locations. The units of the text are its claim and its other tokens, from left to right; the first that is
 -- refused decides. Where the language of proofs has further forms, which aren't taken yet, they are refused where they begin.
-use Rattle.std.specs.Prelude.{◌≡◌, ℕ, Bool, true, false, ◌||◌, if◌then◌else◌, List, Option, Some, None, Result, Ok, Err}
+use Rattle.std.specs.Prelude.{◌≡◌, ℕ, Bool, true, false, ◌||◌, if◌then◌else◌, List, Some, None, Result, Ok, Err}
 use Rattle.st_form.specs.Formula.{Formula}
 use Rattle.st_tokens.specs.Stream.{Stream, ends, text_stream}
 use Rattle.st_reading.specs.declared.mark.Mark.TheVariants as marks

@@ -1,5 +1,5 @@
 -- From status 0 to what it shows.
-use Rattle.std.proofs.Common.{◌≡◌, ℕ, List, [], length, refl, ap, ◌∙◌, subst}
+use Rattle.std.proofs.Common.{◌≡◌, ℕ, List, [], length, refl, subst}
 use Rattle.std.specs.Prelude.{Bool, true, false, Option, Some, None, Result, Ok, Err, IfSome, option_and_then, if◌then◌else◌, nat_lt}
 use Rattle.st_tokens.specs.declared.limit.LimitKind.TheVariants as limits
 use Rattle.st_form.specs.Condition.{Implication}
@@ -15,7 +15,8 @@ use Rattle.step_run.specs.declared.refusals.Refusal.{Refusal}
 use Rattle.step_run.specs.declared.refusals.Refusal.TheVariants as texts
 use Rattle.step_run.specs.declared.status.Status.{Status}
 use Rattle.step_run.specs.declared.status.Status.TheVariants.{Proved}
-use Rattle.step_run.specs.Source.{Source, source_spelled}
+use Rattle.assertions.specs.Naming.{names_of}
+use Rattle.step_run.specs.Source.{source_spelled}
 use Rattle.step_run.specs.ProofText.{Goal, goal_spelled}
 use Rattle.step_run.specs.Conditions.{drafts, conditions_of, setting_of}
 use Rattle.step_run.specs.Check.{whole_text, Checked, all_valid, refused, checked_from}
@@ -52,23 +53,23 @@ valid_in p cs h = h
 abbrev Shown : List ℕ → List ℕ → List ℕ → Type 0
 Shown pt qt certificates = (text : raw.Program) × ((p : Typed) × ((g : Goal) × Shows pt qt certificates text p g))
 
-shown : (pt qt certificates : List ℕ) (s : Source) (g : Goal) → source_spelled pt ≡ Ok s → goal_spelled s.known qt ≡ Some g → Proved ≡ (judged s.program g.name (conditions_of s.program g) certificates).status → Shown pt qt certificates
-shown pt qt certificates s g program goal e =
-    let b = proved_behind s.program g.name (conditions_of s.program g) certificates e in
-    let f = from_text pt s program in (
+shown : (pt qt certificates : List ℕ) (p : Typed) (g : Goal) → source_spelled pt ≡ Ok p → goal_spelled (names_of p.names) qt ≡ Ok g → Proved ≡ (judged p g.name (conditions_of p g) certificates).status → Shown pt qt certificates
+shown pt qt certificates p g program goal e =
+    let b = proved_behind p g.name (conditions_of p g) certificates e in
+    let f = from_text pt p program in (
       f.program,
       (
-        s.program,
+        p,
         (
           g,
           record {
             spelled = what_is_read_is_spelled pt f.program f.reads;
             program = f.types;
-            goal = ap (λ ks. goal_spelled ks qt) f.known ∙ goal;
+            goal = goal;
             rest = b.rest;
             valid = b.valid;
             blank = b.blank;
-            holds = goal_holds s g (pt, program) (valid_in s.program (conditions_of s.program g) (all_are_valid (setting_of s.program) 1 (conditions_of s.program g) (whole_text certificates) b.rest b.valid));
+            holds = goal_holds p g (pt, program) (valid_in p (conditions_of p g) (all_are_valid (setting_of p) 1 (conditions_of p g) (whole_text certificates) b.rest b.valid));
           },
         ),
       ),
@@ -91,24 +92,26 @@ module _ (told : List ℕ → Option (List ℕ)) (words : List (List ℕ)) where
   abbrev Last : List ℕ → List ℕ → Type 0
   Last pt qt = IfSome (told (word words 4)) (λ certificates. Shown pt qt certificates)
 
-  by_conditions : (pt qt : List ℕ) (s : Source) (g : Goal) → source_spelled pt ≡ Ok s → goal_spelled s.known qt ≡ Some g
-      → (fault : Option VcFault) → IfSome (outcome_of told (plan_of_conditions words s.program g fault)) IsProved → Last pt qt
-  by_conditions pt qt s g program goal (Some fault) e = absurd cc
-  by_conditions pt qt s g program goal None e =
-      asked (λ certificates. Shown pt qt certificates) 268435456 (limited limits.Certificates) (λ bytes. Some (judged s.program g.name (conditions_of s.program g) bytes)) (λ x. cc)
-      (λ bytes x. shown pt qt bytes s g program goal x) (told (word words 4)) e
+  by_conditions : (pt qt : List ℕ) (p : Typed) (g : Goal) → source_spelled pt ≡ Ok p → goal_spelled (names_of p.names) qt ≡ Ok g
+      → (fault : Option VcFault) → IfSome (outcome_of told (plan_of_conditions words p g fault)) IsProved → Last pt qt
+  by_conditions pt qt p g program goal (Some fault) e = absurd cc
+  by_conditions pt qt p g program goal None e =
+      asked (λ certificates. Shown pt qt certificates) 268435456 (limited limits.Certificates) (λ bytes. Some (judged p g.name (conditions_of p g) bytes)) (λ x. cc)
+      (λ bytes x. shown pt qt bytes p g program goal x) (told (word words 4)) e
 
-  by_goal : (pt qt : List ℕ) (s : Source) → source_spelled pt ≡ Ok s → (o : Option Goal) → goal_spelled s.known qt ≡ o → IfSome (outcome_of told (plan_of_goal words s.program o)) IsProved → Last pt qt
-  by_goal pt qt s program None goal e = absurd cc
-  by_goal pt qt s program (Some g) goal e = by_conditions pt qt s g program goal (refusals [] (drafts s.program g)) e
+  by_goal : (pt qt : List ℕ) (p : Typed) → source_spelled pt ≡ Ok p → (o : Result Goal Refusal) → goal_spelled (names_of p.names) qt ≡ o → IfSome (outcome_of told (plan_of_goal words p o)) IsProved → Last pt qt
+  by_goal pt qt p program (Err (texts.Fault kind place)) goal e = absurd cc
+  by_goal pt qt p program (Err (texts.Limit kind)) goal e = absurd cc
+  by_goal pt qt p program (Err texts.Memory) goal e = absurd cc
+  by_goal pt qt p program (Ok g) goal e = by_conditions pt qt p g program goal (refusals [] (drafts p g)) e
 
-  by_program : (pt : List ℕ) (r : Result Source Refusal) → source_spelled pt ≡ r → IfSome (outcome_of told (plan_of_program words r)) IsProved → IfSome (told (word words 3)) (λ qt. Last pt qt)
+  by_program : (pt : List ℕ) (r : Result Typed Refusal) → source_spelled pt ≡ r → IfSome (outcome_of told (plan_of_program words r)) IsProved → IfSome (told (word words 3)) (λ qt. Last pt qt)
   by_program pt (Err (texts.Fault kind place)) program e = absurd cc
   by_program pt (Err (texts.Limit kind)) program e = absurd cc
   by_program pt (Err texts.Memory) program e = absurd cc
-  by_program pt (Ok s) program e =
-      asked (λ qt. Last pt qt) 4194304 (limited limits.Text) (λ bytes. outcome_of told (plan_of_goal words s.program (goal_spelled s.known bytes))) (λ x. cc)
-      (λ qt x. by_goal pt qt s program (goal_spelled s.known qt) refl x) (told (word words 3)) e
+  by_program pt (Ok p) program e =
+      asked (λ qt. Last pt qt) 4194304 (limited limits.Text) (λ bytes. outcome_of told (plan_of_goal words p (goal_spelled (names_of p.names) bytes))) (λ x. cc)
+      (λ qt x. by_goal pt qt p program (goal_spelled (names_of p.names) qt) refl x) (told (word words 3)) e
 
   by_words : (b : Bool) → IfSome (outcome_of told (plan_of_words b words)) IsProved → Headline told words
   by_words false e = absurd cc

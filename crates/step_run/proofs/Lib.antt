@@ -5,8 +5,8 @@ pub mod TopLemmas
 pub mod Tests
 pub mod Judging
 pub mod Headline
-pub mod Known
 pub mod Typed
+pub mod Claimed
 pub mod Obliged
 pub mod Limited
 pub mod Blocks

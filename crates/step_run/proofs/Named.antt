@@ -6,7 +6,8 @@ use Rattle.vc_generator.specs.Refusing.{refusals}
 use Rattle.spl_typer.specs.Programs.{Typed}
 use Rattle.step_run.specs.declared.status.FileRole.{FileRole}
 use Rattle.step_run.specs.declared.refusals.Refusal.{Refusal}
-use Rattle.step_run.specs.Source.{Source, source_spelled}
+use Rattle.assertions.specs.Naming.{names_of}
+use Rattle.step_run.specs.Source.{source_spelled}
 use Rattle.step_run.specs.ProofText.{Goal, goal_spelled}
 use Rattle.step_run.specs.Conditions.{drafts}
 use Rattle.step_run.specs.Plan.{ComesTo}
@@ -18,14 +19,14 @@ module _ (told : List ℕ → Option (List ℕ)) (words : List (List ℕ)) (role
   named_conditions p g None (inl is) = subst (λ (r : FileRole). names_file true words r name) is.0 is.1
   named_conditions p g None (inr more) = absurd more.3
 
-  named_goal : (p : Typed) (goal : Option Goal) → ComesTo told (plan_of_goal words p goal) role name → names_file true words role name
-  named_goal p None none = absurd none
-  named_goal p (Some g) asked = named_conditions p g (refusals [] (drafts p g)) asked
+  named_goal : (p : Typed) (goal : Result Goal Refusal) → ComesTo told (plan_of_goal words p goal) role name → names_file true words role name
+  named_goal p (Err refusal) none = absurd none
+  named_goal p (Ok g) asked = named_conditions p g (refusals [] (drafts p g)) asked
 
-  named_program : (program : Result Source Refusal) → ComesTo told (plan_of_program words program) role name → names_file true words role name
+  named_program : (program : Result Typed Refusal) → ComesTo told (plan_of_program words program) role name → names_file true words role name
   named_program (Err refusal) none = absurd none
-  named_program (Ok s) (inl is) = subst (λ (r : FileRole). names_file true words r name) is.0 is.1
-  named_program (Ok s) (inr more) = named_goal s.program (goal_spelled s.known more.0) more.3
+  named_program (Ok p) (inl is) = subst (λ (r : FileRole). names_file true words r name) is.0 is.1
+  named_program (Ok p) (inr more) = named_goal p (goal_spelled (names_of p.names) more.0) more.3
 
   named_words : (check : Bool) → ComesTo told (plan_of_words check words) role name → names_file check words role name
   named_words false none = absurd none

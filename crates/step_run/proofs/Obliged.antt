@@ -21,17 +21,18 @@ use Rattle.spl_semantics.proofs.ControlMet.{reached_meets}
 use Rattle.spl_translation.specs.Translation.{translation}
 use Rattle.spl_translation.proofs.Corresponding.{corresponds}
 use Rattle.spl_translation.proofs.Observed.{run_seen}
-use Rattle.spl_translation.proofs.Fitted.{formula_within}
 use Rattle.spl_translation.proofs.Systemic.{translation_is_system}
 use Rattle.obligation_laws.specs.Narrow.{AreNarrowDrafts}
 use Rattle.obligation_laws.specs.Obligations.{AreValid, HoldsOnRuns}
 use Rattle.obligation_laws.proofs.Enough.{enough}
 use Rattle.obligation_laws.proofs.NarrowLists.{invariance-narrow}
 use Rattle.spl_typer.specs.Programs.{Typed}
-use Rattle.step_run.specs.Source.{Source, IsSpelled}
+use Rattle.assertions.specs.Naming.{names_of}
+use Rattle.step_run.specs.Source.{IsSpelled}
 use Rattle.step_run.specs.ProofText.{Goal, IsGoal}
 use Rattle.step_run.specs.Conditions.{system_of, drafts, conditions_of, AreNarrow}
-use Rattle.step_run.proofs.Typed.{fit, claim_fits}
+use Rattle.step_run.proofs.Typed.{well_typed}
+use Rattle.step_run.proofs.Claimed.{claim_within}
 use Rattle.obligation_laws.proofs.FewModes.{few_modes}
 
 narrow_list : (ds : List Draft) → AreNarrowDrafts ds → AreNarrow (map (λ d. d.condition) ds)
@@ -39,18 +40,16 @@ narrow_list [] h = tt
 narrow_list (d ∷ ds) h = (h.0.0, h.0.1, narrow_list ds h.1)
 
 -- each condition is as narrow as the checker asks
-pub narrow : (s : Source) (g : Goal) → IsSpelled s → IsGoal s.known g → AreNarrow (conditions_of s.program g)
+pub narrow : (p : Typed) (g : Goal) → IsSpelled p → IsGoal (names_of p.names) g → AreNarrow (conditions_of p g)
 unfolding drafts system_of
-narrow s g spelled goal =
-    let p = s.program in
-    let k = fit s spelled in
+narrow p g spelled goal =
     narrow_list (drafts p g)
-    (invariance-narrow 0 (system_of p) [] g.claim None (translation_is_system p.variables p.initial p.processes p.locations p.statements k.program) tt
-    (formula_within p.variables p.locations (2 ^ 32) (2 ^ 32) (omega arith) g.claim (claim_fits s g spelled goal)) tt)
+    (invariance-narrow 0 (system_of p) [] g.claim None (translation_is_system p.variables p.initial p.processes p.locations p.statements (well_typed p spelled)) tt
+    (claim_within p g spelled goal) tt)
 
-pub modes_few : (s : Source) → IsSpelled s → HasFewModes (system_of s.program)
+pub modes_few : (p : Typed) → IsSpelled p → HasFewModes (system_of p)
 unfolding system_of
-modes_few s spelled = few_modes s.program.variables s.program.initial s.program.processes s.program.locations s.program.statements (fit s spelled).program
+modes_few p spelled = few_modes p.variables p.initial p.processes p.locations p.statements (well_typed p spelled)
 
 -- the conditions that the rule appends, for the program's system
 asked : (p : Typed) (g : Goal) (system : System) (lemmas : List Formula) → system ≡ system_of p → lemmas ≡ [] → invariance_list 0 system lemmas g.claim None ≡ drafts p g
@@ -76,8 +75,8 @@ pub system_is : (p : Typed) (system : System) → system ≡ translation p.varia
 unfolding system_of
 system_is p system e = e
 
-pub system_few : (s : Source) (system : System) → system ≡ translation s.program.variables s.program.initial s.program.processes s.program.locations → IsSpelled s → HasFewModes system
-system_few s system e spelled = subst HasFewModes (sym (system_is s.program system e)) (modes_few s spelled)
+pub system_few : (p : Typed) (system : System) → system ≡ translation p.variables p.initial p.processes p.locations → IsSpelled p → HasFewModes system
+system_few p system e spelled = subst HasFewModes (sym (system_is p system e)) (modes_few p spelled)
 
 -- at most 20,000 conditions are appended
 one_more : (b wide heavy : Bool) (more : Option VcFault) → else_refusal (if b then Some faults.TooMany else (if wide then Some faults.TooWide else (if heavy then Some faults.TooHeavy else None))) more ≡ None → (b ≡ false) × (more ≡ None)
@@ -112,11 +111,10 @@ valid_list k [] h = tt
 valid_list k (d ∷ ds) h = (h.0, valid_list k ds h.1)
 
 -- where all conditions are valid, the claim holds on every run
-pub goal_holds : (s : Source) (g : Goal) → IsSpelled s → AllValid (control_of s.program.processes) (conditions_of s.program g) → HoldsOnRuns s.program.processes s.program.initial (invariant g.claim)
+pub goal_holds : (p : Typed) (g : Goal) → IsSpelled p → AllValid (control_of p.processes) (conditions_of p g) → HoldsOnRuns p.processes p.initial (invariant g.claim)
 unfolding drafts system_of
-goal_holds s g spelled valid =
-    let p = s.program in
-    let k = (fit s spelled).program in
+goal_holds p g spelled valid =
+    let k = well_typed p spelled in
     let system = translation p.variables p.initial p.processes p.locations in
     let both = corresponds p.variables p.initial p.processes p.locations k.well k.typed k.start in
     enough p.processes p.initial system (λ st r. reached_meets p.processes p.initial k.well st r) (λ o run. run_seen p.processes p.initial k.well.numbered system both o run)

@@ -1,88 +1,64 @@
--- What holds of a program that a text spells, and of a goal for it.
-use Rattle.std.proofs.Common.{◌≡◌, ℕ, ◌≤◌, List, length, Option, Some, None, Result, Ok, Err, refl, ap, sym, ◌∙◌, subst, arith}
-use Rattle.std.proofs.lemmas.List.{length-map}
+-- What holds of a program that a text spells.
+use Rattle.std.proofs.Common.{◌≡◌, ℕ, List, Option, Some, None, Result, Ok, Err, refl, ap, ◌∙◌, subst}
 use Rattle.st_tokens.specs.declared.kind.TokenFault.{TokenFault}
 use Rattle.st_tokens.specs.declared.kind.TokenFault.TheVariants as tokens
-use Rattle.st_reading.specs.Reading.{Stop, syntax, broken, other, Label, IsStop}
+use Rattle.st_reading.specs.Reading.{Stop, syntax, broken, other, IsStop}
 use Rattle.st_reading.specs.Faults.{Passed, passed}
-use Rattle.st_program.specs.Tree.{Term, number, truth}
 use Rattle.st_program.specs.Locations.{SomeProcess}
 use Rattle.st_program.specs.Programs.{IsProgram}
-use Rattle.st_program.specs.Types.{TestFits}
-use Rattle.spl_parser.specs.ExpressionTree.{Expr}
 use Rattle.spl_parser.specs.ProgramTree as raw
 use Rattle.spl_parser.specs.Parsing.{parsed}
 use Rattle.spl_typer.specs.declared.fault.TypeFault.{TypeFault}
-use Rattle.spl_typer.specs.Typing.{typed}
+use Rattle.spl_typer.specs.declared.fault.TypeFault.TheVariants as faults
+use Rattle.spl_typer.specs.Answers as typer
 use Rattle.spl_typer.specs.Programs.{Heading, heading_of, side_by_side, names_of, Typed, typing}
 use Rattle.spl_typer.proofs.Holding.{Holds, bound, anyway}
-use Rattle.spl_typer.proofs.Terms.{Scoped, Good, typed_good}
 use Rattle.spl_typer.proofs.Whole.{Sound, heading_sound, is_program}
 use Rattle.step_run.specs.declared.refusals.Refusal.{Refusal}
-use Rattle.step_run.specs.Refusals.{of_token, of_stop, IsRefusal, Fails}
-use Rattle.step_run.specs.Source.{Source, known_in, source_typed, source_of, source_spelled, IsSpelled}
-use Rattle.step_run.specs.ProofText.{Goal, claim_typed, goal_claimed, goal_stepped, step_spelled, goal_spelled, IsGoal}
-use Rattle.step_run.proofs.Known.{variable_of, variables_of, known_numbered, heading_has}
+use Rattle.step_run.specs.Refusals.{of_token, of_stop, of_rule, IsRefusal, Fails}
+use Rattle.step_run.specs.Source.{source_typed, source_of, source_spelled, IsSpelled}
 
-pub record Facts (p : raw.Program) (t : Typed) : Type 0 where
-  pub variables : t.variables ≡ variables_of (known_in p)
-  pub program : IsProgram t.variables t.initial t.processes t.locations t.statements
+abbrev pub IsWell : Typed → Type 0
+IsWell p = IsProgram p.variables p.initial p.processes p.locations p.statements
 
 abbrev Whole : Heading → Type 0
 Whole h = Sound h × SomeProcess (side_by_side h.processes)
 
-abbrev Both : raw.Program → Heading → Type 0
-Both p h = (h.variables ≡ variables_of (known_in p)) × Whole h
-
-both : (p : raw.Program) (r : Result Heading TypeFault) → Holds (λ h. h.variables ≡ variables_of (known_in p)) r → Holds Whole r → Holds (Both p) r
-both p (Ok h) a b = (a, b)
-both p (Err f) a b = tt
-
-typing_facts : (p : raw.Program) → Holds (Facts p) (typing p)
-typing_facts p =
-    bound (Both p) (Facts p) (heading_of p) _ (both p (heading_of p) (heading_has p) (heading_sound p))
-    (λ h k. anyway (Facts p) (names_of h.state.names) _ (λ names. record { variables = k.0; program = is_program h k.1.0 k.1.1 }))
-
-pub facts : (p : raw.Program) (t : Typed) → typing p ≡ Ok t → Facts p t
-facts p t e = subst (Holds (Facts p)) e (typing_facts p)
-
-pub few_known : (p : raw.Program) (t : Typed) → typing p ≡ Ok t → length (known_in p) ≤ 64
-few_known p t e =
-    let f = facts p t e in
-    let same : length (variables_of (known_in p)) ≡ length (known_in p) = length-map (known_in p) variable_of in
-    omega (arith, f.program.few_variables, ap length f.variables)
+typing_well : (text : raw.Program) → Holds IsWell (typing text)
+typing_well text =
+    bound Whole IsWell (heading_of text) _ (heading_sound text)
+    (λ h k. anyway IsWell (names_of h.state.names) _ (λ names. is_program h k.0 k.1))
 
 -- the program of a text
-pub record From (text : List ℕ) (s : Source) : Type 0 where
+pub record From (text : List ℕ) (p : Typed) : Type 0 where
   pub program : raw.Program
   pub reads : parsed text ≡ Ok program
-  pub types : typing program ≡ Ok s.program
-  pub known : known_in program ≡ s.known
+  pub types : typing program ≡ Ok p
 
-by_typed : (text : List ℕ) (p : raw.Program) (r : Result Typed TypeFault) (s : Source) → parsed text ≡ Ok p → typing p ≡ r → source_typed p r ≡ Ok s → From text s
-by_typed text p (Ok t) s reads e h =
-    let is : record { program = t; known = known_in p } ≡ s = cc in
-    record { program = p; reads = reads; types = e ∙ ap (λ (x : Source). Ok x.program) is; known = ap (λ (x : Source). x.known) is }
-by_typed text p (Err f) s reads e h = absurd cc
+by_typed : (text : List ℕ) (x : raw.Program) (r : Result Typed TypeFault) (p : Typed) → parsed text ≡ Ok x → typing x ≡ r → source_typed r ≡ Ok p → From text p
+by_typed text x (Ok t) p reads e h =
+    let is : t ≡ p = cc in
+    record { program = x; reads = reads; types = e ∙ ap (λ (q : Typed). Ok q) is }
+by_typed text x (Err f) p reads e h = absurd cc
 
-by_parsed : (text : List ℕ) (r : Result raw.Program (Stop Passed)) (s : Source) → parsed text ≡ r → source_of r ≡ Ok s → From text s
-by_parsed text (Ok p) s e h = by_typed text p (typing p) s e refl h
-by_parsed text (Err f) s e h = absurd cc
+by_parsed : (text : List ℕ) (r : Result raw.Program (Stop Passed)) (p : Typed) → parsed text ≡ r → source_of r ≡ Ok p → From text p
+by_parsed text (Ok x) p e h = by_typed text x (typing x) p e refl h
+by_parsed text (Err f) p e h = absurd cc
 
-pub from_text : (text : List ℕ) (s : Source) → source_spelled text ≡ Ok s → From text s
+pub from_text : (text : List ℕ) (p : Typed) → source_spelled text ≡ Ok p → From text p
 unfolding source_spelled
-from_text text s h = by_parsed text (parsed text) s refl h
+from_text text p h = by_parsed text (parsed text) p refl h
 
 -- reading a text goes on with what was parsed
-pub spelled_ok : (text : List ℕ) (p : raw.Program) → parsed text ≡ Ok p → source_spelled text ≡ source_typed p (typing p)
+pub spelled_ok : (text : List ℕ) (x : raw.Program) (p : Typed) → parsed text ≡ Ok x → typing x ≡ Ok p → source_spelled text ≡ Ok p
 unfolding source_spelled
-spelled_ok text p e = ap source_of e
+spelled_ok text x p e f = ap source_of e ∙ ap source_typed f
 
-fails_token : (f : TokenFault) → Fails {Y = Source} (of_token f) (Err (of_token f))
+fails_token : (f : TokenFault) → Fails {Y = Typed} (of_token f) (Err (of_token f))
 fails_token (tokens.BadByte place) = refl
 fails_token (tokens.LongNumber place) = refl
 
-fails_stop : (f : Stop Passed) → Fails {Y = Source} (of_stop f) (Err (of_stop f))
+fails_stop : (f : Stop Passed) → Fails {Y = Typed} (of_stop f) (Err (of_stop f))
 fails_stop (syntax place) = refl
 fails_stop (broken f) = fails_token f
 fails_stop (other (passed kind place)) = refl
@@ -92,32 +68,24 @@ unfolding source_spelled
 spelled_err r None text is stop = rw is tt
 spelled_err r (Some f) text is stop = rw (is, stop) (fails_stop f)
 
--- a program that some text spells
-pub record Fit (s : Source) : Type 0 where
-  pub program : IsProgram s.program.variables s.program.initial s.program.processes s.program.locations s.program.statements
-  pub scoped : Scoped s.program.variables s.known
+fails_rule : (f : TypeFault) (r : Result Typed TypeFault) → typer.Fails f r → Fails (of_rule f) (source_typed r)
+fails_rule (faults.Unknown place) r e = ap source_typed e
+fails_rule (faults.Twice place) r e = ap source_typed e
+fails_rule (faults.WrongType place) r e = ap source_typed e
+fails_rule (faults.NonLinear place) r e = ap source_typed e
+fails_rule (faults.TooLarge place) r e = ap source_typed e
+fails_rule (faults.InputAssigned place) r e = ap source_typed e
+fails_rule (faults.SelectHead place) r e = ap source_typed e
+fails_rule (faults.SameTarget place) r e = ap source_typed e
+fails_rule (faults.Limit kind place) r e = ap source_typed e
+fails_rule faults.Memory r e = tt
 
-pub fit : (s : Source) → IsSpelled s → Fit s
-fit s h =
-    let f = from_text h.0 s h.1 in
-    let k = facts f.program s.program f.types in
-    record {
-      program = k.program;
-      scoped = subst (Scoped s.program.variables) f.known (subst (λ vs. Scoped vs (known_in f.program)) (sym k.variables) (known_numbered f.program));
-    }
+pub typed_err : (r : Refusal) (f : TypeFault) (text : List ℕ) (x : raw.Program) → r ≡ of_rule f → parsed text ≡ Ok x → typer.Fails f (typing x) → Fails r (source_spelled text)
+unfolding source_spelled
+typed_err r f text x is reads e = rw (is, reads) (fails_rule f (typing x) e)
 
--- the claim of a goal speaks of the program's variables by their types, with written numbers
-by_term : (s : Source) (name : List ℕ) (r : Result Term TypeFault) (g : Goal) → Holds (Good s.program.variables) r → goal_claimed name (claim_typed r) ≡ Some g → TestFits s.program.variables g.claim
-by_term s name (Ok (truth f)) g good h =
-    let is : record { name = name; claim = f } ≡ g = cc in
-    subst (λ (x : Goal). TestFits s.program.variables x.claim) is good
-by_term s name (Ok (number f)) g good h = absurd cc
-by_term s name (Err f) g good h = absurd cc
-
-by_step : (s : Source) (r : Result (Label × Expr) (Stop Passed)) (g : Goal) → Scoped s.program.variables s.known → goal_stepped s.known r ≡ Some g → TestFits s.program.variables g.claim
-by_step s (Ok x) g scoped h = by_term s x.0.text (typed s.known x.1) g (typed_good s.program.variables s.known x.1 scoped) h
-by_step s (Err f) g scoped h = absurd cc
-
-pub claim_fits : (s : Source) (g : Goal) → IsSpelled s → IsGoal s.known g → TestFits s.program.variables g.claim
-unfolding goal_spelled
-claim_fits s g spelled h = by_step s (step_spelled h.0) g (fit s spelled).scoped h.1
+-- a program that some text spells is well typed
+pub well_typed : (p : Typed) → IsSpelled p → IsWell p
+well_typed p h =
+    let f = from_text h.0 p h.1 in
+    subst (Holds IsWell) f.types (typing_well f.program)

@@ -17,13 +17,14 @@ use Rattle.spl_typer.specs.Programs.{Typed}
 use Rattle.cert_text.specs.Blank.{first_place, past_blanks}
 use Rattle.step_run.specs.declared.refusals.Refusal.{Refusal}
 use Rattle.step_run.specs.declared.refusals.Refusal.TheVariants as texts
-use Rattle.step_run.specs.Source.{Source, source_spelled}
+use Rattle.assertions.specs.Naming.{names_of}
+use Rattle.step_run.specs.Source.{source_spelled}
 use Rattle.step_run.specs.ProofText.{Goal, goal_spelled}
 use Rattle.step_run.specs.Conditions.{drafts, conditions_of, setting_of}
 use Rattle.step_run.specs.declared.reasons.Reason.{Reason}
 use Rattle.step_run.specs.Check.{whole_text, Checked, all_valid, refused, checked_from}
 use Rattle.step_run.specs.Plan.{Outcome, Plan, done, ask}
-use Rattle.step_run.specs.Report.{line, program_refused_text, limit_text, condition_name, not_proved_text, trailing_text, proved_text}
+use Rattle.step_run.specs.Report.{line, refused_text, limit_text, condition_name, not_proved_text, trailing_text, proved_text}
 
 -- the bytes of each word
 abbrev pub words_of : List (String Global) → List (List ℕ)
@@ -60,12 +61,15 @@ words_refused = record { status = Words; text = line (codes "words refused\nusag
 
 -- why no program is spelled; want of memory has no text, and no text of a program gives it
 abbrev pub program_refused : Refusal → Outcome
-program_refused (texts.Fault kind place) = record { status = ProgramRefused; text = program_refused_text kind place }
+program_refused (texts.Fault kind place) = record { status = ProgramRefused; text = refused_text TheProgram kind place }
 program_refused (texts.Limit kind) = limited kind
 program_refused texts.Memory = record { status = Memory; text = [] }
 
-abbrev pub proof_refused : Outcome
-proof_refused = record { status = ProofRefused; text = line (codes "proof refused: Unsupported at 0") }
+-- why no goal is spelled
+abbrev pub proof_refused : Refusal → Outcome
+proof_refused (texts.Fault kind place) = record { status = ProofRefused; text = refused_text Proof kind place }
+proof_refused (texts.Limit kind) = limited kind
+proof_refused texts.Memory = record { status = Memory; text = [] }
 
 -- the limit that the conditions of a goal pass; want of memory passes none, and no list of conditions gives it
 abbrev pub limit_of : VcFault → LimitKind
@@ -102,13 +106,13 @@ abbrev pub plan_of_conditions : List (List ℕ) → Typed → Goal → Option Vc
 plan_of_conditions words p g (Some fault) = done (limited (limit_of fault))
 plan_of_conditions words p g None = plan_of_blocks words p g.name (conditions_of p g)
 
-abbrev pub plan_of_goal : List (List ℕ) → Typed → Option Goal → Plan
-plan_of_goal words p None = done proof_refused
-plan_of_goal words p (Some g) = plan_of_conditions words p g (refusals [] (drafts p g))
+abbrev pub plan_of_goal : List (List ℕ) → Typed → Result Goal Refusal → Plan
+plan_of_goal words p (Err refusal) = done (proof_refused refusal)
+plan_of_goal words p (Ok g) = plan_of_conditions words p g (refusals [] (drafts p g))
 
-abbrev pub plan_of_program : List (List ℕ) → Result Source Refusal → Plan
+abbrev pub plan_of_program : List (List ℕ) → Result Typed Refusal → Plan
 plan_of_program words (Err refusal) = done (program_refused refusal)
-plan_of_program words (Ok s) = ask Proof (word words 3) 4194304 (limited limits.Text) (λ bytes. plan_of_goal words s.program (goal_spelled s.known bytes))
+plan_of_program words (Ok p) = ask Proof (word words 3) 4194304 (limited limits.Text) (λ bytes. plan_of_goal words p (goal_spelled (names_of p.names) bytes))
 
 abbrev pub plan_of_words : Bool → List (List ℕ) → Plan
 plan_of_words false words = done words_refused

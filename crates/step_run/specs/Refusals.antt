@@ -1,11 +1,15 @@
--- Why a program's text is refused: the fault of its first place, or the limit that is passed there.
+-- Why the text of a program or of a proof is refused: the fault of its first place, or the limit that is passed there.
 use Rattle.std.specs.Prelude.{◌≡◌, Option, Some, None, Result, Ok, Err}
 use Rattle.st_tokens.specs.declared.kind.TokenFault.{TokenFault}
 use Rattle.st_tokens.specs.declared.kind.TokenFault.TheVariants as tokens
+use Rattle.st_tokens.specs.declared.limit.LimitKind.TheVariants as limits
+use Rattle.st_tokens.specs.Stream.{Stream}
 use Rattle.st_reading.specs.Reading.{Stop, syntax, broken, other}
 use Rattle.st_reading.specs.Faults.{Passed, passed}
 use Rattle.spl_typer.specs.declared.fault.TypeFault.{TypeFault}
 use Rattle.spl_typer.specs.declared.fault.TypeFault.TheVariants as faults
+use Rattle.assertions.specs.declared.fault.FormFault.{FormFault}
+use Rattle.assertions.specs.declared.fault.FormFault.TheVariants as forms
 use Rattle.step_run.specs.declared.refusals.FaultKind.TheVariants as kinds
 use Rattle.step_run.specs.declared.refusals.Refusal.{Refusal}
 use Rattle.step_run.specs.declared.refusals.Refusal.TheVariants.{Fault, Limit, Memory}
@@ -33,6 +37,17 @@ of_rule (faults.SameTarget place) = Fault kinds.SameTarget place
 of_rule (faults.Limit kind place) = Limit kind
 of_rule faults.Memory = Memory
 
+-- the first fault of a formula
+abbrev pub of_form : FormFault → Refusal
+of_form (forms.Syntax place) = Fault kinds.Syntax place
+of_form (forms.Unknown place) = Fault kinds.Unknown place
+of_form (forms.WrongType place) = Fault kinds.WrongType place
+of_form (forms.NonLinear place) = Fault kinds.NonLinear place
+of_form (forms.TooLarge place) = Fault kinds.TooLarge place
+of_form (forms.Token f) = of_token f
+of_form (forms.Nesting place) = Limit limits.Nesting
+of_form forms.Memory = Memory
+
 -- what a refusal of the code is, where `see` tells the fault; want of memory else
 abbrev pub IsRefusal : Refusal → Option (Stop Passed) → Type 0
 IsRefusal r None = r ≡ Memory
@@ -47,3 +62,8 @@ Fails refusal text = text ≡ Err refusal
 abbrev pub Gives : {X Y : Type 0} → (X → Y) → Result X Refusal → Result Y Refusal → Type 0
 Gives view (Ok x) text = text ≡ Ok (view x)
 Gives view (Err refusal) text = Fails refusal text
+
+-- the same, with what is left of the text
+abbrev pub Takes : {X Y : Type 0} → (X → Y) → Result X Refusal → Stream → Result (Y × Stream) Refusal → Type 0
+Takes view (Ok x) rest text = text ≡ Ok (view x, rest)
+Takes view (Err refusal) rest text = Fails refusal text

@@ -30,7 +30,7 @@ role_name Proof = codes "proof"
 role_name Certificates = codes "certificates"
 
 abbrev pub read_fault_text : FileRole → List ℕ
-read_fault_text role = line (codes "read fault: " ++ role_name role)
+read_fault_text role = joined (codes "read fault: " ∷ role_name role ∷ codes "\n" ∷ [])
 
 -- the name of a kind of fault
 abbrev pub kind_name : FaultKind → List ℕ
@@ -45,9 +45,11 @@ kind_name kinds.TooLarge = codes "TooLarge"
 kind_name kinds.InputAssigned = codes "InputAssigned"
 kind_name kinds.SelectHead = codes "SelectHead"
 kind_name kinds.SameTarget = codes "SameTarget"
+kind_name kinds.Unsupported = codes "Unsupported"
 
-abbrev pub program_refused_text : FaultKind → ℕ → List ℕ
-program_refused_text kind place = joined (codes "program refused: " ∷ kind_name kind ∷ codes " at " ∷ decimal place ∷ codes "\n" ∷ [])
+-- why the text of a program or of a proof is refused
+abbrev pub refused_text : FileRole → FaultKind → ℕ → List ℕ
+refused_text role kind place = joined (role_name role ∷ codes " refused: " ∷ kind_name kind ∷ codes " at " ∷ decimal place ∷ codes "\n" ∷ [])
 
 -- the name of a limit, and the most that it lets through
 abbrev pub limit_name : LimitKind → List ℕ

@@ -115,7 +115,7 @@ fn refused(
     condition: &Condition,
     reason: Reason,
 ) -> Result<Ended, Memory>
-    ensures { IfOk result (λ e. EndsAs e (refused_outcome (source_view source.now).program goal.now number (plain_condition condition.now) reason)) }
+    ensures { IfOk result (λ e. EndsAs e (refused_outcome (source_view source.now) goal.now number (plain_condition condition.now) reason)) }
 {
     let name = report::condition_name(alloc, &source.names, &condition.name)?;
     Ok(Ended {
@@ -133,7 +133,7 @@ fn outcome(
     checked: Checked,
     reader: &mut CertReader,
 ) -> Result<Ended, Memory>
-    ensures { IfOk result (λ e. EndsAs e (outcome_of_checked (source_view source.now).program goal.now conditions (checked_of checked.entry reader.old))) }
+    ensures { IfOk result (λ e. EndsAs e (outcome_of_checked (source_view source.now) goal.now conditions (checked_of checked.entry reader.old))) }
 {
     match checked {
         Checked::AllValid => ending(alloc, conditions, goal, reader.trailing()),
@@ -159,7 +159,7 @@ pub fn judge(
 ) -> Result<Ended, Memory>
     requires few { length conditions.now ≤ 20000 }
     requires narrow { AreNarrow (map plain_condition conditions.now) }
-    ensures { IfOk result (λ e. EndsAs e (judged (source_view source.now).program goal.now (map plain_condition conditions.now) text.now)) }
+    ensures { IfOk result (λ e. EndsAs e (judged (source_view source.now) goal.now (map plain_condition conditions.now) text.now)) }
 {
     let components = components(alloc, &source.program)?;
     let variables = variables_of(&source.program);

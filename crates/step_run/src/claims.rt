@@ -1,23 +1,24 @@
-//! The text of a proof: one invariance of a formula over the program's variables.
+//! The text of a proof: one invariance of a formula over the program's variables and locations.
+//!
+//! Its units are the claim and each other token, read from left to right: the first that is refused decides. A token with
+//! which the language of proofs goes on here, but which isn't taken yet, is refused as `Unsupported`.
 
-ghost use Rattle.std.specs.Prelude.{◌≡◌, ◌≤◌};
-ghost use Rattle.st_form.specs.Plain.{plain};
-ghost use Rattle.st_program.specs.Plain.{plain_term};
+ghost use Rattle.std.specs.Prelude.{◌≡◌};
 ghost use Rattle.st_tokens.specs.Stream.{stream};
-ghost use Rattle.st_reading.specs.Reading.{Reads, size};
-ghost use Rattle.st_reading.specs.Faults.{see, name_view};
-ghost use Rattle.spl_parser.specs.ExpressionTree.{expr_view};
-ghost use Rattle.spl_parser.specs.Parsing.{Parses};
-ghost use Rattle.spl_typer.specs.Scope.{scope_view};
-ghost use Rattle.spl_typer.specs.Typing.{typed};
-ghost use Rattle.step_run.specs.ProofText.{step_of, step_spelled, claim_typed, goal_spelled};
-ghost use Rattle.step_run.specs.GoalView.{goal_of, Claims};
+ghost use Rattle.st_reading.specs.declared.mark.Mark.TheVariants as marks;
+ghost use Rattle.st_reading.specs.Reading.{place_of, expected, at_end};
+ghost use Rattle.assertions.specs.Naming.{names_of};
+ghost use Rattle.step_run.specs.Refusals.{Gives, Takes};
+ghost use Rattle.step_run.specs.ProofText.{begins_otherwise, has_rule, has_step, unless, step_of, goal_spelled};
+ghost use Rattle.step_run.specs.GoalView.{goal_of};
+ghost use Rattle.step_run.specs.declared.refusals.FaultKind.TheVariants as kinds;
+ghost use Rattle.step_run.specs.declared.refusals.Refusal.TheVariants as texts;
 
-use spl_parser::{LEVELS, ParseFault, RawExpr, RawName, expression};
-use spl_typer::{Known, TypeFault, typed_expression};
+use crate::refusals::{FaultKind, Refusal};
+use assertions::read_form;
 use st_form::Form;
-use st_program::Value;
-use st_reading::{Mark, at_end, expect, name};
+use st_program::NameTable;
+use st_reading::{Mark, ahead, at_end, expect, is, name, place_of};
 use st_tokens::Tokens;
 use std::alloc::Global;
 
@@ -28,76 +29,90 @@ pub struct Goal<'a> {
     pub claim: Form,
 }
 
-/// Why there is no goal.
-#[derive(Clone, Copy, Debug, PartialEq, Eq)]
-pub enum ClaimFault {
-    /// The text is no proof of this form for the program.
-    Unsupported,
-    Memory,
+/// The refusal of a form that isn't taken yet.
+fn unsupported(tokens: &Tokens) -> Refusal
+    ensures { result ≡ texts.Fault kinds.Unsupported (place_of (stream tokens.now)) }
+{
+    Refusal::Fault(FaultKind::Unsupported, place_of(tokens))
 }
 
-/// Reads one step.
-#[tactic(auto, unfolding(crate::specs::ProofText::step_of))]
-fn step<'a>(
-    alloc: Global,
-    tokens: &mut Tokens<'a>,
-) -> Result<(RawName<'a>, RawExpr<'a>), ParseFault>
-    ensures reads { Reads see (λ x. (name_view x.0, expr_view x.1)) result (stream tokens.new) (step_of (stream tokens.old)) }
-    ensures shrinks { size (stream tokens.new) ≤ size (stream tokens.old) }
+/// Whether a text has no step, or begins with one of another kind.
+fn begins_otherwise(tokens: &Tokens) -> bool
+    ensures { result ≡ begins_otherwise (stream tokens.now) }
 {
-    expect(tokens, Mark::Invariant)?;
+    let ahead = ahead(tokens);
+    matches!(tokens.peek(), Ok(None)) || is(ahead, Mark::Waiting) || is(ahead, Mark::Response)
+}
+
+/// Whether a claim goes on with its rule: a stronger formula, or cited steps.
+fn has_rule(tokens: &Tokens) -> bool
+    ensures { result ≡ has_rule (stream tokens.now) }
+{
+    let ahead = ahead(tokens);
+    is(ahead, Mark::By) || is(ahead, Mark::Using)
+}
+
+/// Whether a further step begins.
+fn has_step(tokens: &Tokens) -> bool
+    ensures { result ≡ has_step (stream tokens.now) }
+{
+    let ahead = ahead(tokens);
+    is(ahead, Mark::Invariant) || is(ahead, Mark::Waiting) || is(ahead, Mark::Response)
+}
+
+/// The first token of a step.
+fn step_begin(tokens: &mut Tokens) -> Result<u64, Refusal>
+    ensures { Takes (λ place. place) result (stream tokens.new) (unless begins_otherwise (expected marks.Invariant) (stream tokens.old)) }
+{
+    if begins_otherwise(tokens) {
+        return Err(unsupported(tokens));
+    }
+    Ok(expect(tokens, Mark::Invariant)?)
+}
+
+/// What stands behind a claim.
+fn step_end(tokens: &mut Tokens) -> Result<u64, Refusal>
+    ensures { Takes (λ place. place) result (stream tokens.new) (unless has_rule (expected marks.Semicolon) (stream tokens.old)) }
+{
+    if has_rule(tokens) {
+        return Err(unsupported(tokens));
+    }
+    Ok(expect(tokens, Mark::Semicolon)?)
+}
+
+/// What stands behind a step.
+fn script_end(tokens: &mut Tokens) -> Result<(), Refusal>
+    ensures { Takes (λ x. x) result (stream tokens.new) (unless has_step at_end (stream tokens.old)) }
+{
+    if has_step(tokens) {
+        return Err(unsupported(tokens));
+    }
+    Ok(at_end(tokens)?)
+}
+
+/// Reads a step.
+#[tactic(auto, unfolding(crate::specs::ProofText::step_of))]
+fn step<'a>(alloc: Global, names: &NameTable, tokens: &mut Tokens<'a>) -> Result<Goal<'a>, Refusal>
+    ensures { Takes goal_of result (stream tokens.new) (step_of (names_of names.now) (stream tokens.old)) }
+{
+    step_begin(tokens)?;
     let name = name(tokens)?;
     expect(tokens, Mark::Colon)?;
-    let claim = expression(alloc, true, LEVELS, tokens)?;
-    expect(tokens, Mark::Semicolon)?;
-    Ok((name, claim))
+    let claim = read_form(alloc, tokens, names)?;
+    step_end(tokens)?;
+    Ok(Goal {
+        name: name.text,
+        claim,
+    })
 }
 
-/// Reads a text of one step.
-#[tactic(auto, unfolding(crate::specs::ProofText::step_spelled))]
-fn whole_step<'a>(alloc: Global, text: &'a [u8]) -> Result<(RawName<'a>, RawExpr<'a>), ParseFault>
-    ensures { Parses (λ x. (name_view x.0, expr_view x.1)) result (step_spelled text.now) }
+/// Reads the goal that a proof's text spells for a program with these names.
+#[tactic(auto, unfolding(crate::specs::ProofText::goal_spelled))]
+pub fn read_goal<'a>(alloc: Global, names: &NameTable, text: &'a [u8]) -> Result<Goal<'a>, Refusal>
+    ensures { Gives goal_of result (goal_spelled (names_of names.now) text.now) }
 {
     let mut tokens = Tokens::new(text);
-    let step = step(alloc, &mut tokens)?;
-    at_end(&mut tokens)?;
-    Ok(step)
-}
-
-/// Types a claim.
-fn typed_claim<'a>(
-    alloc: Global,
-    known: &[Known<'a>],
-    claim: &RawExpr<'a>,
-) -> Result<Form, ClaimFault>
-    ensures { Claims plain result (claim_typed (typed (scope_view known.now) (expr_view claim.now))) }
-{
-    match typed_expression(alloc, known, claim) {
-        Ok(Value::Truth(claim)) => Ok(claim),
-        Ok(Value::Number(_)) => Err(ClaimFault::Unsupported),
-        Err(TypeFault::Memory) => Err(ClaimFault::Memory),
-        Err(_) => Err(ClaimFault::Unsupported),
-    }
-}
-
-/// Reads the goal that a proof's text spells for the variables of a program.
-#[tactic(auto, unfolding(crate::specs::ProofText::goal_spelled))]
-pub fn read_goal<'a>(
-    alloc: Global,
-    known: &[Known<'a>],
-    text: &'a [u8],
-) -> Result<Goal<'a>, ClaimFault>
-    ensures { Claims goal_of result (goal_spelled (scope_view known.now) text.now) }
-{
-    match whole_step(alloc, text) {
-        Ok((name, claim)) => match typed_claim(alloc, known, &claim) {
-            Ok(claim) => Ok(Goal {
-                name: name.text,
-                claim,
-            }),
-            Err(fault) => Err(fault),
-        },
-        Err(ParseFault::Memory) => Err(ClaimFault::Memory),
-        Err(_) => Err(ClaimFault::Unsupported),
-    }
+    let goal = step(alloc, names, &mut tokens)?;
+    script_end(&mut tokens)?;
+    Ok(goal)
 }

@@ -17,7 +17,7 @@ use vc_generator::{Conditions, Rule, VcFault};
 /// limit that they pass.
 pub fn conditions_of(alloc: Global, source: &Source, goal: Goal) -> Result<Vec<Condition>, VcFault>
     requires { IsSpelled (source_view source.now) }
-    ensures { Makes result (source_view source.now).program (goal_of goal.entry) }
+    ensures { Makes result (source_view source.now) (goal_of goal.entry) }
 {
     let system = translate(alloc, &source.program)?;
     let lemmas = Vec::new(alloc);

@@ -6,7 +6,7 @@ ghost use Rattle.std.specs.Fmt.{decimal};
 ghost use Rattle.step_run.specs.Outcome.{limited, words_refused, program_refused, proof_refused};
 ghost use Rattle.step_run.specs.Plan.{EndsAs};
 ghost use Rattle.step_run.specs.declared.refusals.Refusal.TheVariants as texts;
-ghost use Rattle.step_run.specs.Report.{joined, line, role_name, read_fault_text, kind_name, program_refused_text, limit_name, limit_text, statement_name, part_name, transition_name, condition_name, reason_name, not_proved_text, trailing_text, proved_text};
+ghost use Rattle.step_run.specs.Report.{joined, line, role_name, read_fault_text, kind_name, refused_text, limit_name, limit_text, statement_name, part_name, transition_name, condition_name, reason_name, not_proved_text, trailing_text, proved_text};
 
 use crate::reasons::Reason;
 use crate::refusals::FaultKind;
@@ -55,6 +55,16 @@ pub fn words_refused(alloc: Global) -> Result<Ended, Memory>
     )
 }
 
+fn role_name(role: FileRole) -> &'static [u8]
+    ensures { result.now ≡ role_name role }
+{
+    match role {
+        FileRole::Program => b"program".as_slice(),
+        FileRole::Proof => b"proof".as_slice(),
+        FileRole::Certificates => b"certificates".as_slice(),
+    }
+}
+
 fn kind_name(kind: FaultKind) -> &'static [u8]
     ensures { result.now ≡ kind_name kind }
 {
@@ -70,17 +80,24 @@ fn kind_name(kind: FaultKind) -> &'static [u8]
         FaultKind::InputAssigned => b"InputAssigned".as_slice(),
         FaultKind::SelectHead => b"SelectHead".as_slice(),
         FaultKind::SameTarget => b"SameTarget".as_slice(),
+        FaultKind::Unsupported => b"Unsupported".as_slice(),
     }
 }
 
-fn program_refused_text(alloc: Global, kind: FaultKind, place: u64) -> Result<Vec<u8>, Memory>
-    ensures { IfOk result (λ t. t.items ≡ program_refused_text kind place) }
+fn refused_text(
+    alloc: Global,
+    role: FileRole,
+    kind: FaultKind,
+    place: u64,
+) -> Result<Vec<u8>, Memory>
+    ensures { IfOk result (λ t. t.items ≡ refused_text role kind place) }
 {
     let place = decimal(alloc, place)?;
     joined(
         alloc,
         &[
-            b"program refused: ".as_slice(),
+            role_name(role),
+            b" refused: ".as_slice(),
             kind_name(kind),
             b" at ".as_slice(),
             place.as_bytes(),
@@ -95,7 +112,17 @@ pub fn program_refused(alloc: Global, kind: FaultKind, place: u64) -> Result<End
 {
     Ok(Ended {
         status: Status::ProgramRefused,
-        text: program_refused_text(alloc, kind, place)?,
+        text: refused_text(alloc, FileRole::Program, kind, place)?,
+    })
+}
+
+/// The outcome of a proof's text with this fault.
+pub fn proof_refused(alloc: Global, kind: FaultKind, place: u64) -> Result<Ended, Memory>
+    ensures { IfOk result (λ e. EndsAs e (proof_refused (texts.Fault kind place))) }
+{
+    Ok(Ended {
+        status: Status::ProofRefused,
+        text: refused_text(alloc, FileRole::Proof, kind, place)?,
     })
 }
 
@@ -131,25 +158,17 @@ pub fn limited(alloc: Global, kind: LimitKind) -> Result<Ended, Memory>
     })
 }
 
-pub fn proof_refused(alloc: Global) -> Result<Ended, Memory>
-    ensures { IfOk result (λ e. EndsAs e proof_refused) }
-{
-    ended(
-        alloc,
-        Status::ProofRefused,
-        b"proof refused: Unsupported at 0",
-    )
-}
-
 pub fn read_fault(alloc: Global, role: FileRole) -> Result<Vec<u8>, Memory>
     ensures { IfOk result (λ t. t.items ≡ read_fault_text role) }
 {
-    let name = match role {
-        FileRole::Program => b"read fault: program\n".as_slice(),
-        FileRole::Proof => b"read fault: proof\n".as_slice(),
-        FileRole::Certificates => b"read fault: certificates\n".as_slice(),
-    };
-    Ok(Vec::from_slice(alloc, name)?)
+    joined(
+        alloc,
+        &[
+            b"read fault: ".as_slice(),
+            role_name(role),
+            b"\n".as_slice(),
+        ],
+    )
 }
 
 /// A statement by its label, or by its number from 1 on.

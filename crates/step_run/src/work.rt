@@ -1,8 +1,9 @@
 //! The work that the words ask for, up to the output text.
 
-ghost use Rattle.std.specs.Prelude.{◌≡◌, ◌+◌, ◌≤◌, ◌^◌, ◌<◌, Some, Ok, length, map, option_map, IfOk, true};
+ghost use Rattle.std.specs.Prelude.{◌≡◌, ◌+◌, ◌≤◌, ◌^◌, ◌<◌, Ok, length, map, option_map, IfOk, true};
 ghost use Rattle.st_outside.specs.Faults.{NoneFell};
 ghost use Rattle.st_form.specs.Plain.{plain_condition};
+ghost use Rattle.assertions.specs.Naming.{names_of};
 ghost use Rattle.step_run.specs.Asked.{Answers};
 ghost use Rattle.step_run.specs.Source.{IsSpelled, source_spelled};
 ghost use Rattle.step_run.specs.SourceView.{source_view};
@@ -14,7 +15,7 @@ ghost use Rattle.step_run.specs.Outcome.{is_check, plan_of, plan_of_words, plan_
 ghost use Rattle.step_run.specs.Plan.{Follows};
 
 use crate::checking::judge;
-use crate::claims::{ClaimFault, Goal, read_goal};
+use crate::claims::{Goal, read_goal};
 use crate::conditions::conditions_of;
 use crate::reading::{ReadError, read_whole};
 use crate::refusals::Refusal;
@@ -92,7 +93,7 @@ fn with_conditions<F: Files>(
     requires few { length conditions.now ≤ 20000 }
     requires narrow { AreNarrow (map plain_condition conditions.now) }
     ensures follows { IfOk result (Follows read_fault_text (F.told files.old) (F.faults files.old) (F.faults files.new)
-        (plan_of_blocks (words_of words.now) (source_view source.now).program goal.now (map plain_condition conditions.now))) }
+        (plan_of_blocks (words_of words.now) (source_view source.now) goal.now (map plain_condition conditions.now))) }
     ensures same { F.told files.new ≡ F.told files.old }
     ensures later { NoneFell (F.faults files.old) (F.faults files.new) }
 {
@@ -119,9 +120,9 @@ fn with_goal<F: Files>(
 ) -> Result<Ended, Memory>
     requires words { length words.now ≡ 5 }
     requires source { IsSpelled (source_view source.now) }
-    requires goal { IsGoal (source_view source.now).known (goal_of goal) }
+    requires goal { IsGoal (names_of (source_view source.now).names) (goal_of goal) }
     ensures follows { IfOk result (Follows read_fault_text (F.told files.old) (F.faults files.old) (F.faults files.new)
-        (plan_of_goal (words_of words.now) (source_view source.now).program (Some (goal_of goal.entry)))) }
+        (plan_of_goal (words_of words.now) (source_view source.now) (Ok (goal_of goal.entry)))) }
     ensures same { F.told files.new ≡ F.told files.old }
     ensures later { NoneFell (F.faults files.old) (F.faults files.new) }
 {
@@ -136,24 +137,25 @@ fn with_goal<F: Files>(
 }
 
 /// Reads the proof's text and goes on.
-fn with_proof<'a, F: Files>(
+fn with_proof<F: Files>(
     alloc: Global,
     files: &mut F,
     words: &[String],
-    source: &Source<'a>,
-    text: &'a [u8],
+    source: &Source,
+    text: &[u8],
 ) -> Result<Ended, Memory>
     requires words { length words.now ≡ 5 }
     requires source { IsSpelled (source_view source.now) }
     ensures follows { IfOk result (Follows read_fault_text (F.told files.old) (F.faults files.old) (F.faults files.new)
-        (plan_of_goal (words_of words.now) (source_view source.now).program (goal_spelled (source_view source.now).known text.now))) }
+        (plan_of_goal (words_of words.now) (source_view source.now) (goal_spelled (names_of (source_view source.now).names) text.now))) }
     ensures same { F.told files.new ≡ F.told files.old }
     ensures later { NoneFell (F.faults files.old) (F.faults files.new) }
 {
-    match read_goal(alloc, &source.known, text) {
+    match read_goal(alloc, &source.names, text) {
         Ok(goal) => with_goal(alloc, files, words, source, goal),
-        Err(ClaimFault::Unsupported) => report::proof_refused(alloc),
-        Err(ClaimFault::Memory) => Err(Memory),
+        Err(Refusal::Fault(kind, place)) => report::proof_refused(alloc, kind, place),
+        Err(Refusal::Limit(kind)) => report::limited(alloc, kind),
+        Err(Refusal::Memory) => Err(Memory),
     }
 }
 
@@ -172,7 +174,7 @@ fn after_program<F: Files>(
     ensures later { NoneFell (F.faults files.old) (F.faults files.new) }
 {
     match ask(alloc, files, FileRole::Proof, name_at(words, 3), TEXT)? {
-        Asked::Bytes(bytes) => with_proof(alloc, files, words, &*source, &bytes),
+        Asked::Bytes(bytes) => with_proof(alloc, files, words, source, &bytes),
         Asked::TooLong => report::limited(alloc, LimitKind::Text),
         Asked::Faulted(text) => Ok(faulted(text)),
     }

@@ -8,6 +8,10 @@ mod fixture;
 #[cfg(test)]
 mod goals;
 #[cfg(test)]
+mod locations;
+#[cfg(test)]
 mod outside;
+#[cfg(test)]
+mod proof_refusals;
 #[cfg(test)]
 mod refusals;

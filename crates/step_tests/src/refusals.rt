@@ -1,4 +1,4 @@
-//! Texts that are refused, each at its first fault, and limits.
+//! Programs that are refused, each at its first fault, and limits.
 
 use crate::fixture::{CERTS, PROGRAM, PROOF, check_words, repeated, sink, stored};
 use st_outside::OpenGate;
@@ -155,30 +155,6 @@ fn a_claim_of_many_atoms_passes_a_limit(rt: HostRuntime) -> Result<(), Fail> {
         let mut out = sink(&rt, 200, &[], 200)?;
         let _ended = step_run(&rt, rt.alloc(), &words, &mut files, &mut out, &OpenGate);
         assert_eq!(rt; out.bytes(), report.as_bytes(), "at {count}");
-    }
-    Ok(())
-}
-
-#[test]
-fn other_proofs_are_not_taken(rt: HostRuntime) -> Result<(), Fail> {
-    let words = check_words(&rt)?;
-    for proof in [
-        "",
-        "invariant pos: x >= 0",
-        "invariant pos: x >= ;",
-        "invariant pos: y >= 0;",
-        "invariant pos: x;",
-        "invariant pos: x >= 0 by x >= 0;",
-        "invariant pos: at l0;",
-        "invariant pos: x >= 0; invariant again: x >= 0;",
-        "waiting w: x >= 0 ==> x >= 0 wait x >= 0 by x >= 0;",
-    ] {
-        let mut files = stored(&rt, (PROGRAM, proof, CERTS), &[], 1000)?;
-        let mut out = sink(&rt, 200, &[], 200)?;
-        let ended = step_run(&rt, rt.alloc(), &words, &mut files, &mut out, &OpenGate);
-        assert_eq!(rt; ended.number(), 4, "at {proof}");
-        let report = b"proof refused: Unsupported at 0\n".as_slice();
-        assert_eq!(rt; out.bytes(), report, "at {proof}");
     }
     Ok(())
 }

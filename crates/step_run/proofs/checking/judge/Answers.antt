@@ -12,7 +12,7 @@ use Rattle.step_run.proofs.checking.judge.Goals as goal
 
 pub returns : goal.returns
 returns c =
-    let p = (source_view c.args.source.now).program in
+    let p = (source_view c.args.source.now) in
     let cs = map plain_condition c.args.conditions.now in
     let text = c.args.text.now in
     let facts = setting_is p c.in_ok-components.components c.variables_of-variables.result.now c.in_ok-components.ensures c.variables_of-variables.ensures in

@@ -11,7 +11,7 @@ conditions-requires-clause-few c = system_few (source_view c.args.source.now) _ 
 
 pub returns-in-Ok : goal.returns-in-Ok
 returns-in-Ok c =
-    let p = (source_view c.args.source.now).program in
+    let p = (source_view c.args.source.now) in
     let made =
     appended p (goal_of c.args.goal) _ (map plain c.new-lemmas.result.items) (map plain_condition c.new-conditions.result.items) _ (system_is p _ c.in_ok-system.ensures.exact) (ap (map plain) c.new-lemmas.ensures.items) (ap (map plain_condition) c.new-conditions.ensures) c.in-Ok.ensures.0 c.in-Ok.ensures.1
     in
@@ -19,5 +19,5 @@ returns-in-Ok c =
 
 pub returns : goal.returns
 returns c =
-    let p = (source_view c.args.source.now).program in
+    let p = (source_view c.args.source.now) in
     refusing p (goal_of c.args.goal) _ (map plain c.new-lemmas.result.items) (map plain_condition c.new-conditions.result.items) c.in-Err.fault (system_is p _ c.in_ok-system.ensures.exact) (ap (map plain) c.new-lemmas.ensures.items) (ap (map plain_condition) c.new-conditions.ensures) c.in-Err.ensures.0

@@ -13,7 +13,7 @@ use Rattle.step_run.proofs.work.with_goal.Goals as goal
 pub with_conditions-requires-clause-few : goal.with_conditions-requires-clause-few
 with_conditions-requires-clause-few g c =
     let made = ap (map plain_condition) c.deref.ensures.value ∙ c.in-Ok.ensures.1 in
-    let few = few_conditions (source_view c.args.source.now).program (goal_of c.args.goal) (map plain_condition c.deref.result.now) c.in-Ok.ensures.0 made in
+    let few = few_conditions (source_view c.args.source.now) (goal_of c.args.goal) (map plain_condition c.deref.result.now) c.in-Ok.ensures.0 made in
     omega (arith, few, length-map c.deref.result.now plain_condition)
 
 pub with_conditions-requires-clause-narrow : goal.with_conditions-requires-clause-narrow

@@ -1,12 +1,12 @@
 -- What `trailing` takes as blank, a whole header too, is read as blank: it changes no answer.
-use Rattle.std.proofs.Common.{◌≡◌, ℕ, suc, ◌+◌, ◌-◌, Bool, true, false, cond, ◌&&◌, ◌||◌, not, List, [], ◌∷◌, ◌++◌, length, drop, refl, sym, ap, ◌∙◌, subst, arith, append_assoc, codes, nat_lt, nat_eq, ◌==◌, one-add}
-use Rattle.std.proofs.lemmas.Bool.Decides.{nat_tests, Decides-eqb}
-use Rattle.std.proofs.lemmas.List.{length-append, append-nil, drop-drop}
+use Rattle.std.proofs.Common.{◌≡◌, ℕ, suc, ◌+◌, Bool, true, false, cond, ◌&&◌, not, List, [], ◌∷◌, ◌++◌, length, drop, refl, sym, ap, ◌∙◌, arith, codes, nat_lt, nat_eq, ◌==◌, one-add}
+use Rattle.std.proofs.lemmas.Bool.Decides.{Decides-eqb}
+use Rattle.std.proofs.lemmas.List.{length-append, drop-drop}
 use Rattle.std.proofs.lemmas.Slice.Eq.{starts_is}
-use Rattle.std.specs.List.{starts_with, prefix_len}
+use Rattle.std.specs.List.{starts_with}
 use Rattle.cert_text.specs.declared.scan.Want.TheVariants as wants
 use Rattle.cert_text.specs.Letters.{is_blank}
-use Rattle.cert_text.specs.Blank.{blank_len, byte_behind, header_len, front_len, past, may_begin, header_may_come, past_blanks}
+use Rattle.cert_text.specs.Blank.{blank_len, byte_behind, header_len, front_len, past, may_begin, past_blanks}
 use Rattle.cert_text.specs.Reading.{State, going, malformed, over, whole, idle, after, start}
 use Rattle.cert_text.specs.Run.{scan_at}
 use Rattle.cert_text.specs.Tree.{last_tree}

@@ -40,3 +40,4 @@ pub mod Answered
 pub mod MarksLimits
 pub mod Small
 pub mod MarksCount
+pub mod Trailing

@@ -2,8 +2,8 @@
 use Rattle.std.proofs.Common.{◌≡◌, ℕ, suc, ◌+◌, Bool, true, false, cond, List, [], ◌∷◌, length, refl, ap}
 use Rattle.cert_text.specs.declared.scan.Token.{Token}
 use Rattle.cert_text.specs.declared.scan.Token.TheVariants as tokens
-use Rattle.cert_text.specs.Grammar.{Int, int_tokens, pick_tokens, picks_tokens, line_tokens, lines_tokens, term_tokens, more_terms, terms_tokens, Written, Rows, w_absurd, w_farkas, w_linear, w_node, w_cut, w_last, w_and, tree_tokens, rows_tokens, block_tokens, tree_count, is_long, is_long_entry}
-use Rattle.cert_laws.specs.Limits.{int_marks, is_size_over, pick_marks, picks_marks, line_marks, lines_marks, term_marks, more_marks, terms_marks, tree_marks, rows_marks, block_marks}
+use Rattle.cert_text.specs.Grammar.{Int, int_tokens, picks_tokens, lines_tokens, term_tokens, more_terms, terms_tokens, Written, Rows, w_absurd, w_farkas, w_linear, w_node, w_cut, w_last, w_and, tree_tokens, rows_tokens, block_tokens, tree_count, is_long, is_long_entry}
+use Rattle.cert_laws.specs.Limits.{int_marks, is_size_over, picks_marks, lines_marks, term_marks, more_marks, terms_marks, tree_marks, rows_marks, block_marks}
 
 abbrev AsMany : List Bool → List Token → Type 0
 AsMany ms ts = length ms ≡ length ts

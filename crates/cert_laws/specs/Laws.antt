@@ -4,6 +4,7 @@ use Rattle.std.specs.Prelude.{◌≡◌, ℕ, ◌+◌, ◌^◌, ◌<◌, Bool, t
 use Rattle.st_certificate.specs.Tree.{Tree}
 use Rattle.cert_text.specs.Grammar.{Written, IsBlock, block_tokens, meaning}
 use Rattle.cert_text.specs.Held.{Held, answer_of, taken_from}
+use Rattle.cert_text.specs.Blank.{past_blanks}
 use Rattle.cert_text.specs.Answer.{block}
 use Rattle.cert_text.specs.Spelling.{block_text}
 use Rattle.cert_laws.specs.Spelled.{Spells, IsHeader, IsFront}
@@ -51,3 +52,7 @@ ReadIsSpelled =
     × IsFront header h head × Spells bs (block_tokens h.number w []) × IsBlock h.number (header || h.second) w
     × (n ≡ h.number) × (t ≡ meaning w)
     × (taken_from h ≡ record h { bytes = rest; place = h.place + length head + length bs; number = h.number + 1; second = header || h.second })
+
+-- what `trailing` takes as blank, a whole header too, is read as blank: behind it the answer is the same, at the same place
+abbrev pub TrailingIsBlank : Type 0
+TrailingIsBlank = (h : Held) → answer_of (past_blanks h) ≡ answer_of h

@@ -1,6 +1,6 @@
 //! The laws. Each is a function that does nothing; its contract is the law.
 
-ghost use Rattle.cert_laws.specs.Laws.{SpelledIsRead, HeaderIsRead, WrittenIsRead, OneBlock, ReadIsSpelled};
+ghost use Rattle.cert_laws.specs.Laws.{SpelledIsRead, HeaderIsRead, WrittenIsRead, OneBlock, ReadIsSpelled, TrailingIsBlank};
 ghost use Rattle.cert_laws.specs.Refused.{NeedIsExact, EndIsExact, LimitIsExact, MalformedIsExact, MarksAreLimits};
 
 /// Bytes that spell a block are read as that block, wherever they stand and whatever follows them.
@@ -26,6 +26,11 @@ pub fn one_block()
 /// Only what is spelled is read as a block.
 pub fn read_is_spelled()
     ensures { ReadIsSpelled }
+{}
+
+/// What `trailing` takes as blank is read as blank.
+pub fn trailing_is_blank()
+    ensures { TrailingIsBlank }
 {}
 
 /// More is needed exactly where the text is open and what is held begins a block.

@@ -245,10 +245,27 @@ const GROUP: &[u8] = b"local x: integer; local b, c: boolean; P :: [ << b := ";
 fn a_value_in_many_places_is_counted(rt: HostRuntime) -> Result<(), Fail> {
     let alloc = rt.alloc();
     let many = (b"x > 0 /\\ ".as_slice(), 2047);
-    let text = repeated(alloc, GROUP, many, b"x > 0; c := ", (b"b /\\ ", 200_000), b"b >> ]")?;
-    assert_eq!(rt; refused(alloc, &text)?, Some(TypeFault::Limit(LimitKind::Atoms, 46)));
+    let text = repeated(
+        alloc,
+        GROUP,
+        many,
+        b"x > 0; c := ",
+        (b"b /\\ ", 200_000),
+        b"b >> ]",
+    )?;
+    assert_eq!(rt;
+        refused(alloc, &text)?,
+        Some(TypeFault::Limit(LimitKind::Atoms, 46))
+    );
     let many = (b"true /\\ ".as_slice(), 200_000);
-    let text = repeated(alloc, GROUP, many, b"true; c := ", (b"b /\\ ", 200_000), b"b >> ]")?;
+    let text = repeated(
+        alloc,
+        GROUP,
+        many,
+        b"true; c := ",
+        (b"b /\\ ", 200_000),
+        b"b >> ]",
+    )?;
     assert_eq!(rt; refused(alloc, &text)?, None);
     Ok(())
 }
@@ -267,7 +284,14 @@ fn atoms_are_counted_exactly(rt: HostRuntime) -> Result<(), Fail> {
         (1023, b"x > 0; await b; await b".as_slice(), None),
         (1023, b"x > 0; await b; await b; await c".as_slice(), limit),
     ] {
-        let text = repeated(alloc, GROUP, (b"x > 0 /\\ ", count), middle, (b"", 0), b" >> ]")?;
+        let text = repeated(
+            alloc,
+            GROUP,
+            (b"x > 0 /\\ ", count),
+            middle,
+            (b"", 0),
+            b" >> ]",
+        )?;
         assert_eq!(rt; refused(alloc, &text)?, fault, "{count} {middle:?}");
     }
     Ok(())

@@ -10,7 +10,7 @@ ghost use Rattle.linear_prover.specs.Plain.{plain_each};
 
 use crate::literals::{first_place, first_truth};
 use crate::problems::{Conjunct, form};
-use farkas_check::leaves::lines_with;
+use farkas_check::leaves::push_line;
 use farkas_check::splits::disjuncts;
 use st_form::Form;
 use st_linear::Line;
@@ -59,10 +59,9 @@ pub fn first_disjunction<'b, 'x>(fs: &'b [Conjunct<'x>]) -> Option<(usize, &'b [
 pub fn lines_of(alloc: Global, fs: &[Conjunct]) -> Result<Vec<Line>, Memory>
     ensures { IfOk result (λ v. v.items ≡ lines_of (plain_each fs.now)) }
 {
-    let mut out = Vec::new(alloc);
+    let mut out = Vec::with_capacity(alloc, fs.len())?;
     for f in fs {
-        let mut more = lines_with(alloc, form(f))?;
-        out.append(&mut more)?;
+        push_line(alloc, &mut out, form(f))?;
     }
     Ok(out)
 }

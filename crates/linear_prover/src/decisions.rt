@@ -2,116 +2,22 @@
 //!
 //! Only those conjuncts are simplified again that have a decided literal.
 
-ghost use Rattle.std.specs.Prelude.{◌≡◌, ◌<◌, IfOk, length, slice_set, slice_index_or, true, None, Some};
+ghost use Rattle.std.specs.Prelude.{◌≡◌, ◌<◌, IfOk, length, slice_set, true, Some};
 ghost use Rattle.st_form.specs.Plain.{plain, plain_list};
 ghost use Rattle.st_form.specs.Simple.{append, parts, gathered, simple, simples, tabled};
 ghost use Rattle.farkas_check.specs.Problem.{posed, truth_problem};
 ghost use Rattle.std.specs.Option.{option_map};
-ghost use Rattle.st_form.specs.Formula.{more, none};
 ghost use Rattle.farkas_check.specs.Limits.{IsSettled, AreSettled};
 ghost use Rattle.search_laws.specs.Steady.{IsSteady, AreSteady};
 ghost use Rattle.linear_prover.specs.Plain.{plain_each, plain_made, plain_node};
-ghost use Rattle.linear_prover.specs.Touches.{is_there, touches, touches_any};
 
+use crate::joining::with_part;
 use crate::problems::{Conjunct, Node, form};
+use crate::touching::touches;
 use control_states::{Alternative, Components};
 use st_form::Form;
 use st_memory::Memory;
 use std::alloc::Global;
-use std::collections::VecDeque;
-
-/// Whether a table has decided a number.
-fn is_decided(table: &[Option<bool>], number: u32) -> bool
-    ensures { result ≡ is_there (slice_index_or table.now number None) }
-{
-    match table.get(number as usize) {
-        Some(Some(_)) => true,
-        Some(None) => false,
-        None => false,
-    }
-}
-
-/// Whether a literal of a formula is decided.
-#[cycle(touches)]
-#[tactic(auto, using(st_form::proofs::Nodes::nodes))]
-fn touches(f: &Form, truths: &[Option<bool>], places: &[Option<bool>]) -> bool
-    ensures { result ≡ touches (tabled truths.now places.now) (plain f.now) }
-{
-    match f {
-        Form::True => false,
-        Form::False => false,
-        Form::Row(_) => false,
-        Form::Equal(_) => false,
-        Form::BoolVar(v) => is_decided(truths, *v),
-        Form::At(l) => is_decided(places, *l),
-        Form::Not(g) => touches(g, truths, places),
-        Form::And(fs) => touches_any(fs, truths, places),
-        Form::Or(fs) => touches_any(fs, truths, places),
-    }
-}
-
-#[cycle(touches)]
-fn touches_any(fs: &[Form], truths: &[Option<bool>], places: &[Option<bool>]) -> bool
-    ensures { result ≡ touches_any (tabled truths.now places.now) (plain_list fs.now) }
-{
-    for f in fs {
-        if touches(f, truths, places) {
-            return true;
-        }
-    }
-    false
-}
-
-/// Conjuncts, and behind them these formulas.
-fn with_all<'b>(
-    alloc: Global,
-    out: Vec<Conjunct<'b>>,
-    fs: Vec<Form>,
-) -> Result<Vec<Conjunct<'b>>, Memory>
-    ensures { IfOk result (λ v. plain_each v.items ≡ append (plain_each out.entry.items) (plain_list fs.items)) }
-{
-    let mut all = out;
-    let mut rest = VecDeque::from_vec(fs);
-    while let Some(f) = rest.pop_front() {
-        all.push(Conjunct::Made(Box::new(alloc, f)?))?;
-    }
-    Ok(all)
-}
-
-fn with_one<'b>(
-    alloc: Global,
-    out: Vec<Conjunct<'b>>,
-    f: Form,
-) -> Result<Option<Vec<Conjunct<'b>>>, Memory>
-    requires { parts true (plain f) ≡ Some (more (plain f) none) }
-    ensures { IfOk result (λ o. plain_made o ≡ option_map (append (plain_each out.entry.items)) (parts true (plain f))) }
-{
-    let mut all = out;
-    all.push(Conjunct::Made(Box::new(alloc, f)?))?;
-    Ok(Some(all))
-}
-
-/// Conjuncts with one more, or None where it is false.
-#[tactic(auto, using(st_form::proofs::Nodes::nodes))]
-fn with_part<'b>(
-    alloc: Global,
-    out: Vec<Conjunct<'b>>,
-    part: Form,
-) -> Result<Option<Vec<Conjunct<'b>>>, Memory>
-    ensures { IfOk result (λ o. plain_made o ≡ option_map (append (plain_each out.entry.items)) (parts true (plain part))) }
-{
-    match part {
-        Form::True => Ok(Some(out)),
-        Form::False => Ok(None),
-        Form::And(fs) => Ok(Some(with_all(alloc, out, fs)?)),
-        Form::Row(f) => with_one(alloc, out, Form::Row(f)),
-        Form::Equal(f) => with_one(alloc, out, Form::Equal(f)),
-        Form::BoolVar(v) => with_one(alloc, out, Form::BoolVar(v)),
-        Form::At(l) => with_one(alloc, out, Form::At(l)),
-        Form::Not(f) => with_one(alloc, out, Form::Not(f)),
-        Form::Or(fs) => with_one(alloc, out, Form::Or(fs)),
-    }
-}
 
 /// Conjuncts with one more under these decisions, or None where it is false. It is lent where nothing in it is decided.
 fn with_conjunct<'b>(

@@ -10,10 +10,12 @@ mod deciding;
 mod decisions;
 mod divisions;
 mod entries;
+mod joining;
 mod literals;
 mod moves;
 mod problems;
 mod shown;
+mod touching;
 mod verdict;
 mod walk;
 

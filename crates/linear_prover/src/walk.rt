@@ -141,7 +141,7 @@ fn walk_all<'n, 'x>(
     ensures { IfOk result (λ b. plain_branches b ≡ walk_all (walk (move_of (setting components.now variables.now)) levels)
         (children components.now (plain_node node.now) fs.now division.entry) 0 nodes) }
 {
-    let mut parts = Vec::new(alloc);
+    let mut parts = Vec::with_capacity(alloc, count(division))?;
     let mut now = nodes;
     for i in 0..count(division) {
         let next = child(alloc, components, node, fs, division, i)?;

@@ -2,7 +2,7 @@ use Rattle.std.proofs.Common.{◌≡◌, length}
 use Rattle.st_form.specs.Plain.{plain_list}
 use Rattle.st_form.specs.Simple.{append}
 use Rattle.linear_prover.specs.Plain.{plain_each}
-use Rattle.linear_prover.proofs.decisions.with_all.Given as goal
+use Rattle.linear_prover.proofs.joining.with_all.Given as goal
 
 abbrev pub invariant-loop-f : goal.invariant-loop-f
 invariant-loop-f l = append (plain_each l.all.items) (plain_list l.rest.items) ≡ append (plain_each l.fn.out.items) (plain_list l.fn.fs.items)

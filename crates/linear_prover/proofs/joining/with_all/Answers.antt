@@ -1,7 +1,7 @@
 use Rattle.std.proofs.Common.{ap, arith}
 use Rattle.st_form.specs.Plain.{plain}
 use Rattle.linear_prover.proofs.Lending.{made-more, made-done}
-use Rattle.linear_prover.proofs.decisions.with_all.Goals as goal
+use Rattle.linear_prover.proofs.joining.with_all.Goals as goal
 
 pub loop-f-preserved : goal.loop-f-preserved
 loop-f-preserved c =

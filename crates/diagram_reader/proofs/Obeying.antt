@@ -147,6 +147,7 @@ module _ (g : Setting) where
       at_test : (b : Bool) → cond b (then_reads (just_of g) (λ h. gives (Some h)) (behind s)) (Ok (None, s)) ≡ Ok (h, rest) → is_none h ≡ false → (n : ℕ) × (h ≡ Some n) × IsJust (fairness_of g.system) n
       at_test true e k = let a = both (just_of g (behind s)) _ (h, rest) e in (a.value.0, sym (given (Some a.value.0) h a.value.1 rest a.second), just_fits (behind s) a.value.0 a.value.1 a.first)
       at_test false e k = let i : None ≡ h = given None h s rest e in let bad : is_none h ≡ true = ap is_none (sym i) in absurd cc
+
       at_kind : (d : DiagramKind) → cond (has_helpers d && is (ahead s) marks.Helper) (then_reads (just_of g) (λ h. gives (Some h)) (behind s)) (Ok (None, s)) ≡ Ok (h, rest) → (has_helpers d && is_none h) ≡ false → HelperFits d g.system h
       at_kind Wait e k = sym (given None h s rest e)
       at_kind Chain e k = at_test (is (ahead s) marks.Helper) e k
@@ -182,17 +183,17 @@ module _ (g : Setting) where
       let z = allowed (has_helpers g.kind && is_none e.value.0) (faults.NoHelper a.value.0.1) made n f.value.1 rest f.second in
       let fresh = number_read nodes s a.value.0 a.value.1 a.first in
       let read : NodeRead nodes made =
-          record {
-            new = fresh.0;
-            obeys =
-                record {
-                  number = number_fits g.kind g.levels a.value.0.0 nodes fresh.0 fresh.1;
-                  rank = rank_fits c.value.1 d.value.0 d.value.1 d.first;
-                  helper = helper_fits d.value.1 e.value.0 e.value.1 e.first z.0;
-                };
-            form = (b.value.1, c.value.1, c.first);
-            rank = (c.value.1, d.value.1, d.first);
-          }
+      record {
+        new = fresh.0;
+        obeys =
+            record {
+              number = number_fits g.kind g.levels a.value.0.0 nodes fresh.0 fresh.1;
+              rank = rank_fits c.value.1 d.value.0 d.value.1 d.first;
+              helper = helper_fits d.value.1 e.value.0 e.value.1 e.first z.0;
+            };
+        form = (b.value.1, c.value.1, c.first);
+        rank = (c.value.1, d.value.1, d.first);
+      }
       in
       subst (NodeRead nodes) z.1 read
 
@@ -249,12 +250,12 @@ module _ (g : Setting) where
       let to = known_read nodes b.value.1 c.value.0 c.value.1 c.first in
       let low = descends g.kind a.value.0 c.value.0 nodes from up.0 in
       let read : EdgeObeys g.kind g.system nodes made =
-          record {
-            from = low.0;
-            to = subst (λ j. (j ≡ 0) ⊎ (is_numbered j nodes ≡ true)) up.1 (known_so c.value.0 nodes to);
-            descends = subst (λ j. Descends g.kind a.value.0 j) up.1 low.1;
-            on = numbers_read e.value.1 f.value.0 f.value.1 f.first;
-          }
+      record {
+        from = low.0;
+        to = subst (λ j. (j ≡ 0) ⊎ (is_numbered j nodes ≡ true)) up.1 (known_so c.value.0 nodes to);
+        descends = subst (λ j. Descends g.kind a.value.0 j) up.1 low.1;
+        on = numbers_read e.value.1 f.value.0 f.value.1 f.first;
+      }
       in
       subst (EdgeObeys g.kind g.system nodes) (given made x z.value.1 rest z.second) read
 

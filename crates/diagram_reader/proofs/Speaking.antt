@@ -23,7 +23,7 @@ use Rattle.diagram_reader.specs.declared.item.Item.TheVariants as items
 use Rattle.diagram_reader.specs.declared.fault.DiagramFault.{DiagramFault}
 use Rattle.diagram_reader.specs.Faults.{unit_of}
 use Rattle.diagram_reader.specs.Drawn.{Setting, Drawing, nothing_drawn, with_terminal, with_node, with_edge, diagram_with, has_ranks}
-use Rattle.diagram_reader.specs.Drawing.{formula_of, sum_of, rank_of, terminal_of, item_of, drawing_of}
+use Rattle.diagram_reader.specs.Drawing.{formula_of, sum_of, rank_of, node_of, edge_of, terminal_of, item_of, drawing_of}
 use Rattle.diagram_reader.specs.Obeying.{NumberFits, HelperFits, NodeObeys, Obeys, RankOver, NodeOver, DiagramOver}
 use Rattle.diagram_reader.proofs.Inverses.{both, given}
 use Rattle.diagram_reader.proofs.Obeying.{NodeRead, node_read, drawn, diagram_obeys}
@@ -49,8 +49,8 @@ module _ (vs : List Variable) (locations : ℕ) (g : Setting) (over : NamesOver 
       at_kind Wait h = subst (RankOver vs) (given None r s rest h) tt
       at_kind Chain h = subst (RankOver vs) (given None r s rest h) tt
       at_kind Rank h =
-          let a = both _ _ (r, rest) h in
-          let b = both _ _ (r, rest) a.second in
+          let a = both (expected {X = DiagramFault} marks.Rank s) _ (r, rest) h in
+          let b = both (sum_of g a.value.1) _ (r, rest) a.second in
           subst (RankOver vs) (given (Some b.value.0) r b.value.1 rest b.second) (sum_over a.value.1 b.value.0 b.value.1 b.first)
 
   abbrev TerminalOver : Option Formula → Type 0
@@ -65,39 +65,39 @@ module _ (vs : List Variable) (locations : ℕ) (g : Setting) (over : NamesOver 
   unfolding terminal_of
   terminal_over place (Some e) s f rest h = absurd cc
   terminal_over place None s f rest h =
-      let a = both _ _ (f, rest) h in
-      let b = both _ _ (f, rest) a.second in
-      let c = both _ _ (f, rest) b.second in
+      let a = both (expected {X = DiagramFault} marks.Colon s) _ (f, rest) h in
+      let b = both (formula_of g a.value.1) _ (f, rest) a.second in
+      let c = both (expected {X = DiagramFault} marks.Semicolon b.value.1) _ (f, rest) b.second in
       subst (FormulaOver vs locations) (given b.value.0 f c.value.1 rest c.second) (formula_over a.value.1 b.value.0 b.value.1 b.first)
 
   node_over : (nodes : List PlainDrawnNode) (n : PlainDrawnNode) → NodeRead g nodes n → NodeOver vs locations n
-  node_over nodes n h = record { form = formula_over h.form.0 n.form h.form.1.0 h.form.1.1; rank = rank_over h.rank.0 n.rank h.rank.1.0 h.rank.1.1 }
+  node_over nodes n h = record { form = formula_over h.form.0 n.form h.form.1 h.form.2; rank = rank_over h.rank.0 n.rank h.rank.1 h.rank.2 }
 
   item_over : (item : Item) (place : ℕ) (d e : Drawing) (s rest : Stream) → Over d → item_of g item place d s ≡ Ok (e, rest) → Over e
   unfolding item_of
   item_over items.Terminal place d e s rest h r =
-      let a = both _ _ (e, rest) r in
+      let a = both (terminal_of g place d.terminal s) _ (e, rest) r in
       subst Over (given (with_terminal a.value.0 d) e a.value.1 rest a.second) (record { terminal = terminal_over place d.terminal s a.value.0 a.value.1 a.first; nodes = h.nodes })
   item_over items.Node place d e s rest h r =
-      let a = both _ _ (e, rest) r in
+      let a = both (node_of g place d.nodes s) _ (e, rest) r in
       let n = node_read g place d.nodes s a.value.0 a.value.1 a.first in
       subst Over (given (with_node a.value.0 d) e a.value.1 rest a.second) (record { terminal = h.terminal; nodes = All-push (NodeOver vs locations) d.nodes a.value.0 h.nodes (node_over d.nodes a.value.0 n.1) })
   item_over items.Edge place d e s rest h r =
-      let a = both _ _ (e, rest) r in
+      let a = both (edge_of g place d.nodes s) _ (e, rest) r in
       subst Over (given (with_edge a.value.0 d) e a.value.1 rest a.second) (record { terminal = h.terminal; nodes = h.nodes })
 
   pub diagram_over : (s : Stream) (x : PlainDiagram) (rest : Stream) → drawing_of g s ≡ Ok (x, rest) → DiagramOver vs locations x
   diagram_over s x rest h =
       let d = drawn g Over item_over s x rest (record { terminal = tt; nodes = All-nil (NodeOver vs locations) }) h in
-      let is_over = d.1.1.0 in
-      subst (DiagramOver vs locations) d.1.1.1.1 (record { terminal = subst TerminalOver d.1.1.1.0 is_over.terminal; nodes = is_over.nodes })
+      let is_over = d.2 in
+      subst (DiagramOver vs locations) d.4 (record { terminal = subst TerminalOver d.3 is_over.terminal; nodes = is_over.nodes })
 
 -- the nodes of a wait diagram are levels of a goal with one formula more
 pub levels_exist : (levels : ℕ) (system : System) (ns : List PlainDrawnNode) → All (NodeObeys Wait levels system) ns → LevelsExist (suc levels) ns
 levels_exist levels system [] h = omega arith
 levels_exist levels system (n ∷ ns) h =
     let one = (All-head (NodeObeys Wait levels system) n ns h).number in
-    (one.0, (omega (arith, one.1), levels_exist levels system ns (All-tail (NodeObeys Wait levels system) n ns h)))
+    (one.0, omega (arith, one.1), levels_exist levels system ns (All-tail (NodeObeys Wait levels system) n ns h))
 
 -- a node with a helper that is just and a number above 0
 abbrev IsDrawnFor : System → PlainDrawnNode → Type 0
@@ -107,7 +107,7 @@ nodes_fit : (system : System) (ns : List PlainDrawnNode) → All (IsDrawnFor sys
 nodes_fit system [] h = tt
 nodes_fit system (n ∷ ns) h =
     let one = All-head (IsDrawnFor system) n ns h in
-    (record { helper = one.1.0; is = one.1.1.0; just = one.1.1.1; numbered = one.0 }, nodes_fit system ns (All-tail (IsDrawnFor system) n ns h))
+    (record { helper = one.1.0; is = one.1.1; just = one.1.2; numbered = one.0 }, nodes_fit system ns (All-tail (IsDrawnFor system) n ns h))
 
 pub response_fits : (kind : DiagramKind) (levels : ℕ) (system : System) (ns : List PlainDrawnNode) → kind ≢ Wait → All (NodeObeys kind levels system) ns → DrawnNodesFit system ns
 response_fits Wait levels system ns no_wait h = absurd (no_wait refl)

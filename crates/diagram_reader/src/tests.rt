@@ -59,42 +59,182 @@ fn system(alloc: Global) -> Result<Fts, Memory> {
 const REFUSED: [(DiagramKind, &[u8], DiagramFault); 38] = [
     (DiagramKind::Chain, b"", DiagramFault::Syntax(0)),
     (DiagramKind::Chain, b"x", DiagramFault::Syntax(0)),
-    (DiagramKind::Wait, b"{ terminal b; }", DiagramFault::Syntax(11)),
-    (DiagramKind::Wait, b"{ node 1: b rank x; }", DiagramFault::Syntax(12)),
-    (DiagramKind::Chain, b"{ node 1: b rank 1 helper l1; }", DiagramFault::Syntax(12)),
-    (DiagramKind::Rank, b"{ node 1: b helper l1; }", DiagramFault::Syntax(12)),
-    (DiagramKind::Wait, b"{ node 1: b helper l1; }", DiagramFault::Syntax(12)),
-    (DiagramKind::Chain, b"{ node 1: b }", DiagramFault::Syntax(12)),
-    (DiagramKind::Chain, b"{ node 1: b helper c.other; }", DiagramFault::Syntax(21)),
-    (DiagramKind::Chain, b"{ node 1: b helper c.at; }", DiagramFault::Syntax(21)),
-    (DiagramKind::Wait, b"{ node b: b; }", DiagramFault::Syntax(7)),
-    (DiagramKind::Wait, b"{ terminal: b; ", DiagramFault::Syntax(15)),
-    (DiagramKind::Wait, b"{ node 3: b; }", DiagramFault::UnknownNode(7)),
-    (DiagramKind::Chain, b"{ edge 1 -> 0 on l1; }", DiagramFault::UnknownNode(7)),
-    (DiagramKind::Chain, b"{ node 1: b helper l1; edge 1 -> 2 on l1; }", DiagramFault::UnknownNode(33)),
-    (DiagramKind::Chain, b"{ node 1: b helper done; }", DiagramFault::UnknownTransition(19)),
-    (DiagramKind::Chain, b"{ node 1: b helper k; }", DiagramFault::UnknownTransition(19)),
-    (DiagramKind::Chain, b"{ node 1: b helper c; }", DiagramFault::UnknownTransition(19)),
-    (DiagramKind::Chain, b"{ node 1: b helper l1.entry; }", DiagramFault::UnknownTransition(19)),
-    (DiagramKind::Chain, b"{ node 1: b helper x", DiagramFault::UnknownTransition(19)),
-    (DiagramKind::Chain, b"{ node 1: b helper x ?", DiagramFault::UnknownTransition(19)),
-    (DiagramKind::Wait, b"{ node 1: b; edge 1 -> 0 on l1, k; }", DiagramFault::UnknownTransition(32)),
-    (DiagramKind::Wait, b"{ terminal: b; terminal", DiagramFault::Twice(15)),
+    (
+        DiagramKind::Wait,
+        b"{ terminal b; }",
+        DiagramFault::Syntax(11),
+    ),
+    (
+        DiagramKind::Wait,
+        b"{ node 1: b rank x; }",
+        DiagramFault::Syntax(12),
+    ),
+    (
+        DiagramKind::Chain,
+        b"{ node 1: b rank 1 helper l1; }",
+        DiagramFault::Syntax(12),
+    ),
+    (
+        DiagramKind::Rank,
+        b"{ node 1: b helper l1; }",
+        DiagramFault::Syntax(12),
+    ),
+    (
+        DiagramKind::Wait,
+        b"{ node 1: b helper l1; }",
+        DiagramFault::Syntax(12),
+    ),
+    (
+        DiagramKind::Chain,
+        b"{ node 1: b }",
+        DiagramFault::Syntax(12),
+    ),
+    (
+        DiagramKind::Chain,
+        b"{ node 1: b helper c.other; }",
+        DiagramFault::Syntax(21),
+    ),
+    (
+        DiagramKind::Chain,
+        b"{ node 1: b helper c.at; }",
+        DiagramFault::Syntax(21),
+    ),
+    (
+        DiagramKind::Wait,
+        b"{ node b: b; }",
+        DiagramFault::Syntax(7),
+    ),
+    (
+        DiagramKind::Wait,
+        b"{ terminal: b; ",
+        DiagramFault::Syntax(15),
+    ),
+    (
+        DiagramKind::Wait,
+        b"{ node 3: b; }",
+        DiagramFault::UnknownNode(7),
+    ),
+    (
+        DiagramKind::Chain,
+        b"{ edge 1 -> 0 on l1; }",
+        DiagramFault::UnknownNode(7),
+    ),
+    (
+        DiagramKind::Chain,
+        b"{ node 1: b helper l1; edge 1 -> 2 on l1; }",
+        DiagramFault::UnknownNode(33),
+    ),
+    (
+        DiagramKind::Chain,
+        b"{ node 1: b helper done; }",
+        DiagramFault::UnknownTransition(19),
+    ),
+    (
+        DiagramKind::Chain,
+        b"{ node 1: b helper k; }",
+        DiagramFault::UnknownTransition(19),
+    ),
+    (
+        DiagramKind::Chain,
+        b"{ node 1: b helper c; }",
+        DiagramFault::UnknownTransition(19),
+    ),
+    (
+        DiagramKind::Chain,
+        b"{ node 1: b helper l1.entry; }",
+        DiagramFault::UnknownTransition(19),
+    ),
+    (
+        DiagramKind::Chain,
+        b"{ node 1: b helper x",
+        DiagramFault::UnknownTransition(19),
+    ),
+    (
+        DiagramKind::Chain,
+        b"{ node 1: b helper x ?",
+        DiagramFault::UnknownTransition(19),
+    ),
+    (
+        DiagramKind::Wait,
+        b"{ node 1: b; edge 1 -> 0 on l1, k; }",
+        DiagramFault::UnknownTransition(32),
+    ),
+    (
+        DiagramKind::Wait,
+        b"{ terminal: b; terminal",
+        DiagramFault::Twice(15),
+    ),
     (DiagramKind::Wait, b"{ node 0: b; }", DiagramFault::Twice(7)),
-    (DiagramKind::Wait, b"{ node 1: b; node 1: b; }", DiagramFault::Twice(18)),
-    (DiagramKind::Wait, b"{ node 1: b; node 2: b; edge 1 -> 2 on l1; }", DiagramFault::Upward(24)),
-    (DiagramKind::Chain, b"{ edge 0 -> 0 on l1; }", DiagramFault::Upward(2)),
-    (DiagramKind::Rank, b"{ edge 0 -> 0 on l1; }", DiagramFault::Upward(2)),
-    (DiagramKind::Wait, b"{ node 1: b; }", DiagramFault::NoTerminal(13)),
-    (DiagramKind::Chain, b"{ node 1: b helper n0; }", DiagramFault::UnfairHelper(19)),
-    (DiagramKind::Chain, b"{ node 1: b; }", DiagramFault::NoHelper(7)),
-    (DiagramKind::Rank, b"{ node 1: b rank 1; }", DiagramFault::NoHelper(7)),
-    (DiagramKind::Wait, b"{ terminal: ; }", DiagramFault::Form(FormFault::Syntax(12))),
-    (DiagramKind::Wait, b"{ terminal: x; }", DiagramFault::Form(FormFault::WrongType(12))),
-    (DiagramKind::Rank, b"{ node 1: b rank b; }", DiagramFault::Form(FormFault::WrongType(17))),
-    (DiagramKind::Wait, b"{ ? }", DiagramFault::Form(FormFault::Token(TokenFault::BadByte(2)))),
-    (DiagramKind::Wait, b"{ terminal: b /\\ ? }", DiagramFault::Form(FormFault::Token(TokenFault::BadByte(17)))),
-    (DiagramKind::Wait, b"{ node 1073741825: b; }", DiagramFault::Form(FormFault::Token(TokenFault::LongNumber(7)))),
+    (
+        DiagramKind::Wait,
+        b"{ node 1: b; node 1: b; }",
+        DiagramFault::Twice(18),
+    ),
+    (
+        DiagramKind::Wait,
+        b"{ node 1: b; node 2: b; edge 1 -> 2 on l1; }",
+        DiagramFault::Upward(24),
+    ),
+    (
+        DiagramKind::Chain,
+        b"{ edge 0 -> 0 on l1; }",
+        DiagramFault::Upward(2),
+    ),
+    (
+        DiagramKind::Rank,
+        b"{ edge 0 -> 0 on l1; }",
+        DiagramFault::Upward(2),
+    ),
+    (
+        DiagramKind::Wait,
+        b"{ node 1: b; }",
+        DiagramFault::NoTerminal(13),
+    ),
+    (
+        DiagramKind::Chain,
+        b"{ node 1: b helper n0; }",
+        DiagramFault::UnfairHelper(19),
+    ),
+    (
+        DiagramKind::Chain,
+        b"{ node 1: b; }",
+        DiagramFault::NoHelper(7),
+    ),
+    (
+        DiagramKind::Rank,
+        b"{ node 1: b rank 1; }",
+        DiagramFault::NoHelper(7),
+    ),
+    (
+        DiagramKind::Wait,
+        b"{ terminal: ; }",
+        DiagramFault::Form(FormFault::Syntax(12)),
+    ),
+    (
+        DiagramKind::Wait,
+        b"{ terminal: x; }",
+        DiagramFault::Form(FormFault::WrongType(12)),
+    ),
+    (
+        DiagramKind::Rank,
+        b"{ node 1: b rank b; }",
+        DiagramFault::Form(FormFault::WrongType(17)),
+    ),
+    (
+        DiagramKind::Wait,
+        b"{ ? }",
+        DiagramFault::Form(FormFault::Token(TokenFault::BadByte(2))),
+    ),
+    (
+        DiagramKind::Wait,
+        b"{ terminal: b /\\ ? }",
+        DiagramFault::Form(FormFault::Token(TokenFault::BadByte(17))),
+    ),
+    (
+        DiagramKind::Wait,
+        b"{ node 1073741825: b; }",
+        DiagramFault::Form(FormFault::Token(TokenFault::LongNumber(7))),
+    ),
 ];
 
 #[test]
@@ -128,7 +268,8 @@ fn read(alloc: Global, kind: DiagramKind, text: &[u8]) -> Result<Diagram, Fail> 
 #[test]
 fn a_wait_diagram_is_read(rt: HostRuntime) -> Result<(), Fail> {
     let alloc = rt.alloc();
-    let text = b"{ node 2: b; terminal: at done; node 1: x > 0; edge 2 -> 1 on l1, c.exit; edge 1 -> 0 on n0; };";
+    let text =
+        b"{ node 2: b; terminal: at done; node 1: x > 0; edge 2 -> 1 on l1, c.exit; edge 1 -> 0 on n0; };";
     let diagram = read(alloc, DiagramKind::Wait, text)?;
     assert_eq!(rt; diagram.nodes.len(), 2);
     assert!(rt; matches!(diagram.terminal, Form::At(4)));
@@ -154,7 +295,8 @@ fn a_chain_diagram_is_read(rt: HostRuntime) -> Result<(), Fail> {
 #[test]
 fn a_rank_diagram_is_read(rt: HostRuntime) -> Result<(), Fail> {
     let alloc = rt.alloc();
-    let text = b"{ terminal: b; node 1: b rank x + 1 helper l1; node 2: b rank 2 helper l1; edge 1 -> 2 on l1; };";
+    let text =
+        b"{ terminal: b; node 1: b rank x + 1 helper l1; node 2: b rank 2 helper l1; edge 1 -> 2 on l1; };";
     let diagram = read(alloc, DiagramKind::Rank, text)?;
     assert_eq!(rt; diagram.nodes.len(), 2);
     assert_eq!(rt; diagram.edges.len(), 1);

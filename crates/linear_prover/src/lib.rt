@@ -29,3 +29,7 @@ pub use verdict::{PathKind, PathStep, Shown, Verdict};
 
 #[cfg(test)]
 mod tests;
+#[cfg(test)]
+mod wide_tests;
+#[cfg(test)]
+mod worked_tests;

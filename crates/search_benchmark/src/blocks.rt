@@ -77,14 +77,7 @@ pub fn text_of(alloc: Global, blocks: &[Block]) -> Result<Vec<u8>, Memory> {
 const MOST: u32 = 1 << 30;
 
 /// Takes all blocks that a reader holds, and counts its answers.
-#[tactic(
-    auto,
-    using(
-        crate::proofs::Behind::number_behind,
-        crate::proofs::Behind::finished_behind,
-        crate::proofs::Behind::end_behind
-    )
-)]
+#[tactic(auto, using(crate::proofs::Behind::number_behind, crate::proofs::Behind::finished_behind, crate::proofs::Behind::end_behind))]
 fn take_blocks(
     reader: &mut CertReader,
     answers: &mut u32,

@@ -4,7 +4,7 @@ use Rattle.search_benchmark.proofs.blocks.read_in_pieces.Given as goal
 abbrev pub invariant-loop-rest : goal.invariant-loop-rest
 invariant-loop-rest l = record {
   number : l.reader.number ≤ l.answers + 1;
-  open : l.reader.finished ≡ false;
+  unfinished : l.reader.finished ≡ false;
   end : l.reader.place + length l.reader.bytes + length l.rest ≡ length l.text;
 }
 

@@ -1,7 +1,7 @@
 //! How many conditions a response by a rank diagram asks, and in which order.
 
 use crate::formulas::{both, is_at_least_0, is_at_least_1, sum};
-use crate::names::{assert_named, push_modes};
+use crate::names::{assert_named, plainly, push_modes};
 use crate::programs::{COUNT, system_of};
 use crate::responses::count_begins;
 use crate::rules::{ask_invariance, ask_rank_diagram};
@@ -9,7 +9,7 @@ use st_form::{CondName, Form, Premise};
 use std::alloc::Global;
 use std::test::Fail;
 use temporal_goals::{DiagramNode, Edge};
-use vc_generator::{Conditions, plainly};
+use vc_generator::Conditions;
 
 /// The names of an invariance in step 0 and of a rank diagram of two nodes in step 1.
 fn diagram_names(alloc: Global) -> Result<Vec<CondName>, Fail> {

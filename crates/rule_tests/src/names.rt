@@ -5,6 +5,17 @@ use std::process::Abort;
 use std::test::Fail;
 use vc_generator::Conditions;
 
+/// The name of a condition that isn't about a mode.
+pub fn plainly(step: u32, premise: Premise, node: Option<u32>) -> CondName {
+    CondName {
+        step,
+        premise,
+        node,
+        trans: None,
+        mode: 0,
+    }
+}
+
 fn whole(occ: u32) -> TransName {
     TransName::Step {
         occ,

@@ -5,7 +5,7 @@ ghost use Rattle.std.specs.Prelude.{◌<◌, ◌^◌, IfOk, length};
 use crate::formulas::{
     all_three, at_none, at_some, both, is, is_at_least_0, is_at_least_1, number, some_of_three, sum,
 };
-use crate::names::{assert_named, push_modes};
+use crate::names::{assert_named, plainly, push_modes};
 use crate::programs::{COUNT, SEMAPHORE, TWO_SEMAPHORES, system_of};
 use crate::rules::{ask_invariance, ask_nested, ask_ranked};
 use crate::safety::held_by_one;
@@ -16,7 +16,7 @@ use st_linear::Lin;
 use std::alloc::Global;
 use std::test::Fail;
 use temporal_goals::{Level, NestedNode};
-use vc_generator::{Conditions, plainly};
+use vc_generator::Conditions;
 
 /// The names of what a net of one node asks in step 0.
 fn chain_names(alloc: Global) -> Result<Vec<CondName>, Fail> {

@@ -101,7 +101,7 @@ pub fn places_of(
     ensures { IfOk result (λ v. (l : ℕ) → slice_index_or v.items l None
         ≡ place (record { components = parts.now; owners = owners.now }) cases.now l) }
 {
-    let mut out = Vec::new(alloc);
+    let mut out = Vec::with_capacity(alloc, owners.len())?;
     for (location, owner) in owners.iter().enumerate() {
         out.push(place_in(parts, cases, location, *owner))?;
     }

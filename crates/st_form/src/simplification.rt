@@ -40,13 +40,13 @@ impl Form {
         match self {
             Form::True => Ok(constant(plus)),
             Form::False => Ok(constant(!plus)),
-            Form::Row(f) => Ok(signed_row(alloc, f, plus)?),
-            Form::Equal(f) => Ok(signed_equal(alloc, f, plus)?),
-            Form::BoolVar(v) => Ok(literal(alloc, Form::BoolVar(*v), known(truths, *v), plus)?),
-            Form::At(l) => Ok(literal(alloc, Form::At(*l), known(places, *l), plus)?),
-            Form::Not(f) => Ok(f.simplified(alloc, truths, places, !plus)?),
-            Form::And(fs) => Ok(simple_all(alloc, fs, truths, places, plus, plus)?),
-            Form::Or(fs) => Ok(simple_all(alloc, fs, truths, places, plus, !plus)?),
+            Form::Row(f) => signed_row(alloc, f, plus),
+            Form::Equal(f) => signed_equal(alloc, f, plus),
+            Form::BoolVar(v) => literal(alloc, Form::BoolVar(*v), known(truths, *v), plus),
+            Form::At(l) => literal(alloc, Form::At(*l), known(places, *l), plus),
+            Form::Not(f) => f.simplified(alloc, truths, places, !plus),
+            Form::And(fs) => simple_all(alloc, fs, truths, places, plus, plus),
+            Form::Or(fs) => simple_all(alloc, fs, truths, places, plus, !plus),
         }
     }
 }

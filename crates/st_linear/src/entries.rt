@@ -1,4 +1,4 @@
-//! Lists of entries: a variable and its coefficient each, variables rising, no coefficient 0. A list of up to four entries stands
+//! Lists of entries: a variable and its coefficient each, variables rising, no coefficient 0. A list of up to two entries stands
 //! in the value itself and takes no memory.
 //!
 //! Two lists are added by a merge in the order of the variables, as sparse polynomials are (Knuth, The Art of Computer Programming,
@@ -20,7 +20,7 @@ use st_memory::Memory;
 use std::alloc::Global;
 
 /// Variables and their coefficients.
-pub type Entries = SmallVec<(u32, i128), 4>;
+pub type Entries = SmallVec<(u32, i128), 2>;
 
 /// Appends an entry, unless its coefficient is 0.
 pub fn push_entry(out: &mut Entries, var: u32, coefficient: i128) -> Result<(), LinFault>

@@ -265,3 +265,24 @@ common_divisor-lt (e ∷ es) h k =
     let d = greatest-divides (unsigned_abs e.1) (e ∷ es) in
     let least = le_of_dvd (above_zero e.1 h.1) d.1.0 in
     omega (arith, least, small)
+
+quotient-one : (z : ℤ) → int_div_euclid z (pos 1) ≡ z
+quotient-one (pos a) = let h : a / 1 ≡ a = omega arith in cc
+quotient-one (negsuc a) = let h : a / 1 ≡ a = omega arith in cc
+
+same_first : (v : ℕ) (x y : ℤ) (xs ys : Entries) → x ≡ y → xs ≡ ys → (v, x) ∷ xs ≡ (v, y) ∷ ys
+same_first v x y xs ys h k = cc
+
+entries-one : (es : Entries) → map (λ e. (e.0, int_div_euclid e.1 (pos 1))) es ≡ es
+entries-one [] = refl
+entries-one ((v, z) ∷ es) =
+    let h : int_div_euclid z (pos 1) ≡ z = quotient-one z in
+    let k : map (λ e. (e.0, int_div_euclid e.1 (pos 1))) es ≡ es = entries-one es in
+    same_first v _ z _ es h k
+
+same_form : (c d : ℤ) (es fs : Entries) → c ≡ d → es ≡ fs → Path Linear (record { constant = c; entries = es }) (record { constant = d; entries = fs })
+same_form c d es fs h k = cc
+
+-- division by 1 changes nothing
+pub divided-one : (f : Linear) → divided 1 f ≡ f
+divided-one f = same_form _ f.constant _ f.entries (quotient-one f.constant) (entries-one f.entries)

@@ -30,6 +30,10 @@ impl Lin {
         requires divides { IsTrue (divides_all by self.now.entries) }
         ensures { IfOk result (λ f. f ≡ divided by self.now) }
     {
+        // Most forms have coefficients without a common divisor.
+        if by == 1 {
+            return self.copy(alloc);
+        }
         Ok(Lin {
             constant: floor_quotient(self.constant, by),
             entries: divide_entries(alloc, self.entries.as_slice(), by)?,

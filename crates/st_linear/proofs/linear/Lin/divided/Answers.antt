@@ -1,5 +1,6 @@
+use Rattle.std.proofs.Common.{rules}
 use Rattle.st_linear.proofs.Joins.{to_z-small}
-use Rattle.st_linear.proofs.Dividing.{CommonTo-from_test, AreEntries-divided, are_small-divided, is_small-quotient}
+use Rattle.st_linear.proofs.Dividing.{divided-one, CommonTo-from_test, AreEntries-divided, are_small-divided, is_small-quotient}
 use Rattle.st_linear.proofs.linear.Lin.divided.Goals as goal
 
 pub invariant_of-result : goal.invariant_of-result
@@ -15,3 +16,10 @@ invariant_of-result c =
       entries_small = are_small-divided c.args.by _ c.self.invariant.entries_small;
       entries = AreEntries-divided c.args.by _ c.requires.positive (CommonTo-from_test _ _ divides) c.self.invariant.entries;
     })
+
+pub returns-then-by-eq1 : goal.returns-then-by-eq1
+returns-then-by-eq1 c =
+    let h = divided-one c.args.self.now in
+    let e = c.if-by-eq1.true in
+    let k = c.copy.ensures in
+    grind (rules)

@@ -8,6 +8,7 @@ mod names;
 mod reading;
 
 pub use fault::FormFault;
+pub use names::text_of;
 pub use reading::{read_form, read_linear};
 
 #[cfg(test)]

@@ -19,8 +19,8 @@ fn is_text(name: &[u8]) -> bool
     true
 }
 
-/// A name as text.
-fn text_of(name: &[u8]) -> Option<&str>
+/// A name as text, where it is one of ASCII.
+pub fn text_of(name: &[u8]) -> Option<&str>
     ensures { option_map (λ s. s.now) result ≡ text_of name.now }
 {
     if !is_text(name) {

@@ -1,9 +1,23 @@
+ghost use Rattle.std.specs.Prelude.{ℕ, Bool, true, IsTrue};
+
 /// Is told when a piece of parallel work begins and when it ends, by the piece's number from 0.
 /// It answers nothing, so it can change no result.
+///
+/// Contracts see two meanings, which nobody but the gate's own calls can show of a gate that they don't know: that a
+/// piece has begun, and that it has ended.
 pub trait Gate {
-    fn begin(&self, place: usize);
+    /// Whether a piece has begun.
+    ghost begun: { Self → ℕ → Bool };
 
-    fn end(&self, place: usize);
+    /// Whether a piece has ended.
+    ghost ended: { Self → ℕ → Bool };
+
+    fn begin(&self, place: usize)
+        ensures { IsTrue (begun self.now place) };
+
+    fn end(&self, place: usize)
+        requires { IsTrue (begun self.now place) }
+        ensures { IsTrue (ended self.now place) };
 }
 
 /// A gate that does nothing.
@@ -11,7 +25,18 @@ pub trait Gate {
 pub struct OpenGate;
 
 impl Gate for OpenGate {
-    fn begin(&self, _place: usize) {}
+    ghost begun = { λ _ _. true };
 
-    fn end(&self, _place: usize) {}
+    ghost ended = { λ _ _. true };
+
+    fn begin(&self, _place: usize)
+        ensures { IsTrue true }
+    {
+    }
+
+    fn end(&self, _place: usize)
+        requires { IsTrue true }
+        ensures { IsTrue true }
+    {
+    }
 }

@@ -6,14 +6,17 @@
 #![tactic(auto)]
 
 mod blocks;
+mod checkable;
 mod conditions;
 mod formulas;
-mod guards;
+mod numbers;
 mod phases;
 mod report;
 mod rules;
+mod searchable;
 mod spans;
 mod texts;
+mod timing;
 mod trouble;
 
 use report::{print_counts, print_times};

@@ -3,8 +3,9 @@
 ghost use Rattle.std.specs.Prelude.{◌≡◌, ◌<◌};
 
 use crate::blocks::{read_in_pieces, text_of};
+use crate::checkable::are_checkable;
 use crate::conditions::Workload;
-use crate::guards::{are_checkable, are_searchable};
+use crate::searchable::are_searchable;
 use crate::spans::{Span, read_clocks, since};
 use crate::trouble::Trouble;
 use cert_text::Block;

@@ -5,7 +5,7 @@ ghost use Rattle.temporal_goals.specs.Plain.{plain_net};
 ghost use Rattle.vc_generator.specs.Walks.{HasFewModes};
 ghost use Rattle.rule_laws.specs.Fitting.{NodesFit};
 
-use crate::guards::{are_modest, is_modest};
+use crate::numbers::{are_modest, is_modest};
 use crate::trouble::Trouble;
 use invariance_rules::Invariance;
 use ranked_net::Ranked;

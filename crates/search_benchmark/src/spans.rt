@@ -34,11 +34,9 @@ pub fn read_clocks<R: Clock + CpuClock>(rt: &R) -> Result<Reading, Trouble> {
     })
 }
 
-/// Microseconds, at least 1, and at most what 64 bits hold.
+/// Microseconds, at most what 64 bits hold.
 fn micros(duration: Duration) -> u64 {
-    u64::try_from(duration.as_micros())
-        .unwrap_or(u64::MAX)
-        .max(1)
+    u64::try_from(duration.as_micros()).unwrap_or(u64::MAX)
 }
 
 /// What has passed since a reading.

@@ -1,0 +1,9 @@
+use Rattle.std.proofs.Common.{◌∙◌, sym}
+use Rattle.std.proofs.lemmas.Result.{err_from_is_err_and}
+use Rattle.diagram_reader.proofs.Stopping.{terminal_stops, terminal_some}
+use Rattle.diagram_reader.proofs.item.terminal.Goals as goal
+
+pub returns-in_err-expect-2-clause-reads : goal.returns-in_err-expect-2-clause-reads
+returns-in_err-expect-2-clause-reads c =
+    let p = err_from_is_err_and c.from_residual-in_err-expect-2.result c.from_residual-in_err-expect-2.ensures.1 in
+    rw (p.1, p.2) (terminal_stops _ _ _ _ _ _ _ _ c.in_ok-expect.ensures.reads c.in_ok-form.ensures.reads _ (terminal_some _ ∙ sym c.is_some.ensures ∙ c.if-is_some.false) c.in_err-expect-2.ensures.reads)

@@ -1,0 +1,5 @@
+pub mod Faults
+pub mod Transitions
+pub mod Drawn
+pub mod Drawing
+pub mod Obeying

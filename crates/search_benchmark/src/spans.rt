@@ -25,6 +25,11 @@ impl Span {
             processors: self.processors.min(other.processors),
         }
     }
+
+    /// The shorter of both: what one processor does is told by the time that it spent, whatever else the machine did.
+    pub fn shorter(self) -> u64 {
+        self.wall.min(self.processors)
+    }
 }
 
 pub fn read_clocks<R: Clock + CpuClock>(rt: &R) -> Result<Reading, Trouble> {

@@ -1,4 +1,4 @@
-//! Each phase, timed in rounds: its least times are printed, with what was done in a second of the wall's clock.
+//! Each phase, timed in rounds: its least times are printed, with what is done in a second by the shorter of both.
 
 ghost use Rattle.std.specs.Prelude.{◌<◌};
 
@@ -35,7 +35,7 @@ fn print_nodes<R: Print>(
 ) -> Result<(), Trouble> {
     let wall = span.wall;
     let processors = span.processors;
-    let rate = per_second(nodes, wall);
+    let rate = per_second(nodes, span.shorter());
     println!(rt;
         "{phase} by {workers}: {wall} us, of processors {processors} us, {rate} nodes a second"
     )?;
@@ -46,7 +46,7 @@ fn print_nodes<R: Print>(
 fn print_bytes<R: Print>(rt: &R, phase: &str, bytes: usize, span: Span) -> Result<(), Trouble> {
     let wall = span.wall;
     let processors = span.processors;
-    let tenths = tenths_per_second(bytes as u64, wall);
+    let tenths = tenths_per_second(bytes as u64, span.shorter());
     let whole = tenths / 10;
     let digit = tenths % 10;
     println!(rt; "{phase}: {wall} us, of processors {processors} us, {whole}.{digit} MB a second")?;

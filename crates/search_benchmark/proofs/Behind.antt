@@ -1,5 +1,5 @@
 -- What a reader holds behind an answer.
-use Rattle.std.proofs.Common.{◌≡◌, ℕ, ◌+◌, ◌-◌, ◌≤◌, length, drop, refl, sym, arith}
+use Rattle.std.proofs.Common.{◌≡◌, ℕ, ◌+◌, ◌-◌, ◌≤◌, length, refl, arith}
 use Rattle.std.proofs.lemmas.List.{length-drop}
 use Rattle.cert_text.specs.Reading.{State, going, malformed, over, whole}
 use Rattle.cert_text.specs.Held.{Held, outcome, taken_at, taken_from}

@@ -98,6 +98,14 @@ past place (Some (forming.Token f)) = broken f
 past place (Some (forming.Nesting p)) = stop_at (kinds.Limit limits.Nesting) p
 past place _ = stop_at (kinds.Limit limits.Nodes) place
 
+-- what the code makes of the fault of a formula behind 64 others
+abbrev pub of_past : ℕ → FormFault → ScriptFault
+of_past place (forming.Syntax p) = At kinds.Syntax p
+of_past place (forming.Token f) = of_token f
+of_past place (forming.Nesting p) = At (kinds.Limit limits.Nesting) p
+of_past place forming.Memory = Memory
+of_past place _ = At (kinds.Limit limits.Nodes) place
+
 -- what is listed behind 64 others
 abbrev pub one_too_many : {A : Type 0} → ℕ → Answer A → Read ScriptFault A
 one_too_many place (Ok x) = Err (stop_at (kinds.Limit limits.Nodes) place)

@@ -2,6 +2,7 @@
 -- diagram. The short forms are nets (`response_rules`).
 use Rattle.std.specs.Prelude.{ℕ, Bool, ◌&&◌, ◌||◌, cond, List, [], ◌∷◌, Option, Some, None, is_none, Ok, Err}
 use Rattle.st_tokens.specs.Stream.{Stream, behind}
+use Rattle.st_reading.specs.declared.mark.Mark.{Mark}
 use Rattle.st_reading.specs.declared.mark.Mark.TheVariants as marks
 use Rattle.st_reading.specs.declared.sign.Sign.{Sign}
 use Rattle.st_reading.specs.Sign.{is}
@@ -34,18 +35,31 @@ abbrev pub ends_item : Sign → Bool
 ends_item g = is g marks.Semicolon || is g marks.CloseBlock
 
 module _ (g : Setting) where
+  -- "helper" trans, where it is wanted; where it may stand; and "group" trans where it may stand
+  unfoldable pub wanted_helper_of : Reader ℕ
+  wanted_helper_of = behind_mark marks.Helper (just_of g)
+
+  unfoldable pub helper_of : Reader (Option ℕ)
+  helper_of = optional marks.Helper (just_of g)
+
+  unfoldable pub group_of : Reader (Option ℕ)
+  group_of = optional marks.Group (compassionate_of g)
+
+  -- an integer expression behind its mark
+  unfoldable pub weight_of : Mark → Reader Linear
+  weight_of mark = behind_mark mark (sum_of g)
+
   -- expr "helper" trans
   unfoldable pub helped_of : ℕ → Reader (Formula × ℕ)
-  helped_of before = then_reads (listed_formula_of g before) (λ f. then_reads (behind_mark marks.Helper (just_of g)) (λ h. gives (f, h)))
+  helped_of before = then_reads (listed_formula_of g before) (λ f. then_reads wanted_helper_of (λ h. gives (f, h)))
 
   -- expr "rank" sum "helper" trans
   unfoldable pub ranked_of : ℕ → Reader (Formula × Linear × ℕ)
-  ranked_of before =
-      then_reads (listed_formula_of g before) (λ f. then_reads (behind_mark marks.Rank (sum_of g)) (λ r. then_reads (behind_mark marks.Helper (just_of g)) (λ h. gives (f, r, h))))
+  ranked_of before = then_reads (listed_formula_of g before) (λ f. then_reads (weight_of marks.Rank) (λ r. then_reads wanted_helper_of (λ h. gives (f, r, h))))
 
   -- expr [ "helper" trans ]
   unfoldable pub fair_of : ℕ → Reader (Formula × Option ℕ)
-  fair_of before = then_reads (listed_formula_of g before) (λ f. then_reads (optional marks.Helper (just_of g)) (λ h. gives (f, h)))
+  fair_of before = then_reads (listed_formula_of g before) (λ f. then_reads helper_of (λ h. gives (f, h)))
 
   -- A node that begins at the place has a group or a helper; that it has neither is found at its end.
   unfoldable pub completed_of : ℕ → PlainNode → Reader PlainNode
@@ -54,25 +68,41 @@ module _ (g : Setting) where
   -- expr "base" sum "delay" sum "top" sum [ "group" trans ] [ "helper" trans ]
   unfoldable pub node_of : ℕ → Reader PlainNode
   node_of before s =
-      then_reads (listed_formula_of g before) (λ f. then_reads (behind_mark marks.Base (sum_of g)) (λ b. then_reads (behind_mark marks.Delay (sum_of g)) (λ d.
-      then_reads (behind_mark marks.Top (sum_of g)) (λ t. then_reads (optional marks.Group (compassionate_of g)) (λ c. then_reads (optional marks.Helper (just_of g)) (λ h.
-      completed_of (place_of s) (record { form = f; base = b; delay = d; top = t; group = c; helper = h }))))))) s
+      then_reads (listed_formula_of g before) (λ f. then_reads (weight_of marks.Base) (λ b. then_reads (weight_of marks.Delay) (λ d. then_reads (weight_of marks.Top) (λ t.
+      then_reads group_of (λ c. then_reads helper_of (λ h. completed_of (place_of s) (record { form = f; base = b; delay = d; top = t; group = c; helper = h }))))))) s
+
+  -- one node with its helper, as a chain of one
+  unfoldable pub just_nodes_of : Reader (List PlainNode)
+  just_nodes_of = then_reads (helped_of 0) (λ x. gives (chain_nodes (x ∷ [])))
+
+  -- "[" .. "]", behind "chain", behind "ranked", and behind "net"
+  unfoldable pub chain_nodes_of : Reader (List PlainNode)
+  chain_nodes_of = then_reads (bracketed helped_of) (λ items. gives (chain_nodes items))
+
+  unfoldable pub ranked_nodes_of : Reader (List PlainNode)
+  ranked_nodes_of = then_reads (bracketed ranked_of) (λ items. gives (ranked_nodes items))
+
+  unfoldable pub nodes_of : Reader (List PlainNode)
+  nodes_of = bracketed node_of
+
+  -- trans "[" .. "]", behind "fair"
+  unfoldable pub fair_nodes_of : Reader (List PlainNode)
+  fair_nodes_of = then_reads (compassionate_of g) (λ t. then_reads (bracketed fair_of) (λ items. gives (fair_nodes t items)))
+
+  abbrev pub as_net : Reader (List PlainNode) → Reader PlainRule
+  as_net r = then_reads r (λ ns. gives (net ns))
 
   -- ( "chain" | "rank" ) drawing
   unfoldable pub response_diagram_of : Reader PlainRule
   response_diagram_of s = on_operator (kind_in (ahead s)) (Err (refusal s)) (λ k. then_reads (λ t. drawn (diagram_of k 0 g.names g.system t)) (λ d. gives (diagram d)) (behind s))
 
-  -- "fair" trans "[" .. "]", behind "fair"
-  unfoldable pub fair_net_of : Reader (List PlainNode)
-  fair_net_of = then_reads (compassionate_of g) (λ t. then_reads (bracketed fair_of) (λ items. gives (fair_nodes t items)))
-
   -- a rule, behind the token that says its manner
   unfoldable pub ruled_of : Manner → Reader PlainRule
-  ruled_of manners.Just s = then_reads (helped_of 0) (λ x. gives (net (chain_nodes (x ∷ [])))) s
-  ruled_of manners.Chain s = then_reads (bracketed helped_of) (λ items. gives (net (chain_nodes items))) s
-  ruled_of manners.Ranked s = then_reads (bracketed ranked_of) (λ items. gives (net (ranked_nodes items))) s
-  ruled_of manners.Fair s = then_reads fair_net_of (λ ns. gives (net ns)) s
-  ruled_of manners.Net s = then_reads (bracketed node_of) (λ ns. gives (net ns)) s
+  ruled_of manners.Just s = as_net just_nodes_of s
+  ruled_of manners.Chain s = as_net chain_nodes_of s
+  ruled_of manners.Ranked s = as_net ranked_nodes_of s
+  ruled_of manners.Fair s = as_net fair_nodes_of s
+  ruled_of manners.Net s = as_net nodes_of s
   ruled_of manners.Diagram s = response_diagram_of s
 
   unfoldable pub rule_of : Reader PlainRule

@@ -7,6 +7,7 @@ use Rattle.st_reading.specs.declared.sign.Sign.{Sign}
 use Rattle.st_reading.specs.Sign.{is}
 use Rattle.st_reading.specs.Reading.{Read, ahead, place_of, refusal, expected, named, gives, then_reads, further}
 use Rattle.st_form.specs.Formula.{Formula}
+use Rattle.st_program.specs.Names as tables
 use Rattle.spl_typer.specs.Programs.{is_text}
 use Rattle.assertions.specs.Naming.{variable_named as entry_named}
 use Rattle.temporal_goals.specs.Texts.{PlainGoal, invariant, waiting, response, PlainRule, basic, stronger, levels, diagram, PlainStep}
@@ -48,10 +49,14 @@ abbrev pub invariance_rule : Option Formula → PlainRule
 invariance_rule None = basic
 invariance_rule (Some f) = stronger f
 
+-- an earlier step has the name
+abbrev pub is_taken : Earlier → List ℕ → Bool
+is_taken earlier name = is_some (tables.named name earlier)
+
 -- The name of a step, which no earlier one has. A name is text.
 unfoldable pub new_name_of : Earlier → Reader (List ℕ)
 new_name_of earlier =
-    then_reads named (λ n. then_reads (unless (not (is_text n.text)) (kinds.Limit limits.Text) n.place n.text) (λ name. unless (is_some (step_named earlier name)) kinds.Twice n.place name))
+    then_reads named (λ n. then_reads (unless (not (is_text n.text)) (kinds.Limit limits.Text) n.place n.text) (λ name. unless (is_taken earlier name) kinds.Twice n.place name))
 
 -- an earlier invariance, by its name
 unfoldable pub cited_of : Earlier → Reader ℕ

@@ -1,6 +1,13 @@
 //! Why no script is read. Each fault has a kind and a place: a byte offset from 0.
 
-use st_tokens::LimitKind;
+ghost use Rattle.std.specs.Prelude.{◌≡◌};
+ghost use Rattle.proof_script.specs.declared.fault.ScriptFault.TheVariants.{Memory};
+
+use assertions::FormFault;
+use diagram_reader::DiagramFault;
+use st_reading::ParseFault;
+use st_tokens::{LimitKind, TokenFault};
+use std::alloc::{AllocError, AllocFailed};
 use thiserror::Error;
 
 /// What is wrong. At one place the kind that stands first here is told.
@@ -54,4 +61,103 @@ pub enum ScriptFault {
     /// Memory was asked for and refused.
     #[error("out of memory")]
     Memory,
+}
+
+impl From<TokenFault> for ScriptFault {
+    ghost use Rattle.std.specs.Prelude.{◌≡◌};
+    ghost use Rattle.proof_script.specs.Faults.{of_token};
+
+    ghost from_gives = { λ e fault. fault ≡ of_token e };
+
+    fn from(fault: TokenFault) -> Self {
+        match fault {
+            TokenFault::BadByte(place) => ScriptFault::At(ScriptKind::BadByte, place),
+            TokenFault::LongNumber(place) => ScriptFault::At(ScriptKind::LongNumber, place),
+        }
+    }
+}
+
+impl From<ParseFault> for ScriptFault {
+    ghost use Rattle.std.specs.Prelude.{◌≡◌};
+    ghost use Rattle.proof_script.specs.Faults.{of_parsing};
+
+    ghost from_gives = { λ e fault. fault ≡ of_parsing e };
+
+    fn from(fault: ParseFault) -> Self {
+        match fault {
+            ParseFault::Syntax(place) => ScriptFault::At(ScriptKind::Syntax, place),
+            ParseFault::Token(fault) => ScriptFault::from(fault),
+            ParseFault::Limit(kind, place) => ScriptFault::At(ScriptKind::Limit(kind), place),
+            ParseFault::Memory => ScriptFault::Memory,
+        }
+    }
+}
+
+impl From<FormFault> for ScriptFault {
+    ghost use Rattle.std.specs.Prelude.{◌≡◌};
+    ghost use Rattle.proof_script.specs.Faults.{of_forming};
+
+    ghost from_gives = { λ e fault. fault ≡ of_forming e };
+
+    fn from(fault: FormFault) -> Self {
+        let (kind, place) = match fault {
+            FormFault::Syntax(place) => (ScriptKind::Syntax, place),
+            FormFault::Unknown(place) => (ScriptKind::Unknown, place),
+            FormFault::WrongType(place) => (ScriptKind::WrongType, place),
+            FormFault::NonLinear(place) => (ScriptKind::NonLinear, place),
+            FormFault::TooLarge(place) => (ScriptKind::TooLarge, place),
+            FormFault::Token(fault) => return ScriptFault::from(fault),
+            FormFault::Nesting(place) => (ScriptKind::Limit(LimitKind::Nesting), place),
+            FormFault::Memory => return ScriptFault::Memory,
+        };
+        ScriptFault::At(kind, place)
+    }
+}
+
+impl From<DiagramFault> for ScriptFault {
+    ghost use Rattle.std.specs.Prelude.{◌≡◌};
+    ghost use Rattle.proof_script.specs.Faults.{of_drawing};
+
+    ghost from_gives = { λ e fault. fault ≡ of_drawing e };
+
+    fn from(fault: DiagramFault) -> Self {
+        let (kind, place) = match fault {
+            DiagramFault::Syntax(place) => (ScriptKind::Syntax, place),
+            DiagramFault::UnknownNode(place) => (ScriptKind::UnknownNode, place),
+            DiagramFault::UnknownTransition(place) => (ScriptKind::UnknownTransition, place),
+            DiagramFault::Twice(place) => (ScriptKind::Twice, place),
+            DiagramFault::Upward(place) => (ScriptKind::Upward, place),
+            DiagramFault::NoTerminal(place) => (ScriptKind::NoTerminal, place),
+            DiagramFault::UnfairHelper(place) => (ScriptKind::UnfairHelper, place),
+            DiagramFault::NoHelper(place) => (ScriptKind::NoHelper, place),
+            DiagramFault::Nodes(place) => (ScriptKind::Limit(LimitKind::Nodes), place),
+            DiagramFault::Form(fault) => return ScriptFault::from(fault),
+            DiagramFault::Memory => return ScriptFault::Memory,
+        };
+        ScriptFault::At(kind, place)
+    }
+}
+
+impl From<AllocError> for ScriptFault {
+    ghost from_gives = { λ _ e. e ≡ Memory };
+
+    fn from(_: AllocError) -> ScriptFault {
+        ScriptFault::Memory
+    }
+}
+
+impl<T: Drop> From<AllocFailed<T>> for ScriptFault {
+    ghost from_gives = { λ _ e. e ≡ Memory };
+
+    fn from(_: AllocFailed<T>) -> ScriptFault {
+        ScriptFault::Memory
+    }
+}
+
+impl From<st_memory::Memory> for ScriptFault {
+    ghost from_gives = { λ _ e. e ≡ Memory };
+
+    fn from(_: st_memory::Memory) -> ScriptFault {
+        ScriptFault::Memory
+    }
 }

@@ -1,0 +1,5 @@
+pub mod Refusals
+pub mod Counting
+pub mod Inverses
+pub mod Unbroken
+pub mod Stepping

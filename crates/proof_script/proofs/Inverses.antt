@@ -6,7 +6,7 @@ use Rattle.st_tokens.specs.Stream.{Stream, behind}
 use Rattle.st_reading.specs.declared.mark.Mark.{Mark}
 use Rattle.st_reading.specs.declared.mark.Mark.TheVariants as marks
 use Rattle.st_reading.specs.Sign.{is}
-use Rattle.st_reading.specs.Reading.{◌>>=◌, ahead, place_of, expected, gives, then_reads, Turn, leaves, goes, only, size}
+use Rattle.st_reading.specs.Reading.{Stop, Read, ◌>>=◌, ahead, place_of, expected, gives, then_reads, on_operator, Turn, leaves, goes, only, listing, further, size}
 use Rattle.st_form.specs.Formula.{Formula}
 use Rattle.assertions.specs.Naming.{names_of}
 use Rattle.assertions.specs.Reading.{Answer, form_of}
@@ -47,6 +47,11 @@ module _ {A : Type 0} where
       at_test true h = let a = both (r (behind s)) _ (o, rest) h in subst P (given (Some a.value.0) o a.value.1 rest a.second) (some a.value.0 (behind s) a.value.1 a.first)
       at_test false h = subst P (given None o s rest h) none
 
+-- the operator that stood ahead
+pub operated : {A O : Type 0} (o : Option O) (f : Stop ScriptFault) (go : O → Read ScriptFault A) (y : A × Stream) → on_operator o (Err f) go ≡ Ok y → (x : O) × (o ≡ Some x) × (go x ≡ Ok y)
+operated None f go y h = absurd cc
+operated (Some x) f go y h = (x, refl, h)
+
 -- at most 64 are listed
 pub listed_few : (g : Setting) (before : ℕ) (s : Stream) (f : Formula) (rest : Stream) → listed_formula_of g before s ≡ Ok (f, rest) → before < 64
 unfolding listed_formula_of
@@ -55,6 +60,15 @@ listed_few g before s f rest h = at_test (nat_lt before 64) refl h
     at_test : (b : Bool) → nat_lt before 64 ≡ b → cond b (formula_of g s) (one_too_many (place_of s) (form_of (names_of g.names) s)) ≡ Ok (f, rest) → before < 64
     at_test true is h = less before 64 is
     at_test false is h = absurd (never (place_of s) (form_of (names_of g.names) s) f rest h)
+
+-- and what is listed is a formula
+pub few_listed : (g : Setting) (before : ℕ) (s : Stream) (f : Formula) (rest : Stream) → listed_formula_of g before s ≡ Ok (f, rest) → formula_of g s ≡ Ok (f, rest)
+unfolding listed_formula_of
+few_listed g before s f rest h = at_test (nat_lt before 64) h
+  where
+    at_test : (b : Bool) → cond b (formula_of g s) (one_too_many (place_of s) (form_of (names_of g.names) s)) ≡ Ok (f, rest) → formula_of g s ≡ Ok (f, rest)
+    at_test true h = h
+    at_test false h = absurd (never (place_of s) (form_of (names_of g.names) s) f rest h)
 
 -- What holds of each item holds of all that are listed, and there are at most 64.
 module _ {A : Type 0} (mark : Mark) (r : ℕ → Reader A) (P : A → Type 0) (each : (before : ℕ) (x : A) (s rest : Stream) → r before s ≡ Ok (x, rest) → (before < 64) × P x) where
@@ -80,8 +94,29 @@ module _ {A : Type 0} (mark : Mark) (r : ℕ → Reader A) (P : A → Type 0) (e
   ended : (xs ys : List A) (s rest : Stream) → Fitting xs → gives {X = ScriptFault} xs s ≡ Ok (ys, rest) → Fitting ys
   ended xs ys s rest p h = subst Fitting (given xs ys s rest h) p
 
+  pushed_some : (o : Unit {0}) (place : ℕ) (xs ys : List A) (s rest : Stream) → 0 < length xs → counted {B = List A} r o place xs s ≡ Ok (goes ys, rest) → 0 < length ys
+  pushed_some o place xs ys s rest p h =
+      let b = both (r (length xs) s) (λ x. gives {X = ScriptFault} (going {B = List A} (xs ++ x.0 ∷ [])) x.1) (goes ys, rest) h in
+      let e : going {B = List A} (xs ++ b.value.0 ∷ []) ≡ goes ys = given (going {B = List A} (xs ++ b.value.0 ∷ [])) (goes ys) b.value.1 rest b.second in
+      let i : xs ++ b.value.0 ∷ [] ≡ ys = cc in
+      let long = length-append xs (b.value.0 ∷ []) in
+      subst (λ (zs : List A). 0 < length zs) i (omega (arith, long))
+
+  leaves_some : (o : Unit {0}) (place : ℕ) (xs ys : List A) (s rest : Stream) → 0 < length xs → counted {B = List A} r o place xs s ≡ Ok (leaves ys, rest) → 0 < length ys
+  leaves_some o place xs ys s rest p h =
+      let b = both (r (length xs) s) (λ x. gives {X = ScriptFault} (going {B = List A} (xs ++ x.0 ∷ [])) x.1) (leaves ys, rest) h in
+      let e : going {B = List A} (xs ++ b.value.0 ∷ []) ≡ leaves ys = given (going {B = List A} (xs ++ b.value.0 ∷ [])) (leaves ys) b.value.1 rest b.second in
+      absurd cc
+
+  ended_some : (xs ys : List A) (s rest : Stream) → 0 < length xs → gives {X = ScriptFault} xs s ≡ Ok (ys, rest) → 0 < length ys
+  ended_some xs ys s rest p h = subst (λ (zs : List A). 0 < length zs) (given xs ys s rest h) p
+
   pub further_fits : (xs ys : List A) (s rest : Stream) → Fitting xs → further_counted mark r xs s ≡ Ok (ys, rest) → Fitting ys
   further_fits xs ys s rest p h = chain_keeps (only mark) (counted r) gives Fitting Fitting pushed leaves_never ended (size s) xs s ys rest p h
+
+  -- what is listed stays
+  pub further_some : (xs ys : List A) (s rest : Stream) → 0 < length xs → further_counted mark r xs s ≡ Ok (ys, rest) → 0 < length ys
+  further_some xs ys s rest p h = chain_keeps (only mark) (counted r) gives (λ zs. 0 < length zs) (λ zs. 0 < length zs) pushed_some leaves_some ended_some (size s) xs s ys rest p h
 
   pub listed_fits : (ys : List A) (s rest : Stream) → listed mark r s ≡ Ok (ys, rest) → Fitting ys
   listed_fits ys s rest h =
@@ -96,3 +131,21 @@ module _ {A : Type 0} (r : ℕ → Reader A) (P : A → Type 0) (each : (before 
       let c = both (expected {X = ScriptFault} marks.CloseBlock b.value.1) _ (ys, rest) b.second in
       let e : b.value.0 ≡ ys = given b.value.0 ys c.value.1 rest c.second in
       subst (λ (xs : List A). (length xs ≤ 64) × All P xs) e (listed_fits marks.Semicolon r P each b.value.0 a.value.1 b.value.1 b.first)
+
+-- What holds of each further item holds of all of them.
+module _ {A : Type 0} (mark : Mark) (r : Reader A) (P : A → Type 0) (each : (x : A) (s rest : Stream) → r s ≡ Ok (x, rest) → P x) where
+  pushed_all : (o : Unit {0}) (place : ℕ) (xs ys : List A) (s rest : Stream) → All P xs → listing {B = List A} r o place xs s ≡ Ok (goes ys, rest) → All P ys
+  pushed_all o place xs ys s rest p h =
+      let b = both (r s) (λ x. gives {X = ScriptFault} (going {B = List A} (xs ++ x.0 ∷ [])) x.1) (goes ys, rest) h in
+      let e : going {B = List A} (xs ++ b.value.0 ∷ []) ≡ goes ys = given (going {B = List A} (xs ++ b.value.0 ∷ [])) (goes ys) b.value.1 rest b.second in
+      let i : xs ++ b.value.0 ∷ [] ≡ ys = cc in
+      subst (All P) i (All-push P xs b.value.0 p (each b.value.0 s b.value.1 b.first))
+
+  leaves_none : (o : Unit {0}) (place : ℕ) (xs ys : List A) (s rest : Stream) → All P xs → listing {B = List A} r o place xs s ≡ Ok (leaves ys, rest) → All P ys
+  leaves_none o place xs ys s rest p h =
+      let b = both (r s) (λ x. gives {X = ScriptFault} (going {B = List A} (xs ++ x.0 ∷ [])) x.1) (leaves ys, rest) h in
+      let e : going {B = List A} (xs ++ b.value.0 ∷ []) ≡ leaves ys = given (going {B = List A} (xs ++ b.value.0 ∷ [])) (leaves ys) b.value.1 rest b.second in
+      absurd cc
+
+  pub further_all : (xs ys : List A) (s rest : Stream) → All P xs → further mark r xs s ≡ Ok (ys, rest) → All P ys
+  further_all xs ys s rest p h = chain_keeps (only mark) (listing r) gives (All P) (All P) pushed_all leaves_none (λ xs ys s rest p h. subst (All P) (given xs ys s rest h) p) (size s) xs s ys rest p h

@@ -62,23 +62,24 @@ module _ (g : Setting) where
       let d = both (further_counted marks.Wait (listed_formula_of g) two c.value.1) _ (w, rest) c.second in
       let made : Formula × List Formula = (a.value.0, d.value.0) in
       let few = (further_fits marks.Wait (listed_formula_of g) (λ f. Unit {0}) (λ n f m r k. (listed_few g n m f r k, tt)) two d.value.0 c.value.1 d.value.1
-          (omega arith, All-push (λ f. Unit {0}) (b.value.0 ∷ []) c.value.0 (All-push (λ f. Unit {0}) [] b.value.0 All-nil tt) tt) d.first).0 in
+      (omega arith, All-push (λ f. Unit {0}) (b.value.0 ∷ []) c.value.0 (All-push (λ f. Unit {0}) [] b.value.0 All-nil tt) tt) d.first).0 in
       subst (λ (v : Formula × List Formula). length v.1 ≤ 64) (given made w d.value.1 rest d.second) few
 
-  module _ (xs : List PlainStep) (s start : Stream) (whole : Read ScriptFault (List PlainStep)) where
-    abbrev pub Script_on : List PlainStep → Stream → Type 0
-    Script_on ys after = Running claim_in (step_turn g) ended ys after start whole
+  -- so far these steps were read, and that is left
+  abbrev pub Script_on : Stream → Read ScriptFault (List PlainStep) → List PlainStep → Stream → Type 0
+  Script_on start whole ys after = Running claim_in (step_turn g) ended ys after start whole
 
-    pub step_next : (claim : Claim) (earlier : Earlier) (x : PlainStep) (next after : Stream) (ys : List PlainStep) → Script_on xs s → Some claim ≡ claim_in (ahead s) → next ≡ behind s → earlier ≡ earlier_of xs → step_of g claim earlier next ≡ Ok (x, after) → size after ≤ size next
-        → ys ≡ xs ++ x ∷ [] → Script_on ys after
+  module _ (xs : List PlainStep) (s start : Stream) (whole : Read ScriptFault (List PlainStep)) where
+    pub step_next : (claim : Claim) (earlier : Earlier) (x : PlainStep) (next after : Stream) (ys : List PlainStep) → Script_on start whole xs s → Some claim ≡ claim_in (ahead s) → next ≡ behind s → earlier ≡ earlier_of xs → step_of g claim earlier next ≡ Ok (x, after) → size after ≤ size next
+        → ys ≡ xs ++ x ∷ [] → Script_on start whole ys after
     step_next claim earlier x next after ys h begins is_next known reads le made =
         running_next claim_in (step_turn g) ended refl xs s start whole h claim ys next after begins is_next
         (mapped (λ y. goes (xs ++ y ∷ [])) (step_of g claim (earlier_of xs)) next after x (ap (λ e. step_of g claim e next) (sym known) ∙ reads) ∙ ap (λ z. Ok (goes z, after)) (sym made)) le
 
-    pub steps_end : Script_on xs s → None ≡ claim_in (ahead s) → whole ≡ ended xs s
+    pub steps_end : Script_on start whole xs s → None ≡ claim_in (ahead s) → whole ≡ ended xs s
     steps_end h ends_here = running_ends claim_in (step_turn g) ended refl xs s start whole h ends_here
 
-    pub step_fails : (claim : Claim) (earlier : Earlier) (e : Option (Stop ScriptFault)) (next : Stream) → Script_on xs s → Some claim ≡ claim_in (ahead s) → next ≡ behind s → earlier ≡ earlier_of xs → IsStop e (step_of g claim earlier next) → IsStop e whole
+    pub step_fails : (claim : Claim) (earlier : Earlier) (e : Option (Stop ScriptFault)) (next : Stream) → Script_on start whole xs s → Some claim ≡ claim_in (ahead s) → next ≡ behind s → earlier ≡ earlier_of xs → IsStop e (step_of g claim earlier next) → IsStop e whole
     step_fails claim earlier e next h begins is_next known fails =
         running_fails claim_in (step_turn g) ended refl xs s start whole h claim e next begins is_next
         (map_fails (λ y. goes (xs ++ y ∷ [])) (step_of g claim (earlier_of xs)) next e (rw (← known) fails))

@@ -107,7 +107,7 @@ module _ (g : Setting) where
       let made : Formula × Option ℕ = (a.value.0, b.value.0) in
       (listed_few g before s a.value.0 a.value.1 a.first, subst (MayHelp g.system) (given made x b.value.1 rest b.second) (helper_fits a.value.1 b.value.0 b.value.1 b.first))
 
-  completed_fits : (place : ℕ) (n m : PlainNode) (s rest : Stream) → completed_of place n s ≡ Ok (m, rest) → ((is_none n.group && is_none n.helper) ≡ false) × (n ≡ m)
+  pub completed_fits : (place : ℕ) (n m : PlainNode) (s rest : Stream) → completed_of place n s ≡ Ok (m, rest) → ((is_none n.group && is_none n.helper) ≡ false) × (n ≡ m)
   unfolding completed_of
   completed_fits place n m s rest h = at_test (ends_item (ahead s)) h
     where

@@ -3,3 +3,5 @@ pub mod Listing
 pub mod Steps
 pub mod Rules
 pub mod Script
+pub mod Obeying
+pub mod Speaking

@@ -34,6 +34,13 @@ kind_in g = cond (is g marks.Chain) (Some drawings.Chain) (cond (is g marks.Rank
 abbrev pub ends_item : Sign → Bool
 ends_item g = is g marks.Semicolon || is g marks.CloseBlock
 
+-- A node that begins at the place has a group or a helper; that it has neither is found at its end.
+unfoldable pub completed_of : ℕ → PlainNode → Reader PlainNode
+completed_of place n s = cond (ends_item (ahead s)) (unless (is_none n.group && is_none n.helper) kinds.NoHelper place n s) (Err (refusal s))
+
+abbrev pub as_net : Reader (List PlainNode) → Reader PlainRule
+as_net r = then_reads r (λ ns. gives (net ns))
+
 module _ (g : Setting) where
   -- "helper" trans, where it is wanted; where it may stand; and "group" trans where it may stand
   unfoldable pub wanted_helper_of : Reader ℕ
@@ -61,10 +68,6 @@ module _ (g : Setting) where
   unfoldable pub fair_of : ℕ → Reader (Formula × Option ℕ)
   fair_of before = then_reads (listed_formula_of g before) (λ f. then_reads helper_of (λ h. gives (f, h)))
 
-  -- A node that begins at the place has a group or a helper; that it has neither is found at its end.
-  unfoldable pub completed_of : ℕ → PlainNode → Reader PlainNode
-  completed_of place n s = cond (ends_item (ahead s)) (unless (is_none n.group && is_none n.helper) kinds.NoHelper place n s) (Err (refusal s))
-
   -- expr "base" sum "delay" sum "top" sum [ "group" trans ] [ "helper" trans ]
   unfoldable pub node_of : ℕ → Reader PlainNode
   node_of before s =
@@ -88,9 +91,6 @@ module _ (g : Setting) where
   -- trans "[" .. "]", behind "fair"
   unfoldable pub fair_nodes_of : Reader (List PlainNode)
   fair_nodes_of = then_reads (compassionate_of g) (λ t. then_reads (bracketed fair_of) (λ items. gives (fair_nodes t items)))
-
-  abbrev pub as_net : Reader (List PlainNode) → Reader PlainRule
-  as_net r = then_reads r (λ ns. gives (net ns))
 
   -- ( "chain" | "rank" ) drawing
   unfoldable pub response_diagram_of : Reader PlainRule

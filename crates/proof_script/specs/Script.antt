@@ -13,13 +13,13 @@ use Rattle.proof_script.specs.Faults.{see}
 use Rattle.proof_script.specs.Listing.{Setting, Reader}
 use Rattle.proof_script.specs.Steps.{claim_in, earlier_of, step_of}
 
+abbrev pub ended : List PlainStep → Reader (List PlainStep)
+ended steps = then_reads at_end (λ e. gives steps)
+
 module _ (g : Setting) where
   -- a further step; only the steps before it are known
   abbrev pub step_turn : Claim → ℕ → List PlainStep → Reader (Turn (List PlainStep) (List PlainStep))
   step_turn claim place steps = then_reads (step_of g claim (earlier_of steps)) (λ x. gives (goes (steps ++ x ∷ [])))
-
-  abbrev pub ended : List PlainStep → Reader (List PlainStep)
-  ended steps = then_reads at_end (λ e. gives steps)
 
   -- { step }, and the text's end
   unfoldable pub steps_of : List PlainStep → Reader (List PlainStep)

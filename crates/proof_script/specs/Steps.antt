@@ -67,6 +67,10 @@ unfoldable pub citations_of : Earlier → Reader (List ℕ)
 citations_of earlier s =
     cond (is (ahead s) marks.Using) (then_reads (cited_of earlier) (λ c. further marks.Comma (cited_of earlier) (c ∷ [])) (behind s)) (Ok ([], s))
 
+-- As many levels as the goal has formulas behind "==>". Another number is found at the token behind the levels.
+unfoldable pub matched_of : ℕ → ℕ → List Formula → Reader PlainRule
+matched_of place count ls s = cond (ends_rule (ahead s)) (unless (not (nat_eq (length ls) count)) kinds.WrongCount place (levels ls) s) (Err (refusal s))
+
 module _ (g : Setting) where
   -- expr [ "by" expr ]
   unfoldable pub invariance_of : Reader (PlainGoal × PlainRule)
@@ -77,10 +81,6 @@ module _ (g : Setting) where
   waiting_goal_of =
       then_reads (formula_of g) (λ p. then_reads (behind_mark marks.Unless (listed_formula_of g 0)) (λ q. then_reads (behind_mark marks.Wait (listed_formula_of g 1)) (λ r.
       then_reads (further_counted marks.Wait (listed_formula_of g) (q ∷ r ∷ [])) (λ qs. gives (p, qs)))))
-
-  -- As many levels as the goal has formulas behind "==>". Another number is found at the token behind the levels.
-  unfoldable pub matched_of : ℕ → ℕ → List Formula → Reader PlainRule
-  matched_of place count ls s = cond (ends_rule (ahead s)) (unless (not (nat_eq (length ls) count)) kinds.WrongCount place (levels ls) s) (Err (refusal s))
 
   -- expr { "," expr }, behind "by" at the place
   unfoldable pub levels_of : ℕ → ℕ → Reader PlainRule

@@ -1,75 +1,24 @@
 //! What is listed in a script: formulas, and what the nodes of a net are made from.
 
-ghost use Rattle.std.specs.Prelude.{◌≡◌, ◌≤◌, IfOk};
+ghost use Rattle.std.specs.Prelude.{◌≡◌};
 ghost use Rattle.st_tokens.specs.Stream.{stream};
-ghost use Rattle.st_reading.specs.Reading.{Reads, size};
+ghost use Rattle.st_reading.specs.Reading.{Reads};
 ghost use Rattle.st_form.specs.Plain.{plain};
 ghost use Rattle.temporal_goals.specs.Plain.{plain_node};
 ghost use Rattle.proof_script.specs.Faults.{see};
-ghost use Rattle.proof_script.specs.Listing.{setting_view};
-ghost use Rattle.proof_script.specs.Rules.{wanted_helper_of, helper_of, group_of, weight_of, helped_of, ranked_of, fair_of, ends_item, completed_of, node_of};
+ghost use Rattle.proof_script.specs.Rules.{helped_of, ranked_of, fair_of, ends_item, completed_of, node_of};
 
 use crate::fault::{ScriptFault, ScriptKind};
 use crate::lists::Item;
-use crate::marks::{expect, refusal};
+use crate::marks::refusal;
+use crate::parts::{group, helper, wanted_helper, weight};
 use crate::setting::Setting;
-use crate::units::{compassionate, just, listed_formula, sum};
+use crate::units::listed_formula;
 use st_form::{Form, Lin};
-use st_reading::{Mark, Sign, advance, ahead, is, place_of};
+use st_reading::{Mark, Sign, ahead, is, place_of};
 use st_tokens::Tokens;
 use std::alloc::Global;
 use temporal_goals::Node;
-
-/// A helper, which has to be given.
-#[tactic(auto, unfolding(crate::specs::Rules::wanted_helper_of))]
-fn wanted_helper(setting: &Setting<'_>, tokens: &mut Tokens<'_>) -> Result<u32, ScriptFault>
-    ensures reads { Reads see (λ h. h) result (stream tokens.new) (wanted_helper_of (setting_view setting.now) (stream tokens.old)) }
-    ensures shrinks { IfOk result (λ _. size (stream tokens.new) ≤ size (stream tokens.old)) }
-{
-    expect(tokens, Mark::Helper)?;
-    just(setting, tokens)
-}
-
-/// A helper, if one is given.
-#[tactic(auto, unfolding(crate::specs::Rules::helper_of))]
-fn helper(setting: &Setting<'_>, tokens: &mut Tokens<'_>) -> Result<Option<u32>, ScriptFault>
-    ensures reads { Reads see (λ h. h) result (stream tokens.new) (helper_of (setting_view setting.now) (stream tokens.old)) }
-    ensures shrinks { IfOk result (λ _. size (stream tokens.new) ≤ size (stream tokens.old)) }
-{
-    if !is(ahead(tokens), Mark::Helper) {
-        return Ok(None);
-    }
-    advance(tokens);
-    Ok(Some(just(setting, tokens)?))
-}
-
-/// A group, if one is given.
-#[tactic(auto, unfolding(crate::specs::Rules::group_of))]
-fn group(setting: &Setting<'_>, tokens: &mut Tokens<'_>) -> Result<Option<u32>, ScriptFault>
-    ensures reads { Reads see (λ h. h) result (stream tokens.new) (group_of (setting_view setting.now) (stream tokens.old)) }
-    ensures shrinks { IfOk result (λ _. size (stream tokens.new) ≤ size (stream tokens.old)) }
-{
-    if !is(ahead(tokens), Mark::Group) {
-        return Ok(None);
-    }
-    advance(tokens);
-    Ok(Some(compassionate(setting, tokens)?))
-}
-
-/// An integer expression behind the mark.
-#[tactic(auto, unfolding(crate::specs::Rules::weight_of))]
-fn weight(
-    alloc: Global,
-    setting: &Setting<'_>,
-    mark: Mark,
-    tokens: &mut Tokens<'_>,
-) -> Result<Lin, ScriptFault>
-    ensures reads { Reads see (λ f. f) result (stream tokens.new) (weight_of (setting_view setting.now) mark (stream tokens.old)) }
-    ensures shrinks { IfOk result (λ _. size (stream tokens.new) ≤ size (stream tokens.old)) }
-{
-    expect(tokens, mark)?;
-    sum(alloc, setting, tokens)
-}
 
 impl Item for Form {
     ghost use Rattle.st_form.specs.Formula.{Formula};

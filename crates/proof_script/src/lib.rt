@@ -6,15 +6,18 @@
 mod claims;
 mod fault;
 mod items;
+pub mod laws;
 mod lists;
 mod marks;
 mod naming;
 mod nets;
+mod parts;
 mod reading;
 mod rules;
 mod setting;
 mod steps;
 mod units;
+mod waits;
 
 pub use fault::{ScriptFault, ScriptKind};
 pub use reading::read_script;

@@ -43,6 +43,7 @@ fn note(earlier: &mut IndexMap<String, bool>, step: &Step) -> Result<(), Memory>
 }
 
 /// All steps up to the text's end.
+#[tactic(auto, unfolding(crate::specs::Script::steps_of))]
 fn steps(
     alloc: Global,
     setting: &Setting<'_>,

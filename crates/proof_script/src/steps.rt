@@ -9,11 +9,12 @@ ghost use Rattle.proof_script.specs.Faults.{see};
 ghost use Rattle.proof_script.specs.Listing.{setting_view};
 ghost use Rattle.proof_script.specs.Steps.{claim_in, claimed_of, step_of};
 
-use crate::claims::{invariance, response, waiting};
+use crate::claims::{invariance, response};
 use crate::fault::ScriptFault;
 use crate::marks::expect;
 use crate::naming::{citations, new_name};
 use crate::setting::Setting;
+use crate::waits::waiting;
 use indexmap::IndexMap;
 use st_reading::{Mark, Sign, is};
 use st_tokens::Tokens;

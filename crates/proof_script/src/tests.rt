@@ -54,41 +54,13 @@ fn system(alloc: Global) -> Result<Fts, Memory> {
 
 /// Texts that are refused, with the kind of the fault and its place.
 const REFUSED: [(&[u8], ScriptKind, u64); 46] = [
-    (
-        b"x",
-        ScriptKind::Syntax,
-        0,
-    ),
-    (
-        b"invariant",
-        ScriptKind::Syntax,
-        9,
-    ),
-    (
-        b"invariant : b;",
-        ScriptKind::Syntax,
-        10,
-    ),
-    (
-        b"invariant a b;",
-        ScriptKind::Syntax,
-        12,
-    ),
-    (
-        b"invariant a: b",
-        ScriptKind::Syntax,
-        14,
-    ),
-    (
-        b"invariant a: b by ;",
-        ScriptKind::Syntax,
-        18,
-    ),
-    (
-        b"invariant a: y /\\ ;",
-        ScriptKind::Syntax,
-        18,
-    ),
+    (b"x", ScriptKind::Syntax, 0),
+    (b"invariant", ScriptKind::Syntax, 9),
+    (b"invariant : b;", ScriptKind::Syntax, 10),
+    (b"invariant a b;", ScriptKind::Syntax, 12),
+    (b"invariant a: b", ScriptKind::Syntax, 14),
+    (b"invariant a: b by ;", ScriptKind::Syntax, 18),
+    (b"invariant a: y /\\ ;", ScriptKind::Syntax, 18),
     (
         b"invariant a: b; invariant d: b using a, ;",
         ScriptKind::Syntax,
@@ -99,11 +71,7 @@ const REFUSED: [(&[u8], ScriptKind, u64); 46] = [
         ScriptKind::Syntax,
         34,
     ),
-    (
-        b"waiting w: b ==> b by b;",
-        ScriptKind::Syntax,
-        19,
-    ),
+    (b"waiting w: b ==> b by b;", ScriptKind::Syntax, 19),
     (
         b"waiting w: b ==> b wait b by diagram chain { };",
         ScriptKind::Syntax,
@@ -149,46 +117,18 @@ const REFUSED: [(&[u8], ScriptKind, u64); 46] = [
         ScriptKind::Syntax,
         63,
     ),
-    (
-        b"invariant a: b; ?",
-        ScriptKind::BadByte,
-        16,
-    ),
-    (
-        b"invariant a: b /\\ ?",
-        ScriptKind::BadByte,
-        18,
-    ),
-    (
-        b"invariant 1073741825",
-        ScriptKind::LongNumber,
-        10,
-    ),
-    (
-        b"invariant a: x > 1073741825;",
-        ScriptKind::LongNumber,
-        17,
-    ),
-    (
-        b"invariant a: y > 0; ?",
-        ScriptKind::Unknown,
-        13,
-    ),
-    (
-        b"invariant a: x;",
-        ScriptKind::WrongType,
-        13,
-    ),
+    (b"invariant a: b; ?", ScriptKind::BadByte, 16),
+    (b"invariant a: b /\\ ?", ScriptKind::BadByte, 18),
+    (b"invariant 1073741825", ScriptKind::LongNumber, 10),
+    (b"invariant a: x > 1073741825;", ScriptKind::LongNumber, 17),
+    (b"invariant a: y > 0; ?", ScriptKind::Unknown, 13),
+    (b"invariant a: x;", ScriptKind::WrongType, 13),
     (
         b"response r: b leads b within b by just b helper l1;",
         ScriptKind::WrongType,
         29,
     ),
-    (
-        b"invariant a: x * x > 0;",
-        ScriptKind::NonLinear,
-        15,
-    ),
+    (b"invariant a: x * x > 0;", ScriptKind::NonLinear, 15),
     (
         b"invariant a: x + 1073741824 + 1 > 0;",
         ScriptKind::TooLarge,
@@ -199,11 +139,7 @@ const REFUSED: [(&[u8], ScriptKind, u64); 46] = [
         ScriptKind::Limit(LimitKind::Nesting),
         45,
     ),
-    (
-        b"invariant a: b; invariant a: b;",
-        ScriptKind::Twice,
-        26,
-    ),
+    (b"invariant a: b; invariant a: b;", ScriptKind::Twice, 26),
     (
         b"response r: b leads b within 1 by diagram chain { node 0: b helper l1; };",
         ScriptKind::Twice,
@@ -214,11 +150,7 @@ const REFUSED: [(&[u8], ScriptKind, u64); 46] = [
         ScriptKind::UnknownLemma,
         21,
     ),
-    (
-        b"invariant a: b using a;",
-        ScriptKind::UnknownLemma,
-        21,
-    ),
+    (b"invariant a: b using a;", ScriptKind::UnknownLemma, 21),
     (
         b"waiting w: b ==> b wait b by b, b; invariant d: b using w;",
         ScriptKind::NotInvariant,
@@ -319,11 +251,14 @@ fn repeated(alloc: Global, begin: &str, piece: &str, end: &str) -> Result<(Strin
 }
 
 const LEVELS: (&str, &str) = ("waiting w: b ==> b wait b by ", "b, ");
+
 const FORMULAS: (&str, &str) = ("waiting w: b ==> ", "b wait ");
+
 const CHAIN: (&str, &str) = (
     "response r: b leads b within 1 by chain [ ",
     "b helper l1; ",
 );
+
 const NET: (&str, &str) = (
     "response r: b leads b within 1 by net [ ",
     "b base 0 delay 0 top 0 helper l1; ",
@@ -336,7 +271,12 @@ const PAST: [((&str, &str), &str, ScriptKind, u64); 8] = [
     (LEVELS, "b /\\ ;", ScriptKind::Syntax, 5),
     (LEVELS, "b /\\ ?", ScriptKind::BadByte, 5),
     (FORMULAS, "b by b;", ScriptKind::Limit(LimitKind::Nodes), 0),
-    (CHAIN, "b helper l1 ];", ScriptKind::Limit(LimitKind::Nodes), 0),
+    (
+        CHAIN,
+        "b helper l1 ];",
+        ScriptKind::Limit(LimitKind::Nodes),
+        0,
+    ),
     (CHAIN, "z ~", ScriptKind::Limit(LimitKind::Nodes), 0),
     (NET, "b base 0", ScriptKind::Limit(LimitKind::Nodes), 0),
 ];
@@ -347,7 +287,10 @@ fn no_more_than_64_are_listed(rt: HostRuntime) -> Result<(), Fail> {
         let (text, place) = repeated(rt.alloc(), *begin, *piece, *end)?;
         match read(rt.alloc(), text.as_bytes())? {
             Ok(_) => assert!(rt; false),
-            Err(found) => assert_eq!(rt; found, ScriptFault::At(*kind, place.saturating_add(*further))),
+            Err(found) => assert_eq!(rt;
+                found,
+                ScriptFault::At(*kind, place.saturating_add(*further))
+            ),
         }
     }
     Ok(())
@@ -357,7 +300,11 @@ fn no_more_than_64_are_listed(rt: HostRuntime) -> Result<(), Fail> {
 type Weights = (i128, i128, i128, Option<u32>, Option<u32>);
 
 fn weights(node: &Node) -> Weights {
-    let (base, delay, top) = (node.base.constant(), node.delay.constant(), node.top.constant());
+    let (base, delay, top) = (
+        node.base.constant(),
+        node.delay.constant(),
+        node.top.constant(),
+    );
     (base, delay, top, node.group, node.helper)
 }
 
@@ -428,9 +375,18 @@ const RULES: [(&[u8], u32); 7] = [
     (b"invariant a: b;", 0),
     (b"invariant a: b by b /\\ x > 0;", 1),
     (b"waiting a: b ==> b wait x > 0 wait b by b, x > 0, b;", 2),
-    (b"waiting a: b ==> b wait b by diagram wait { terminal: b; node 1: b; edge 1 -> 0 on l1; };", 3),
-    (b"response a: b leads b within 1 by diagram chain { terminal: b; node 1: b helper l1; };", 4),
-    (b"response a: b leads b within 1 by diagram rank { terminal: b; node 1: b rank x helper l1; };", 5),
+    (
+        b"waiting a: b ==> b wait b by diagram wait { terminal: b; node 1: b; edge 1 -> 0 on l1; };",
+        3,
+    ),
+    (
+        b"response a: b leads b within 1 by diagram chain { terminal: b; node 1: b helper l1; };",
+        4,
+    ),
+    (
+        b"response a: b leads b within 1 by diagram rank { terminal: b; node 1: b rank x helper l1; };",
+        5,
+    ),
 ];
 
 #[test]
@@ -444,7 +400,8 @@ fn rules_are_read(rt: HostRuntime) -> Result<(), Fail> {
 
 #[test]
 fn steps_are_cited_by_number(rt: HostRuntime) -> Result<(), Fail> {
-    let text = b"invariant a: b; waiting w: b ==> b wait b by b, b; invariant d: b by b using a; response r: b leads b within 1 by just b helper l1 using d, a, d;";
+    let text =
+        b"invariant a: b; waiting w: b ==> b wait b by b, b; invariant d: b by b using a; response r: b leads b within 1 by just b helper l1 using d, a, d;";
     let script = read(rt.alloc(), text)??;
     assert_eq!(rt; script.steps.len(), 4);
     assert_eq!(rt; script.steps[2].cited.as_slice(), [0].as_slice());

@@ -1,11 +1,13 @@
 //! The first place whose block isn't valid.
 
-ghost use Rattle.std.specs.Prelude.{◌≡◌, ℕ, ◌<◌, ◌+◌, ◌/◌, ◌^◌, IfOk, Some, None, length};
+ghost use Rattle.std.specs.Prelude.{◌≡◌, ℕ, ◌<◌, ◌+◌, ◌-◌, ◌/◌, ◌^◌, IfOk, IsTrue, Some, None, length};
 ghost use Rattle.farkas_check.specs.Problem.{Setting};
 ghost use Rattle.std.specs.Thread.{IsSync};
 ghost use Rattle.farkas_check.specs.PlainProblem.{setting};
 ghost use Rattle.discharge.specs.First.{AreCheckable, IsFirstFailing};
+ghost use Rattle.discharge.specs.Pieces.{EachPiece};
 
+use crate::gates::at_gate;
 use cert_text::Block;
 use control_states::Components;
 use farkas_check::check;
@@ -46,12 +48,14 @@ fn check_at_gate<G: Gate>(
     blocks: &[Block],
 ) -> Result<Option<usize>, Memory>
     requires checkable { AreCheckable conditions.now blocks.now }
-    ensures { IfOk result (λ o. IsFirstFailing (setting components.now variables.now) conditions.now blocks.now o) }
+    ensures first_failing { IfOk result (λ o. IsFirstFailing (setting components.now variables.now) conditions.now blocks.now o) }
+    ensures ended { IsTrue (G.ended gate.now place) }
 {
-    gate.begin(place);
-    let answer = check_piece(alloc, components, variables, conditions, blocks);
-    gate.end(place);
-    answer
+    at_gate(
+        gate,
+        place,
+        || check_piece(alloc, components, variables, conditions, blocks),
+    )
 }
 
 /// A place of the right half as one of the whole.
@@ -70,6 +74,7 @@ fn halves<'a>(
     requires { AreCheckable conditions.now blocks.now }
     ensures left { AreCheckable result.0.now result.1.now }
     ensures right { AreCheckable result.2.now result.3.now }
+    ensures sizes { (length result.0.now ≡ length conditions.now / 2) × (length result.2.now ≡ length conditions.now - length conditions.now / 2) }
     ensures by_left { (k : Setting) (i : ℕ) → IsFirstFailing k result.0.now result.1.now (Some i) → IsFirstFailing k conditions.now blocks.now (Some i) }
     ensures by_right { (k : Setting) (j : ℕ) → IsFirstFailing k result.0.now result.1.now None → IsFirstFailing k result.2.now result.3.now (Some j)
         → IsFirstFailing k conditions.now blocks.now (Some (length conditions.now / 2 + j)) × (length conditions.now / 2 + j < length conditions.now) }
@@ -98,7 +103,8 @@ fn check_range<R: Threads + Sync, G: Gate + Sync>(
 ) -> Result<Option<usize>, Memory>
     requires pieces { first + workers < 2 ^ 32 }
     requires checkable { AreCheckable conditions.now blocks.now }
-    ensures { IfOk result (λ o. IsFirstFailing (setting components.now variables.now) conditions.now blocks.now o) }
+    ensures first_failing { IfOk result (λ o. IsFirstFailing (setting components.now variables.now) conditions.now blocks.now o) }
+    ensures ended { EachPiece first workers (length conditions.now) (G.ended gate.now) }
 {
     if workers < 2 || conditions.len() < 2 {
         return check_at_gate(
@@ -153,13 +159,16 @@ fn check_both<R: Threads + Sync, G: Gate + Sync>(
     requires right { AreCheckable right.now right_blocks.now }
     ensures before { IfOk result.0 (λ o. IsFirstFailing (setting components.now variables.now) left.now left_blocks.now o) }
     ensures behind { IfOk result.1 (λ o. IsFirstFailing (setting components.now variables.now) right.now right_blocks.now o) }
+    ensures left_ended { EachPiece first half (length left.now) (G.ended gate.now) }
+    ensures right_ended { EachPiece (first + half) rest (length right.now) (G.ended gate.now) }
 {
     let up = first + half as usize;
     join(
         rt,
         || -> Result<Option<usize>, Memory>
             requires { IsSync R.row × IsSync G.row × (first + half < 2 ^ 32) × AreCheckable left.now left_blocks.now }
-            ensures { IfOk result (λ o. IsFirstFailing (setting components.entry.now variables.entry.now) left.entry.now left_blocks.entry.now o) }
+            ensures first_failing { IfOk result (λ o. IsFirstFailing (setting components.entry.now variables.entry.now) left.entry.now left_blocks.entry.now o) }
+            ensures ended { EachPiece first half (length left.entry.now) (G.ended gate.entry.now) }
         {
             check_range(
                 rt,
@@ -175,7 +184,8 @@ fn check_both<R: Threads + Sync, G: Gate + Sync>(
         },
         || -> Result<Option<usize>, Memory>
             requires { IsSync R.row × IsSync G.row × (up + rest < 2 ^ 32) × AreCheckable right.now right_blocks.now }
-            ensures { IfOk result (λ o. IsFirstFailing (setting components.entry.now variables.entry.now) right.entry.now right_blocks.entry.now o) }
+            ensures first_failing { IfOk result (λ o. IsFirstFailing (setting components.entry.now variables.entry.now) right.entry.now right_blocks.entry.now o) }
+            ensures ended { EachPiece up rest (length right.entry.now) (G.ended gate.entry.now) }
         {
             check_range(
                 rt,
@@ -206,7 +216,8 @@ pub fn check_all<R: Threads + Sync, G: Gate + Sync>(
 ) -> Result<Option<usize>, Memory>
     requires workers { 0 < workers }
     requires checkable { AreCheckable conditions.now blocks.now }
-    ensures { IfOk result (λ o. IsFirstFailing (setting components.now variables.now) conditions.now blocks.now o) }
+    ensures first_failing { IfOk result (λ o. IsFirstFailing (setting components.now variables.now) conditions.now blocks.now o) }
+    ensures ended { EachPiece 0 workers (length conditions.now) (G.ended gate.now) }
 {
     check_range(
         rt, alloc, gate, 0, workers, components, variables, conditions, blocks,

@@ -6,6 +6,8 @@
 #![tactic(auto)]
 
 mod checking;
+mod gates;
+pub mod laws;
 mod searching;
 
 pub use cert_text::Block;

@@ -1,6 +1,6 @@
 //! The same answers with 1, 2, 4 and 64 workers, and two pieces that run side by side.
 
-ghost use Rattle.std.specs.Prelude.{IfOk, ◌≡◌, ◌<◌};
+ghost use Rattle.std.specs.Prelude.{IfOk, IsTrue, true, ◌≡◌, ◌<◌};
 ghost use Rattle.st_form.specs.Plain.{plain};
 ghost use Rattle.farkas_check.specs.Limits.{IsNarrow};
 ghost use Rattle.search_laws.specs.Forms.{AllForms};
@@ -58,13 +58,22 @@ struct SideBySide {
 }
 
 impl Gate for SideBySide {
-    fn begin(&self, place: usize) {
+    ghost begun = { λ _ _. true };
+
+    ghost ended = { λ _ _. true };
+
+    fn begin(&self, place: usize)
+        ensures { IsTrue true }
+    {
         if place == 1 {
             self.begun.store(1, SeqCst);
         }
     }
 
-    fn end(&self, place: usize) {
+    fn end(&self, place: usize)
+        requires { IsTrue true }
+        ensures { IsTrue true }
+    {
         if place != 0 {
             return;
         }

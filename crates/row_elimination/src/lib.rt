@@ -4,6 +4,7 @@
 #![tactic(auto)]
 
 mod halt;
+mod merging;
 mod mixing;
 mod point;
 mod row;

@@ -1,50 +1,20 @@
-//! Sums of multiples of entries and of lines, within limits.
+//! Sums of multiples of lines, within limits, and what a line is multiplied by.
 
-ghost use Rattle.std.specs.Prelude.{◌≡◌, ◌+◌, ◌<◌, ◌≤◌, ◌≢◌, ◌^◌, ◌++◌, ◌∷◌, ◌/◌, false, [], IsTrue, IfOk, OnOk, IfErr, IfSome, unsigned_abs, Some, ◌+ℤ◌, ◌*ℤ◌, ℕ, ℤ, pos, length, map, neg_ℤ};
-ghost use Rattle.st_linear.specs.Linear.{joined, with_entry, scaled_entries};
+ghost use Rattle.std.specs.Prelude.{◌≡◌, ◌<◌, ◌≢◌, ◌^◌, ◌/◌, false, IsTrue, unsigned_abs, pos};
 ghost use Rattle.st_linear.specs.Answers.{Gives};
-ghost use Rattle.st_linear.specs.Linear.{is_within, are_within, number_within, entries_within, is_zero};
-ghost use Rattle.elimination_laws.specs.Mixing.{mixed_number, mixed_entries, mixed, part, shared, first_factor, second_factor, differ, against};
+ghost use Rattle.st_linear.specs.Linear.{is_within, are_within, is_zero};
+ghost use Rattle.elimination_laws.specs.Mixing.{mixed, part, shared, second_factor, differ, against};
 ghost use Rattle.elimination_laws.specs.Stages.{freed, paired};
-ghost use Rattle.std.specs.Int.{IsGcd};
 ghost use Rattle.row_elimination.specs.Plain.{tracked_row};
 
+use crate::merging::{mix_entries, mix_number};
 use crate::row::Row;
-use st_linear::{Entries, LinFault, gcd, join, product_within, scale_entries, sum_within};
+use st_linear::{LinFault, gcd};
 use std::alloc::Global;
 
 const ENTRY_LIMIT: u128 = 1 << 100;
 
 const PICK_LIMIT: u128 = 1 << 40;
-
-#[tactic(auto, unfolding(elimination_laws::specs::Mixing::mixed_entries))]
-fn mix_entries(
-    alloc: Global,
-    limit: u128,
-    x: &i128,
-    xs: &[(u32, i128)],
-    y: &i128,
-    ys: &[(u32, i128)],
-) -> Result<Entries, LinFault>
-    requires narrow { limit ≤ 2 ^ 100 }
-    requires positive { 0 < limit }
-    ensures { Gives (λ v. v.items) result (mixed_entries limit x.now xs.now y.now ys.now) }
-{
-    let first = scale_entries(alloc, limit, xs, x)?;
-    let second = scale_entries(alloc, limit, ys, y)?;
-    join(alloc, limit, first.as_slice(), second.as_slice())
-}
-
-#[tactic(auto, unfolding(elimination_laws::specs::Mixing::mixed_number))]
-fn mix_number(limit: u128, x: &i128, a: &i128, y: &i128, b: &i128) -> Result<i128, LinFault>
-    requires narrow { limit ≤ 2 ^ 100 }
-    requires positive { 0 < limit }
-    ensures { Gives (λ z. z) result (mixed_number limit x.now a.now y.now b.now) }
-{
-    let first = product_within(limit, a, x)?;
-    let second = product_within(limit, b, y)?;
-    sum_within(limit, &first, &second)
-}
 
 /// x times one line and y times another.
 #[tactic(auto, unfolding(elimination_laws::specs::Mixing::mixed))]

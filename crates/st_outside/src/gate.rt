@@ -31,12 +31,10 @@ impl Gate for OpenGate {
 
     fn begin(&self, _place: usize)
         ensures { IsTrue true }
-    {
-    }
+    {}
 
     fn end(&self, _place: usize)
         requires { IsTrue true }
         ensures { IsTrue true }
-    {
-    }
+    {}
 }

@@ -3,7 +3,8 @@ use mir.Syntax.{w128}
 use mir.Val.{of_z}
 use Rattle.st_linear.specs.Answers.{Gives}
 use Rattle.row_elimination.specs.Plain.{tracked_row}
-use Rattle.row_elimination.proofs.Withins.{to_z-within, to_z-narrow}
+use Rattle.st_linear.proofs.Withins.{to_z-within}
+use Rattle.row_elimination.proofs.Withins.{to_z-narrow}
 use Rattle.row_elimination.proofs.Factors.{freed-is, first-is, not-zero}
 use Rattle.row_elimination.proofs.mixing.freed.Goals as goal
 

@@ -1,7 +1,8 @@
 use Rattle.std.proofs.Common.{subst, sym, arith, ◌^◌}
 use Rattle.st_linear.specs.Answers.{Gives}
 use Rattle.row_elimination.specs.Plain.{tracked_row}
-use Rattle.row_elimination.proofs.Withins.{to_z-within, to_z-narrow}
+use Rattle.st_linear.proofs.Withins.{to_z-within}
+use Rattle.row_elimination.proofs.Withins.{to_z-narrow}
 use Rattle.row_elimination.proofs.Factors.{paired-is, first-is, second-is}
 use Rattle.row_elimination.proofs.mixing.paired.Goals as goal
 

@@ -1,4 +1,3 @@
-use Rattle.std.proofs.Common.{[], ◌∷◌}
 use Rattle.row_elimination.proofs.Listing.{within_joined, below_joined}
 use Rattle.row_elimination.proofs.wide_tests.rows.Goals as goal
 

@@ -68,6 +68,7 @@ goal_is (waiting p qs) e = absurd cc
 goal_is (response p q b) e = absurd cc
 
 marked : (steps : List PlainStep) (n : ℕ) → option_map (λ e. e.1) (slice_get (earlier_of steps) n) ≡ Some true → IsLemma steps n
+unfolding pair_or
 marked steps n h = at_step (slice_get steps n) refl (sym (ap (option_map (λ e. e.1)) (slice_get-map (λ s. (s.name, is_invariance s.goal)) steps n)) ∙ h)
   where
     at_step : (o : Option PlainStep) → slice_get steps n ≡ o → option_map (λ e. e.1) (option_map {U = List ℕ × Bool} (λ s. (s.name, is_invariance s.goal)) o) ≡ Some true → IsLemma steps n
@@ -88,8 +89,8 @@ module _ (steps : List PlainStep) where
       at_test : (b : Bool) → cond b (then_reads (cited_of (earlier_of steps)) (λ c. further marks.Comma (cited_of (earlier_of steps)) (c ∷ [])) (behind s)) (Ok ([], s)) ≡ Ok (ns, rest) → All (IsLemma steps) ns
       at_test true h =
           let a = both (cited_of (earlier_of steps) (behind s)) _ (ns, rest) h in
-          further_all marks.Comma (cited_of (earlier_of steps)) (IsLemma steps) cited_is (a.value.0 ∷ []) ns a.value.1 rest (All-push (IsLemma steps) [] a.value.0 All-nil (cited_is a.value.0 (behind s) a.value.1 a.first)) a.second
-      at_test false h = subst (All (IsLemma steps)) (given [] ns s rest h) All-nil
+          further_all marks.Comma (cited_of (earlier_of steps)) (IsLemma steps) cited_is (a.value.0 ∷ []) ns a.value.1 rest (All-push (IsLemma steps) [] a.value.0 (All-nil (IsLemma steps)) (cited_is a.value.0 (behind s) a.value.1 a.first)) a.second
+      at_test false h = subst (All (IsLemma steps)) (given [] ns s rest h) (All-nil (IsLemma steps))
 
 cite_push : (earlier steps : List PlainStep) (x : PlainStep) → CiteLemmas earlier steps → All (IsLemma (earlier ++ steps)) x.cited → CiteLemmas earlier (steps ++ x ∷ [])
 cite_push earlier [] x h k = (subst (λ es. All (IsLemma es) x.cited) (append-nil earlier) k, tt)

@@ -1,6 +1,7 @@
 -- The rule of each step fits its goal and the system.
-use Rattle.std.proofs.Common.{◌≡◌, ◌≢◌, ℕ, suc, ◌+◌, ◌-◌, ◌<◌, ◌≤◌, Bool, true, false, not, cond, nat_eq, All, List, [], ◌∷◌, ◌++◌, length, length-map, Option, Some, None, Ok, Err, refl, sym, ap, subst, ◌∙◌, arith}
+use Rattle.std.proofs.Common.{◌≡◌, ◌≢◌, ℕ, suc, ◌+◌, ◌-◌, ◌<◌, ◌≤◌, Bool, true, false, not, cond, nat_eq, All, List, [], ◌∷◌, ◌++◌, length, Option, Some, None, Ok, Err, refl, sym, ap, subst, ◌∙◌, arith}
 use Rattle.std.proofs.lemmas.Bool.Decides.{nat_tests}
+use Rattle.std.proofs.lemmas.List.{length-map}
 use Rattle.std.proofs.lemmas.List.Elements.{All-nil, All-push}
 use Rattle.st_tokens.specs.Stream.{Stream, behind}
 use Rattle.st_reading.specs.declared.mark.Mark.TheVariants as marks
@@ -231,4 +232,4 @@ module _ (g : Setting) where
 pub script_fits : (names : Names) (system : System) (text : List ℕ) (steps : List PlainStep) → script_spelled names system text ≡ Ok steps → All (λ s. RuleFits system s.goal s.rule) steps
 script_fits names system text steps h =
     script_keeps names system (All (λ s. RuleFits system s.goal s.rule))
-    (λ claim earlier x s rest r p. All-push (λ s. RuleFits system s.goal s.rule) earlier x p (step_fits (setting_for names system) claim earlier x s rest r)) All-nil text steps h
+    (λ claim earlier x s rest r p. All-push (λ s. RuleFits system s.goal s.rule) earlier x p (step_fits (setting_for names system) claim earlier x s rest r)) (All-nil (λ s. RuleFits system s.goal s.rule)) text steps h

@@ -19,10 +19,10 @@ use Rattle.proof_script.specs.Listing.{Setting, Reader, unless, present, optiona
 less : (m n : ℕ) → nat_lt m n ≡ true → m < n
 less m n h = grind (arith, nat_tests)
 
-module _ {A : Type 0} where
-  pub given : (x y : A) (s rest : Stream) → gives {X = ScriptFault} x s ≡ Ok (y, rest) → x ≡ y
-  given x y s rest h = let e : (x, s) ≡ (y, rest) = cc in ap (λ (p : A × Stream). p.0) e
+pub given : {A : Type 0} (x y : A) (s rest : Stream) → gives {X = ScriptFault} x s ≡ Ok (y, rest) → x ≡ y
+given {A} x y s rest h = let e : (x, s) ≡ (y, rest) = cc in ap (λ (p : A × Stream). p.0) e
 
+module _ {A : Type 0} where
   pub allowed : (broken : Bool) (kind : ScriptKind) (place : ℕ) (x y : A) (s rest : Stream) → unless broken kind place x s ≡ Ok (y, rest) → (broken ≡ false) × (x ≡ y)
   allowed true kind place x y s rest h = absurd cc
   allowed false kind place x y s rest h = (refl, given x y s rest h)
@@ -121,7 +121,7 @@ module _ {A : Type 0} (mark : Mark) (r : ℕ → Reader A) (P : A → Type 0) (e
   pub listed_fits : (ys : List A) (s rest : Stream) → listed mark r s ≡ Ok (ys, rest) → Fitting ys
   listed_fits ys s rest h =
       let a = both (r 0 s) _ (ys, rest) h in
-      further_fits (a.value.0 ∷ []) ys a.value.1 rest (omega arith, All-push P [] a.value.0 All-nil (each 0 a.value.0 s a.value.1 a.first).1) a.second
+      further_fits (a.value.0 ∷ []) ys a.value.1 rest (omega arith, All-push P [] a.value.0 (All-nil P) (each 0 a.value.0 s a.value.1 a.first).1) a.second
 
 module _ {A : Type 0} (r : ℕ → Reader A) (P : A → Type 0) (each : (before : ℕ) (x : A) (s rest : Stream) → r before s ≡ Ok (x, rest) → (before < 64) × P x) where
   pub bracketed_fits : (ys : List A) (s rest : Stream) → bracketed r s ≡ Ok (ys, rest) → (length ys ≤ 64) × All P ys

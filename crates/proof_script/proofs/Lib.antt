@@ -8,3 +8,5 @@ pub mod Citing
 pub mod Fitting
 pub mod Speech
 pub mod Sizes
+pub mod Lookups
+pub mod Making

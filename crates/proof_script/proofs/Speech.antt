@@ -58,19 +58,19 @@ module _ (vs : List Variable) (locations : ℕ) where
   Fair x = FormulaOver vs locations x.0
 
   chain_over : (items : List (Formula × ℕ)) → length items ≤ 64 → All Helped items → All (NetNodeOver vs locations) (chain_nodes items)
-  chain_over [] few h = All-nil
+  chain_over [] few h = All-nil (NetNodeOver vs locations)
   chain_over (x ∷ xs) few h =
       let k : length xs ≤ 64 = omega (arith, few) in
       All-cons (NetNodeOver vs locations) _ (chain_nodes xs) (record { form = All-head Helped x xs h; base = small (length xs) k; delay = small 0 (omega arith); top = small (length xs) k }) (chain_over xs k (All-tail Helped x xs h))
 
   ranked_over : (items : List (Formula × Linear × ℕ)) → All Ranked items → All (NetNodeOver vs locations) (ranked_nodes items)
-  ranked_over [] h = All-nil
+  ranked_over [] h = All-nil (NetNodeOver vs locations)
   ranked_over (x ∷ xs) h =
       let one = All-head Ranked x xs h in
       All-cons (NetNodeOver vs locations) _ (ranked_nodes xs) (record { form = one.0; base = one.1; delay = small 0 (omega arith); top = one.1 }) (ranked_over xs (All-tail Ranked x xs h))
 
   fair_over : (top group : ℕ) (items : List (Formula × Option ℕ)) → top ≤ 64 → length items ≤ 64 → All Fair items → All (NetNodeOver vs locations) (fair_under top group items)
-  fair_over top group [] low few h = All-nil
+  fair_over top group [] low few h = All-nil (NetNodeOver vs locations)
   fair_over top group (x ∷ xs) low few h =
       let k : length xs ≤ 64 = omega (arith, few) in
       All-cons (NetNodeOver vs locations) _ (fair_under top group xs) (record { form = All-head Fair x xs h; base = small 0 (omega arith); delay = small (length xs) k; top = small top low })
@@ -131,7 +131,7 @@ module _ (vs : List Variable) (locations : ℕ) where
         let i = both (group_of g d.value.1) _ (n, rest) d.second in
         let j = both (helper_of g i.value.1) _ (n, rest) i.second in
         let made : PlainNode = record { form = a.value.0; base = b.value.0; delay = c.value.0; top = d.value.0; group = i.value.0; helper = j.value.0 } in
-        let k = completed_fits (place_of s) made n j.value.1 rest j.second in
+        let k = completed_fits g (place_of s) made n j.value.1 rest j.second in
         let f = listed_over before a.value.0 s a.value.1 a.first in
         let read : NetNodeOver vs locations made = record { form = f.1; base = weight_over marks.Base a.value.1 b.value.0 b.value.1 b.first; delay = weight_over marks.Delay b.value.1 c.value.0 c.value.1 c.first; top = weight_over marks.Top c.value.1 d.value.0 d.value.1 d.first } in
         (f.0, subst (NetNodeOver vs locations) k.1 read)
@@ -143,7 +143,7 @@ module _ (vs : List Variable) (locations : ℕ) where
     unfolding just_nodes_of
     just_nodes_over ns s rest h =
         let a = both (helped_of g 0 s) _ (ns, rest) h in
-        subst Nodes (given (chain_nodes (a.value.0 ∷ [])) ns a.value.1 rest a.second) (chain_over (a.value.0 ∷ []) (omega arith) (All-cons Helped a.value.0 [] (helped_over 0 a.value.0 s a.value.1 a.first).1 All-nil))
+        subst Nodes (given (chain_nodes (a.value.0 ∷ [])) ns a.value.1 rest a.second) (chain_over (a.value.0 ∷ []) (omega arith) (All-cons Helped a.value.0 [] (helped_over 0 a.value.0 s a.value.1 a.first).1 (All-nil Helped)))
 
     chain_nodes_over : (ns : List PlainNode) (s rest : Stream) → chain_nodes_of g s ≡ Ok (ns, rest) → Nodes ns
     unfolding chain_nodes_of
@@ -224,7 +224,7 @@ module _ (vs : List Variable) (locations : ℕ) where
         let two : List Formula = b.value.0 ∷ c.value.0 ∷ [] in
         let d = both (further_counted marks.Wait (listed_formula_of g) two c.value.1) _ (w, rest) c.second in
         let made : Formula × List Formula = (a.value.0, d.value.0) in
-        let both_over = All-cons (FormulaOver vs locations) b.value.0 (c.value.0 ∷ []) (listed_over 0 b.value.0 b1.0 b.value.1 b1.1).1 (All-cons (FormulaOver vs locations) c.value.0 [] (listed_over 1 c.value.0 c1.0 c.value.1 c1.1).1 All-nil) in
+        let both_over = All-cons (FormulaOver vs locations) b.value.0 (c.value.0 ∷ []) (listed_over 0 b.value.0 b1.0 b.value.1 b1.1).1 (All-cons (FormulaOver vs locations) c.value.0 [] (listed_over 1 c.value.0 c1.0 c.value.1 c1.1).1 (All-nil (FormulaOver vs locations))) in
         let all = further_fits marks.Wait (listed_formula_of g) (FormulaOver vs locations) listed_over two d.value.0 c.value.1 d.value.1 (omega arith, both_over) d.first in
         subst (λ (v : Formula × List Formula). GoalOver vs locations (waiting v.0 v.1)) (given made w d.value.1 rest d.second) (formula_over s a.value.0 a.value.1 a.first, all.1)
 
@@ -294,4 +294,4 @@ pub script_over : (vs : List Variable) (locations : ℕ) (names : Names) (system
     → (text : List ℕ) (steps : List PlainStep) → script_spelled names system text ≡ Ok steps → All (StepOver vs locations) steps
 script_over vs locations names system over text steps h =
     script_keeps names system (All (StepOver vs locations))
-    (λ claim earlier x s rest r p. All-push (StepOver vs locations) earlier x p (step_over vs locations (setting_for names system) over claim earlier x s rest r)) All-nil text steps h
+    (λ claim earlier x s rest r p. All-push (StepOver vs locations) earlier x p (step_over vs locations (setting_for names system) over claim earlier x s rest r)) (All-nil (StepOver vs locations)) text steps h

@@ -1,6 +1,8 @@
 -- The loop over the steps of a script: what a step is read to, and what the names of the earlier ones are then.
 use Rattle.std.proofs.Common.{◌≡◌, ℕ, suc, ◌+◌, ◌≤◌, Bool, true, false, not, All, List, [], ◌∷◌, ◌++◌, length, map, Option, Some, None, Ok, refl, sym, ap, subst, ◌∙◌, arith}
-use Rattle.std.proofs.lemmas.List.{map-append}
+use Rattle.std.specs.String.{string_bytes}
+use Rattle.std.specs.declared.string.String.{String}
+use Rattle.std.proofs.lemmas.List.{length-map, length-append}
 use Rattle.std.proofs.lemmas.List.Elements.{All-nil, All-push}
 use Rattle.st_tokens.specs.Stream.{Stream, ends, breaks, more, behind}
 use Rattle.st_tokens.specs.declared.limit.LimitKind.TheVariants as limits
@@ -9,6 +11,7 @@ use Rattle.st_reading.specs.Reading.{Stop, Read, IsStop, ahead, place_of, expect
 use Rattle.st_reading.proofs.Chains.{Running, running_next, running_ends, running_fails}
 use Rattle.st_reading.proofs.Loops.{mapped, map_fails}
 use Rattle.st_form.specs.Formula.{Formula}
+use Rattle.st_program.specs.Names.{as_bytes}
 use Rattle.spl_typer.specs.Programs.{is_text}
 use Rattle.temporal_goals.specs.Texts.{PlainStep}
 use Rattle.diagram_reader.proofs.Inverses.{both}
@@ -39,6 +42,18 @@ pub earlier_push : (steps : List PlainStep) (x : PlainStep) → earlier_of (step
 earlier_push [] x = refl
 earlier_push (s ∷ steps) x = ap (λ l. earlier_of (s ∷ []) ++ l) (earlier_push steps x)
 
+-- what is known behind one step more, and how many steps may still come
+module _ {Z : Type 0} (es new : List (String Z × Bool)) (x : PlainStep) (noted : as_bytes new ≡ as_bytes es ++ earlier_of (x ∷ [])) where
+  pub known_next : (xs ys : List PlainStep) → as_bytes es ≡ earlier_of xs → ys ≡ xs ++ x ∷ [] → as_bytes new ≡ earlier_of ys
+  known_next xs ys known made = noted ∙ ap (λ l. l ++ earlier_of (x ∷ [])) known ∙ sym (earlier_push xs x) ∙ ap earlier_of (sym made)
+
+  pub fewer_left : (s next after : Stream) (n : ℕ) → length es + size s ≤ n → suc (size next) ≡ size s → size after ≤ size next → length new + size after ≤ n
+  fewer_left s next after n few one le =
+      let longer = length-map new (λ e. (string_bytes e.0, e.1)) in
+      let before = length-map es (λ e. (string_bytes e.0, e.1)) in
+      let more = ap length noted ∙ length-append (as_bytes es) (earlier_of (x ∷ [])) in
+      omega (arith, few, one, le, longer, before, more)
+
 module _ (g : Setting) where
   -- a step has a name that no earlier one has
   pub step_new : (claim : Claim) (earlier : Earlier) (x : PlainStep) (s rest : Stream) → step_of g claim earlier s ≡ Ok (x, rest) → is_taken earlier x.name ≡ false
@@ -62,7 +77,7 @@ module _ (g : Setting) where
       let d = both (further_counted marks.Wait (listed_formula_of g) two c.value.1) _ (w, rest) c.second in
       let made : Formula × List Formula = (a.value.0, d.value.0) in
       let few = (further_fits marks.Wait (listed_formula_of g) (λ f. Unit {0}) (λ n f m r k. (listed_few g n m f r k, tt)) two d.value.0 c.value.1 d.value.1
-      (omega arith, All-push (λ f. Unit {0}) (b.value.0 ∷ []) c.value.0 (All-push (λ f. Unit {0}) [] b.value.0 All-nil tt) tt) d.first).0 in
+      (omega arith, All-push (λ f. Unit {0}) (b.value.0 ∷ []) c.value.0 (All-push (λ f. Unit {0}) [] b.value.0 (All-nil (λ f. Unit {0})) tt) tt) d.first).0 in
       subst (λ (v : Formula × List Formula). length v.1 ≤ 64) (given made w d.value.1 rest d.second) few
 
   -- so far these steps were read, and that is left

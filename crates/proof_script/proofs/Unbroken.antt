@@ -1,6 +1,8 @@
 -- The nodes that a rule of response is read to break no rule of a net: helpers are just, groups are compassionate, and each
 -- node has one of them.
-use Rattle.std.proofs.Common.{◌≡◌, ℕ, ◌+◌, ◌-◌, ◌<◌, ◌≤◌, ◌^◌, Bool, true, false, cond, ◌&&◌, All, List, [], ◌∷◌, length, map, Option, Some, None, is_none, Ok, Err, refl, sym, ap, subst, ◌∙◌, arith}
+use Rattle.std.proofs.Common.{◌≡◌, ℕ, ◌+◌, ◌-◌, ◌<◌, ◌≤◌, ◌^◌, Bool, true, false, cond, ◌&&◌, All, List, [], ◌∷◌, length, map, Option, Some, None, is_none, Result, Ok, Err, refl, sym, ap, subst, ◌∙◌, arith}
+use Rattle.std.specs.Result.{ForErr}
+use Rattle.std.proofs.lemmas.Option.{none-some}
 use Rattle.std.proofs.lemmas.List.Elements.{All-nil, All-cons, All-head, All-tail}
 use Rattle.st_tokens.specs.Stream.{Stream}
 use Rattle.st_reading.specs.declared.mark.Mark.TheVariants as marks
@@ -9,8 +11,12 @@ use Rattle.st_linear.specs.Linear.{Linear}
 use Rattle.st_form.specs.Formula.{Formula}
 use Rattle.transition_system.specs.Systems.{System}
 use Rattle.temporal_goals.specs.Texts.{PlainNode}
-use Rattle.ranked_net.specs.Making.{is_unfair, is_uncompassionate, node_fault, first_fault}
-use Rattle.response_rules.specs.Forms.{chain_nodes, ranked_nodes, fair_nodes, fair_under}
+use Rattle.temporal_goals.specs.Plain.{plain_net}
+use Rattle.temporal_goals.specs.declared.nets.Net.{Net}
+use Rattle.ranked_net.specs.declared.faults.NetFault.{NetFault}
+use Rattle.ranked_net.specs.declared.faults.NetFault.TheVariants as faults
+use Rattle.ranked_net.specs.Making.{is_unfair, is_uncompassionate, node_fault, first_fault, MakesNet}
+use Rattle.response_rules.specs.Forms.{chain_nodes, ranked_nodes, fair_nodes, fair_under, Refuses, GivesNet}
 use Rattle.diagram_reader.proofs.Inverses.{both}
 use Rattle.proof_script.specs.declared.fault.ScriptKind.TheVariants as kinds
 use Rattle.proof_script.specs.Listing.{Setting, unless, bracketed, transition_of, just_of, compassionate_of, listed_formula_of}
@@ -44,15 +50,15 @@ module _ (system : System) where
   MayHelp x = is_unfair system x.1 ≡ false
 
   chain_unbroken : (items : List (Formula × ℕ)) → All Helps items → All (Unbroken system) (chain_nodes items)
-  chain_unbroken [] h = All-nil
+  chain_unbroken [] h = All-nil (Unbroken system)
   chain_unbroken (x ∷ xs) h = All-cons (Unbroken system) _ (chain_nodes xs) (All-head Helps x xs h, refl, refl) (chain_unbroken xs (All-tail Helps x xs h))
 
   ranked_unbroken : (items : List (Formula × Linear × ℕ)) → All HelpsRanked items → All (Unbroken system) (ranked_nodes items)
-  ranked_unbroken [] h = All-nil
+  ranked_unbroken [] h = All-nil (Unbroken system)
   ranked_unbroken (x ∷ xs) h = All-cons (Unbroken system) _ (ranked_nodes xs) (All-head HelpsRanked x xs h, refl, refl) (ranked_unbroken xs (All-tail HelpsRanked x xs h))
 
   fair_unbroken : (top group : ℕ) (items : List (Formula × Option ℕ)) → is_uncompassionate system (Some group) ≡ false → All MayHelp items → All (Unbroken system) (fair_under top group items)
-  fair_unbroken top group [] c h = All-nil
+  fair_unbroken top group [] c h = All-nil (Unbroken system)
   fair_unbroken top group (x ∷ xs) c h = All-cons (Unbroken system) _ (fair_under top group xs) (All-head MayHelp x xs h, c, refl) (fair_unbroken top group xs c (All-tail MayHelp x xs h))
 
 module _ (g : Setting) where
@@ -130,7 +136,7 @@ module _ (g : Setting) where
 
   -- what the nets of the rules are made from
   pub helped_sound : (before : ℕ) (x : Formula × ℕ) (s rest : Stream) → helped_of g before s ≡ Ok (x, rest) → first_fault g.system 0 (chain_nodes (x ∷ [])) ≡ None
-  helped_sound before x s rest h = no_fault g.system 0 (chain_nodes (x ∷ [])) (chain_unbroken g.system (x ∷ []) (All-cons (Helps g.system) x [] (helped_fits before x s rest h).1 All-nil))
+  helped_sound before x s rest h = no_fault g.system 0 (chain_nodes (x ∷ [])) (chain_unbroken g.system (x ∷ []) (All-cons (Helps g.system) x [] (helped_fits before x s rest h).1 (All-nil (Helps g.system))))
 
   pub chain_sound : (items : List (Formula × ℕ)) (s rest : Stream) → bracketed (helped_of g) s ≡ Ok (items, rest) → (length items ≤ 64) × (first_fault g.system 0 (chain_nodes items) ≡ None)
   chain_sound items s rest h = let f = bracketed_fits (helped_of g) (Helps g.system) helped_fits items s rest h in (f.0, no_fault g.system 0 (chain_nodes items) (chain_unbroken g.system items f.1))
@@ -146,3 +152,26 @@ module _ (g : Setting) where
 
   pub written_sound : (ns : List PlainNode) (s rest : Stream) → bracketed (node_of g) s ≡ Ok (ns, rest) → (length ns ≤ 64) × (first_fault g.system 0 ns ≡ None)
   written_sound ns s rest h = let f = bracketed_fits (node_of g) (Unbroken g.system) node_fits ns s rest h in (f.0, no_fault g.system 0 ns f.1)
+
+-- making a net of nodes that break no rule fails for want of memory alone
+module _ (system : System) (ns : List PlainNode) where
+  refused_never : first_fault system 0 ns ≡ None → (fault : NetFault) → Refuses fault (first_fault system 0 ns) → fault ≡ faults.Memory
+  refused_never sound faults.Memory h = refl
+  refused_never sound (faults.UnfairHelper i) h = absurd (none-some (faults.UnfairHelper i) (sym sound ∙ h))
+  refused_never sound (faults.NotCompassionate i) h = absurd (none-some (faults.NotCompassionate i) (sym sound ∙ h))
+  refused_never sound (faults.NoHelper i) h = absurd (none-some (faults.NoHelper i) (sym sound ∙ h))
+
+  pub only_memory : first_fault system 0 ns ≡ None → (r : Result Net NetFault) → GivesNet r system ns → ForErr r (λ fault. fault ≡ faults.Memory)
+  only_memory sound (Ok n) h e is = absurd cc
+  only_memory sound (Err f) h e is = let same : f ≡ e = cc in sym same ∙ refused_never sound f h
+
+  pub never_fails : first_fault system 0 ns ≡ None → (r : Result Net NetFault) → MakesNet r system ns → ForErr r (λ fault. fault ≡ faults.Memory)
+  never_fails sound (Ok n) h e is = absurd cc
+  never_fails sound (Err f) h e is = absurd (none-some f (sym sound ∙ h))
+
+  -- and the net has these nodes
+  pub net_given : (r : Result Net NetFault) (n : Net) → GivesNet r system ns → r ≡ Ok n → plain_net n ≡ ns
+  net_given r n h is = (subst (λ q. GivesNet q system ns) is h).1
+
+  pub net_made : (r : Result Net NetFault) (n : Net) → MakesNet r system ns → r ≡ Ok n → plain_net n ≡ ns
+  net_made r n h is = (subst (λ q. MakesNet q system ns) is h).1

@@ -1,6 +1,7 @@
 //! The nets of the rules of response. What is read for them breaks no rule of a net, so making one wants nothing but memory.
 
-ghost use Rattle.std.specs.Prelude.{◌≡◌, ◌≤◌, IfOk, ForErr};
+ghost use Rattle.std.specs.Prelude.{◌≡◌, ◌≤◌, IfOk};
+ghost use Rattle.std.specs.Result.{ForErr};
 ghost use Rattle.st_tokens.specs.Stream.{stream};
 ghost use Rattle.st_reading.specs.Reading.{Reads, size};
 ghost use Rattle.temporal_goals.specs.Plain.{plain_net};

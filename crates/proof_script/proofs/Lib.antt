@@ -9,4 +9,3 @@ pub mod Fitting
 pub mod Speech
 pub mod Sizes
 pub mod Lookups
-pub mod Making

@@ -42,15 +42,15 @@ module _ {Z : Type 0} (es : List (String Z × Bool)) (name : List ℕ) where
 
     -- a name that it has, by its place
     module _ (n : ℕ) (is : Some n ≡ position (λ k. bytes_eq text (string_bytes k)) (keys_of es)) where
-      as_entry : (o : Option (String Z × Bool)) → option_map (λ e. (n, e.1)) o ≡ option_map (λ v. (n, v.1)) (option_map (λ x. (string_bytes x.0, x.1)) o)
+      as_entry : (o : Option (String Z × Bool)) → option_map {U = ℕ × Bool} (λ e. (n, e.1)) o ≡ option_map {U = ℕ × Bool} (λ v. (n, v.1)) (option_map {U = List ℕ × Bool} (λ x. (string_bytes x.0, x.1)) o)
       as_entry None = refl
       as_entry (Some e) = refl
 
-      pub found : (o : Option (String Z × Bool)) → o ≡ slice_get es n → option_map (λ e. (n, e.1)) o ≡ step_named (as_bytes es) name
+      pub found : (o : Option (String Z × Bool)) → o ≡ slice_get es n → option_map {U = ℕ × Bool} (λ e. (n, e.1)) o ≡ step_named (as_bytes es) name
       found o here =
-          ap (option_map (λ e. (n, e.1))) here
+          ap (option_map {U = ℕ × Bool} (λ e. (n, e.1))) here
           ∙ as_entry (slice_get es n)
-          ∙ ap (option_map (λ v. (n, v.1))) (sym (slice_get-map (λ x. (string_bytes x.0, x.1)) es n))
+          ∙ ap (option_map {U = ℕ × Bool} (λ v. (n, v.1))) (sym (slice_get-map (λ x. (string_bytes x.0, x.1)) es n))
           ∙ sym (number_at (Some n) is)
 
 -- a new step's name, and one that an earlier step has
@@ -74,12 +74,12 @@ module _ {Z : Type 0} where
   goes_last : (es : List (String Z × Bool)) (k : String Z) (v : Bool) → is_taken (as_bytes es) (string_bytes k) ≡ false
       → insert_entry (λ x y. bytes_eq (string_bytes x) (string_bytes y)) es k v ≡ es ++ (k, v) ∷ []
   goes_last [] k v h = refl
-  goes_last (e ∷ es) k v h = at_test (bytes_eq (string_bytes k) (string_bytes e.0)) h
+  goes_last (e ∷ es) k v h = at_test (λ none. goes_last es k v none) (bytes_eq (string_bytes k) (string_bytes e.0)) h
     where
-      at_test : (b : Bool) → is_some (if b then Some e.1 else named (string_bytes k) (as_bytes es)) ≡ false
+      at_test : (is_taken (as_bytes es) (string_bytes k) ≡ false → insert_entry (λ x y. bytes_eq (string_bytes x) (string_bytes y)) es k v ≡ es ++ (k, v) ∷ []) → (b : Bool) → is_some (if b then Some e.1 else named (string_bytes k) (as_bytes es)) ≡ false
           → (if b then (e.0, v) ∷ es else e ∷ insert_entry (λ x y. bytes_eq (string_bytes x) (string_bytes y)) es k v) ≡ e ∷ (es ++ (k, v) ∷ [])
-      at_test true h = absurd cc
-      at_test false h = ap (λ l. e ∷ l) (goes_last es k v h)
+      at_test among true h = absurd cc
+      at_test among false h = ap (λ l. e ∷ l) (among h)
 
   -- a new name goes last
   pub noted : (es new : List (String Z × Bool)) (k : String Z) (v : Bool) (name : List ℕ) → new ≡ insert_entry (λ x y. bytes_eq (string_bytes x) (string_bytes y)) es k v → string_bytes k ≡ name → is_taken (as_bytes es) name ≡ false

@@ -3,6 +3,7 @@
 use Rattle.std.proofs.Common.{◌≡◌, ℕ, ◌+◌, ◌-◌, ◌<◌, ◌≤◌, ◌^◌, Bool, true, false, cond, ◌&&◌, All, List, [], ◌∷◌, length, map, Option, Some, None, is_none, Result, Ok, Err, refl, sym, ap, subst, ◌∙◌, arith}
 use Rattle.std.specs.Result.{ForErr}
 use Rattle.std.proofs.lemmas.Option.{none-some}
+use Rattle.std.proofs.lemmas.List.{length-map}
 use Rattle.std.proofs.lemmas.List.Elements.{All-nil, All-cons, All-head, All-tail}
 use Rattle.st_tokens.specs.Stream.{Stream}
 use Rattle.st_reading.specs.declared.mark.Mark.TheVariants as marks
@@ -11,7 +12,6 @@ use Rattle.st_linear.specs.Linear.{Linear}
 use Rattle.st_form.specs.Formula.{Formula}
 use Rattle.transition_system.specs.Systems.{System}
 use Rattle.temporal_goals.specs.Texts.{PlainNode}
-use Rattle.temporal_goals.specs.Plain.{plain_net}
 use Rattle.temporal_goals.specs.declared.nets.Net.{Net}
 use Rattle.ranked_net.specs.declared.faults.NetFault.{NetFault}
 use Rattle.ranked_net.specs.declared.faults.NetFault.TheVariants as faults
@@ -169,9 +169,6 @@ module _ (system : System) (ns : List PlainNode) where
   never_fails sound (Ok n) h e is = absurd cc
   never_fails sound (Err f) h e is = absurd (none-some f (sym sound ∙ h))
 
-  -- and the net has these nodes
-  pub net_given : (r : Result Net NetFault) (n : Net) → GivesNet r system ns → r ≡ Ok n → plain_net n ≡ ns
-  net_given r n h is = (subst (λ q. GivesNet q system ns) is h).1
-
-  pub net_made : (r : Result Net NetFault) (n : Net) → MakesNet r system ns → r ≡ Ok n → plain_net n ≡ ns
-  net_made r n h is = (subst (λ q. MakesNet q system ns) is h).1
+-- few items are read
+pub few_items : {A B : Type 0} (f : A → B) (xs : List A) → length (map f xs) ≤ 64 → length xs < 2 ^ 32
+few_items f xs few = let same = length-map xs f in omega (arith, few, same)

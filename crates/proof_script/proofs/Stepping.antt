@@ -49,8 +49,8 @@ module _ {Z : Type 0} (es new : List (String Z × Bool)) (x : PlainStep) (noted 
 
   pub fewer_left : (s next after : Stream) (n : ℕ) → length es + size s ≤ n → suc (size next) ≡ size s → size after ≤ size next → length new + size after ≤ n
   fewer_left s next after n few one le =
-      let longer = length-map new (λ e. (string_bytes e.0, e.1)) in
-      let before = length-map es (λ e. (string_bytes e.0, e.1)) in
+      let longer = length-map {B = List ℕ × Bool} new (λ e. (string_bytes e.0, e.1)) in
+      let before = length-map {B = List ℕ × Bool} es (λ e. (string_bytes e.0, e.1)) in
       let more = ap length noted ∙ length-append (as_bytes es) (earlier_of (x ∷ [])) in
       omega (arith, few, one, le, longer, before, more)
 

@@ -1,4 +1,3 @@
-use Rattle.std.specs.String.{string_bytes}
 use Rattle.proof_script.proofs.Lookups.{name_taken, name_free}
 use Rattle.proof_script.proofs.naming.new_name.Goals as goal
 

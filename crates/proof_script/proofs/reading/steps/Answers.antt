@@ -26,10 +26,12 @@ chain-preserved c =
     let x = plain_step c.in_ok-next.next in
     let begins = c.in-Some.ensures ∙ ap claim_in c.ahead.ensures in
     let made = ap (map plain_step) c.in_ok-push.ensures.items ∙ map-append plain_step c.chain.steps.items (c.in_ok-next.next ∷ []) in
-    let passed = ap (λ n. suc (size n)) c.advance.ensures ∙ claim_passed (stream c.chain.tokens) c.in-Some.claim begins in
-    (step_next (setting_view c.args.setting.now) xs (stream c.chain.tokens) (stream c.args.tokens.now) _ c.in-Some.claim (as_bytes c.chain.earlier.entries) x (stream c.advance.new.tokens) (stream c.step.new.tokens) _ c.chain.invariant.0 begins c.advance.ensures c.chain.invariant.1
-    c.in_ok-next.ensures.reads c.in_ok-next.ensures.shrinks made, known_next c.chain.earlier.entries c.note.new.earlier.entries x c.in_ok-note.ensures xs _ c.chain.invariant.1 made,
-    fewer_left c.chain.earlier.entries c.note.new.earlier.entries x c.in_ok-note.ensures (stream c.chain.tokens) (stream c.advance.new.tokens) (stream c.step.new.tokens) _ c.chain.invariant.2 passed c.in_ok-next.ensures.shrinks)
+    let passed = ap (λ n. suc (size n)) c.advance.ensures ∙ claim_passed (stream c.chain.tokens) c.in-Some.claim begins in (
+      step_next (setting_view c.args.setting.now) xs (stream c.chain.tokens) (stream c.args.tokens.now) _ c.in-Some.claim (as_bytes c.chain.earlier.entries) x (stream c.advance.new.tokens) (stream c.step.new.tokens) _ c.chain.invariant.0 begins c.advance.ensures c.chain.invariant.1
+          c.in_ok-next.ensures.reads c.in_ok-next.ensures.shrinks made,
+      known_next c.chain.earlier.entries c.note.new.earlier.entries x c.in_ok-note.ensures xs _ c.chain.invariant.1 made,
+      fewer_left c.chain.earlier.entries c.note.new.earlier.entries x c.in_ok-note.ensures (stream c.chain.tokens) (stream c.advance.new.tokens) (stream c.step.new.tokens) _ c.chain.invariant.2 passed c.in_ok-next.ensures.shrinks,
+    )
 
 pub returns-in_err-at_end : goal.returns-in_err-at_end
 returns-in_err-at_end c =

@@ -10,6 +10,3 @@ mod reading;
 pub use fault::FormFault;
 pub use names::text_of;
 pub use reading::{read_form, read_linear};
-
-#[cfg(test)]
-mod tests;

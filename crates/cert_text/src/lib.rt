@@ -16,6 +16,3 @@ mod write;
 pub use reader::{Block, CertReader, NextBlock};
 pub use st_certificate::Certificate;
 pub use write::{write_block, write_header};
-
-#[cfg(test)]
-mod tests;

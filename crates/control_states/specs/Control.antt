@@ -1,8 +1,7 @@
 -- Where control can be. A program's sequential components are its processes and the children of its cooperations, in
 -- text order. A process is always active; a child is active exactly where the component around it is inside the
 -- child's cooperation. A control state gives each active component one of its alternatives.
-use Rattle.std.specs.Prelude.{◌≡◌, ℕ, ◌<◌, Bool, IsTrue, ◌↔◌, ◌⊎◌, List, [], ◌∷◌, length, map, replicate, slice_get, slice_index_or, Option, Some, None}
-use Rattle.std.specs.List.{range_with_len}
+use Rattle.std.specs.Prelude.{◌≡◌, ℕ, ◌<◌, Bool, IsTrue, ◌↔◌, ◌⊎◌, List, [], ◌∷◌, length, slice_get, slice_index_or, Option, Some, None}
 use Rattle.control_states.specs.declared.alternative.Alternative.{Alternative}
 use Rattle.control_states.specs.declared.alternative.Alternative.TheVariants.{Location, Inside}
 
@@ -43,10 +42,3 @@ IsAt k m l = (c : ℕ) × (slice_get k.owners l ≡ Some c) × Active k.componen
 pub record InControl (k : ControlFacts) (m : ℕ → Alternative) (at : ℕ → Bool) : Type 0 where
   pub state : IsControlState k m
   pub located : (l : ℕ) → IsTrue (at l) ↔ IsAt k m l
-
--- one process with n locations
-abbrev pub single : ℕ → ControlFacts
-single n = record {
-  components = record { alternatives = map Location (range_with_len 0 n); around = None } ∷ [];
-  owners = replicate n 0;
-}

@@ -1,9 +1,7 @@
 //! The components of a program.
 
-ghost use Rattle.std.specs.Prelude.{◌≡◌, ◌<◌, ◌^◌, ℕ, length, map, IfOk, slice_index_or, slice_get, Some};
-ghost use Rattle.std.specs.List.{range_with_len};
-ghost use Rattle.control_states.specs.declared.alternative.Alternative.TheVariants.{Location};
-ghost use Rattle.control_states.specs.Control.{component_at, single};
+ghost use Rattle.std.specs.Prelude.{◌≡◌, ◌<◌, ◌^◌, ℕ, length, IfOk, slice_index_or, slice_get, Some};
+ghost use Rattle.control_states.specs.Control.{component_at};
 ghost use Rattle.control_states.specs.Place.{place, AreRight};
 
 use crate::alternative::Alternative;
@@ -40,15 +38,6 @@ impl Components {
         ensures { result ≡ record { components = parts.items; owners = owners.items } }
     {
         Components { parts, owners }
-    }
-
-    /// The facts of a program that is one process, whose alternatives are the locations from 0 on.
-    pub fn one(alloc: Global, locations: u32) -> Result<Components, Memory>
-        ensures { IfOk result (λ facts. facts ≡ single locations) }
-    {
-        let owners = vec![in alloc; 0; locations as usize]?;
-        let parts = vec![in alloc; Component::new(locations_below(alloc, locations)?, None)]?;
-        Ok(Components::new(parts, owners))
     }
 
     /// The number of components.
@@ -105,15 +94,4 @@ impl Components {
     {
         places_of(alloc, self.parts(), self.owners(), cases)
     }
-}
-
-/// The locations from 0 on, as alternatives.
-fn locations_below(alloc: Global, locations: u32) -> Result<Vec<Alternative>, Memory>
-    ensures { IfOk result (λ v. v.items ≡ map Location (range_with_len 0 locations)) }
-{
-    let mut alternatives = Vec::with_capacity(alloc, locations as usize)?;
-    for location in 0..locations {
-        alternatives.push(Alternative::Location(location))?;
-    }
-    Ok(alternatives)
 }

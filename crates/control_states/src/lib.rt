@@ -15,6 +15,3 @@ pub use alternative::Alternative;
 pub use component::Component;
 pub use components::Components;
 pub use places::{alternatives_at, around_at};
-
-#[cfg(test)]
-mod tests;

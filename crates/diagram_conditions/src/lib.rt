@@ -17,6 +17,3 @@ mod rules;
 mod starts;
 
 pub use rules::Drawn;
-
-#[cfg(test)]
-mod tests;

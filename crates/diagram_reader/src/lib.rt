@@ -17,6 +17,3 @@ mod unit;
 pub use fault::DiagramFault;
 pub use reading::read_diagram;
 pub use transition::read_transition;
-
-#[cfg(test)]
-mod tests;

@@ -7,3 +7,6 @@
 #![tactic(auto)]
 
 pub mod laws;
+mod stage;
+
+pub use stage::WideStage;

@@ -14,6 +14,3 @@ pub use control_states::{Alternative, Component, Components};
 pub use farkas_leaf::{leaf_closes, linear_closes};
 pub use st_certificate::Certificate;
 pub use st_form::{Condition, Variable};
-
-#[cfg(test)]
-mod tests;

@@ -12,6 +12,3 @@ mod window;
 
 pub use leaf::leaf_closes;
 pub use lines::linear_closes;
-
-#[cfg(test)]
-mod tests;

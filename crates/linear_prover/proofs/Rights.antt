@@ -3,7 +3,7 @@ use Rattle.std.proofs.Common.{◌≡◌, List, length, subst, sym, Option, Some,
 use Rattle.st_form.specs.Formula.{Formula}
 use Rattle.st_certificate.specs.Plain.{plain as tree_of}
 use Rattle.farkas_check.specs.Problem.{Setting, first_problem}
-use Rattle.row_elimination.specs.declared.top.WideStage.{WideStage}
+use Rattle.elimination_laws.specs.declared.stage.WideStage.{WideStage}
 use Rattle.search_laws.specs.States.{State}
 use Rattle.search_laws.specs.Walks.{PathStep, left_open, given_up, Found, found, stopped, searched}
 use Rattle.search_laws.specs.Moves.{move_of, open_at, wide_at, verdict_of, decided}

@@ -6,7 +6,7 @@ use Rattle.st_form.specs.Formula.{Formulas}
 use Rattle.linear_prover.specs.declared.problems.Conjunct.{Conjunct}
 use Rattle.linear_prover.specs.Plain.{plain_each}
 use Rattle.farkas_check.specs.Problem.{Setting, Problem}
-use Rattle.row_elimination.specs.declared.top.WideStage.TheVariants as stage
+use Rattle.elimination_laws.specs.declared.stage.WideStage.TheVariants as stage
 use Rattle.search_laws.specs.Walks.{Found, found, stopped, given_up, Move, divides, walk_node, walk}
 use Rattle.search_laws.specs.Moves.{first_place_of, by_place, by_conjuncts, move_of}
 use Rattle.search_laws.proofs.Counting.{IsCounted, walk-counted}

@@ -26,10 +26,3 @@ pub use st_certificate::Certificate;
 pub use st_form::{Condition, Variable};
 pub use st_program::Datum;
 pub use verdict::{PathKind, PathStep, Shown, Verdict};
-
-#[cfg(test)]
-mod tests;
-#[cfg(test)]
-mod wide_tests;
-#[cfg(test)]
-mod worked_tests;

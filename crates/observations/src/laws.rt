@@ -1,5 +1,5 @@
 //! The theorems on observations, each the contract of a function that does nothing.
-ghost use Rattle.std.specs.Prelude.{◌≡◌, ◌≤◌, ℕ, List, Bool, ℤ};
+ghost use Rattle.std.specs.Prelude.{◌≡◌, ◌≤◌, ℕ, List, Bool, IsTrue, ℤ};
 ghost use Rattle.observations.specs.Observation.{Observation, last};
 ghost use Rattle.observations.specs.Goals.{Invariance, Waiting, Response, HoldsAt, LevelsFrom, Throughout};
 ghost use Rattle.observations.specs.Waits.{Waits};
@@ -32,26 +32,11 @@ pub fn waiting_has_levels<S>(_state: &S)
         Throughout o (λ i. HoldsAt p o i → Waits o forms i) → Waiting p forms o }
 {}
 
-/// A system with a test of which names are enabled, and a step for each of them.
-pub trait System {
-    ghost use Rattle.std.specs.Prelude.{ℕ, List, Bool};
-
-    /// For each name whether it is enabled in the state.
-    ghost enabled: { Self → List Bool };
-
-    /// Whether a step of the name leads from the first state to the second.
-    ghost can: { Self → ℕ → Self → Type 0 };
-
-    /// A state to which the name leads.
-    ghost next: { Self → ℕ → Self };
-
-    /// The name of idling.
-    ghost idle: { ℕ };
-}
-
 /// Where idling is always a step and each enabled name has one, every run goes on to as many consecutive rounds as are
-/// wanted.
-pub fn rounds_exist<S: System>(_state: &S)
-    ensures { (o : Observation S) (n : ℕ) → MayGoOn S.enabled S.can S.next S.idle →
-        IsObserved o.fairness S.enabled S.can o → EndsInRounds S.enabled S.can o n }
+/// wanted. `enabled` tells for each name whether it is enabled in a state, `can` whether a step of a name leads from one
+/// state to another, and `next` where a name leads to.
+pub fn rounds_exist<S>(_state: &S)
+    ensures { (enabled : S → List Bool) (can : S → ℕ → S → Bool) (next : S → ℕ → S) (idle : ℕ) (o : Observation S) (n : ℕ) →
+        MayGoOn enabled (λ s name t. IsTrue (can s name t)) next idle → IsObserved o.fairness enabled (λ s name t. IsTrue (can s name t)) o →
+        EndsInRounds enabled (λ s name t. IsTrue (can s name t)) o n }
 {}

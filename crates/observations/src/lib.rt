@@ -38,21 +38,3 @@ impl Fairness {
         matches!(self, Fairness::Compassionate)
     }
 }
-
-#[cfg(test)]
-mod tests {
-    use super::*;
-
-    #[test]
-    fn compassion_is_justice_too(rt: HostRuntime) {
-        let table = [
-            (Fairness::Unfair, false, false),
-            (Fairness::Just, true, false),
-            (Fairness::Compassionate, true, true),
-        ];
-        for (fairness, just, compassionate) in table {
-            assert_eq!(rt; fairness.is_just(), just, "{fairness:?}");
-            assert_eq!(rt; fairness.is_compassionate(), compassionate, "{fairness:?}");
-        }
-    }
-}

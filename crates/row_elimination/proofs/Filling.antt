@@ -5,7 +5,7 @@ use Rattle.std.proofs.lemmas.List.{drop_more}
 use Rattle.row_elimination.specs.declared.stage.Used.{Used}
 use Rattle.row_elimination.specs.Places.{use_plain}
 use Rattle.row_elimination.specs.Runs.{uses_plain}
-use Rattle.row_elimination.specs.Points.{pointed, value_for}
+use Rattle.elimination_laws.specs.Points.{pointed, value_for}
 
 pointed-none : (v i : ℕ) (us : List Used) (values : List ℤ) → pointed (v + i) (uses_plain (drop i us)) values ≡ None → pointed v (uses_plain us) values ≡ None
 pointed-none v zero us values h = let e : v + 0 ≡ v = omega arith in subst (λ k. pointed k (uses_plain us) values ≡ None) e h

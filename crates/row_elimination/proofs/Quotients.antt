@@ -3,7 +3,7 @@ use Rattle.std.specs.Prelude.{unsigned_abs, if◌then◌else◌}
 use Rattle.std.specs.Int.{int_div_euclid}
 use Rattle.std.proofs.Math.Nat.{div-le_self}
 use Rattle.st_linear.specs.Linear.{is_zero}
-use Rattle.row_elimination.specs.Points.{floor_by}
+use Rattle.elimination_laws.specs.Points.{floor_by}
 
 quotient_size : (z : ℤ) (d : ℕ) → unsigned_abs (int_div_euclid z (pos d)) ≤ unsigned_abs z
 quotient_size (pos a) d = div-le_self a d

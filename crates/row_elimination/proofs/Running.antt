@@ -8,7 +8,7 @@ use Rattle.row_elimination.specs.declared.halt.Halt.{Halt}
 use Rattle.row_elimination.specs.declared.halt.Halt.TheVariants as halt
 use Rattle.row_elimination.specs.declared.stage.Used.{Used}
 use Rattle.row_elimination.specs.declared.top.Stop as stop
-use Rattle.row_elimination.specs.declared.top.WideStage.TheVariants.{Rows, Variable}
+use Rattle.elimination_laws.specs.declared.stage.WideStage.TheVariants.{Rows, Variable}
 use Rattle.row_elimination.specs.Places.{use_plain, Halts, sift_from}
 use Rattle.row_elimination.specs.Runs.{IsStop, Stops, uses_plain, with_uses}
 use Rattle.row_elimination.proofs.Sifting.{sift-all}

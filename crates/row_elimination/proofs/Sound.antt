@@ -22,7 +22,7 @@ use Rattle.st_memory.specs.declared.Memory.{Memory}
 use Rattle.row_elimination.specs.declared.top.Stop.{Stop}
 use Rattle.row_elimination.specs.declared.top.Stop.TheVariants as stop
 use Rattle.row_elimination.specs.Runs.{Stops}
-use Rattle.row_elimination.specs.Points.{evaluated_but, rest_value, meets, meets_if, holds_at, all_hold_at, if_all_hold, point_of, pointed}
+use Rattle.elimination_laws.specs.Points.{evaluated_but, rest_value, meets, meets_if, holds_at, all_hold_at, if_all_hold, point_of, pointed}
 use Rattle.row_elimination.specs.Eliminations.{IsElimination, IsSound, HoldAt, StopGives}
 
 pub stop-exact : (s : Stop) (r : Result Elimination Memory) (lines : List Line) (n : ℕ) → Stops s (ending lines n) → StopGives s r → IfOk r (λ e. IsElimination lines n e)

@@ -12,7 +12,7 @@ use Rattle.st_memory.specs.declared.Memory.{Memory}
 use Rattle.row_elimination.specs.declared.top.Stop.{Stop}
 use Rattle.row_elimination.specs.declared.top.Stop.TheVariants as stop
 use Rattle.row_elimination.specs.Runs.{StopsAt}
-use Rattle.row_elimination.specs.Points.{point_of}
+use Rattle.elimination_laws.specs.Points.{point_of}
 
 -- each variable is below n
 abbrev pub AreBelow : ℕ → List Line → Type 0

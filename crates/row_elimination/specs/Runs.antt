@@ -9,8 +9,8 @@ use Rattle.row_elimination.specs.declared.halt.Halt.TheVariants as halt
 use Rattle.row_elimination.specs.declared.stage.Used.{Used}
 use Rattle.row_elimination.specs.declared.top.Stop.{Stop}
 use Rattle.row_elimination.specs.declared.top.Stop.TheVariants.{Clash, Wide, Memory}
-use Rattle.row_elimination.specs.declared.top.WideStage.{WideStage}
-use Rattle.row_elimination.specs.declared.top.WideStage.TheVariants.{Tree, Rows, Variable}
+use Rattle.elimination_laws.specs.declared.stage.WideStage.{WideStage}
+use Rattle.elimination_laws.specs.declared.stage.WideStage.TheVariants.{Tree, Rows, Variable}
 use Rattle.row_elimination.specs.Places.{use_plain}
 
 abbrev pub first_row : ℕ → Line → Tracked

@@ -11,9 +11,5 @@ mod row;
 mod stage;
 mod top;
 
-pub use top::{Elimination, WideStage, eliminate};
-
-#[cfg(test)]
-mod tests;
-#[cfg(test)]
-mod wide_tests;
+pub use elimination_laws::WideStage;
+pub use top::{Elimination, eliminate};

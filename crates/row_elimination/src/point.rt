@@ -10,7 +10,7 @@ ghost use Rattle.elimination_laws.specs.Stages.{forms};
 ghost use Rattle.row_elimination.specs.Plain.{tracked_row, rows};
 ghost use Rattle.row_elimination.specs.Places.{use_plain};
 ghost use Rattle.row_elimination.specs.Runs.{uses_plain};
-ghost use Rattle.row_elimination.specs.Points.{evaluated_but, rest_value, floor_by, least_allowed, greatest_allowed, raised, lowered, highest, lowest, chosen, solution, value_for, pointed, meets, holds_at, all_hold_at};
+ghost use Rattle.elimination_laws.specs.Points.{evaluated_but, rest_value, floor_by, least_allowed, greatest_allowed, raised, lowered, highest, lowest, chosen, solution, value_for, pointed, meets, holds_at, all_hold_at};
 
 use crate::mixing::part;
 use crate::row::Row;

@@ -8,7 +8,7 @@ ghost use Rattle.farkas_leaf.specs.Lines.{Closes, HaveNoSolution};
 ghost use Rattle.row_elimination.specs.Plain.{tracked_row, rows};
 ghost use Rattle.row_elimination.specs.Places.{GivesRows, sift_from};
 ghost use Rattle.row_elimination.specs.Runs.{first_row, AllWithin, GivesUses, IsStop, uses_plain};
-ghost use Rattle.row_elimination.specs.Points.{point_of};
+ghost use Rattle.elimination_laws.specs.Points.{point_of};
 ghost use Rattle.row_elimination.specs.Eliminations.{AreBelow, IsElimination, IsSound, StopGives};
 ghost use Rattle.std.specs.Option.{option_map};
 
@@ -16,6 +16,7 @@ use crate::halt::Halt;
 use crate::point::{all_hold_at, fill};
 use crate::row::Row;
 use crate::stage::{Stage, Used, place, run_stage};
+use elimination_laws::WideStage;
 use smallvec::SmallVec;
 use st_linear::Line;
 use st_memory::Memory;
@@ -29,14 +30,6 @@ pub enum Elimination {
     Contradiction(Vec<(u32, i64)>),
     NoContradiction(Option<Vec<i128>>),
     Wide(WideStage),
-}
-
-/// Where elimination gives up.
-#[derive(Debug, Drop)]
-pub enum WideStage {
-    Tree,
-    Rows,
-    Variable(u32),
 }
 
 /// Why not all variables are gone.

@@ -5,7 +5,7 @@ use Rattle.st_form.specs.Formula.{Formulas}
 use Rattle.st_certificate.specs.Tree.{Step, by_case, by_truth, by_split, Tree, impossible, linear}
 use Rattle.farkas_check.specs.Problem.{Setting, Problem, divided_into, lines_of}
 use Rattle.elimination_laws.specs.Stages.{Use, Ending, through, contradiction, too_wide, ending}
-use Rattle.row_elimination.specs.Points.{point_of}
+use Rattle.elimination_laws.specs.Points.{point_of}
 use Rattle.search_laws.specs.States.{State, state_of}
 use Rattle.search_laws.specs.Steady.{IsNoCut}
 use Rattle.search_laws.specs.Walks.{Failure, left_open, given_up, Move, closes, divides, fails}

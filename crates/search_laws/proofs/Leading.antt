@@ -17,8 +17,8 @@ use Rattle.st_certificate.specs.Tree.{Step, by_case, by_truth, by_split, by_cut,
 use Rattle.farkas_check.specs.Problem.{Setting, Problem, decided_by, posed, is_free, known_active, may_case, has_truth, may_truth, case_problems, truth_problem, split_from, split_problems, divided_into, division, lines_of, first_problem}
 use Rattle.farkas_check.specs.Valid.{There}
 use Rattle.elimination_laws.specs.Stages.{Ending, through, contradiction, too_wide, ending}
-use Rattle.row_elimination.specs.declared.top.WideStage.{WideStage}
-use Rattle.row_elimination.specs.declared.top.WideStage.TheVariants as stage
+use Rattle.elimination_laws.specs.declared.stage.WideStage.{WideStage}
+use Rattle.elimination_laws.specs.declared.stage.WideStage.TheVariants as stage
 use Rattle.search_laws.specs.States.{State}
 use Rattle.search_laws.specs.Walks.{Failure, left_open, given_up, Move, closes, divides, fails, PathStep, Found, found, stopped, FoundAll, all, broke, onto_trees, then_rest, walk_all, divided_by, walk_node, walk, searched}
 use Rattle.search_laws.specs.Moves.{first_place_of, first_truth_of, component_for, divided, by_component, by_ending, by_disjunction, by_variable, by_place, by_conjuncts, move_of, open_at, wide_at, failed_at, verdict_of}

@@ -10,7 +10,7 @@ use Rattle.st_linear.proofs.Replacing.{bind-some}
 use Rattle.elimination_laws.specs.Stages.{Use}
 use Rattle.elimination_laws.proofs.Heights.{times_zero}
 use Rattle.farkas_leaf.specs.Lines.{HoldsBy, Holds, AllHold}
-use Rattle.row_elimination.specs.Points.{evaluated_but, rest_value, meets, meets_if, holds_at, all_hold_at, if_all_hold, point_of, pointed}
+use Rattle.elimination_laws.specs.Points.{evaluated_but, rest_value, meets, meets_if, holds_at, all_hold_at, if_all_hold, point_of, pointed}
 
 by_test : (b : Bool) (z r : ℤ) → cond b None (Some z) ≡ Some r → z ≡ r
 by_test true z r h = absurd (cc)

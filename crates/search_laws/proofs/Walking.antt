@@ -3,7 +3,7 @@ use Rattle.std.proofs.Common.{◌≡◌, ℕ, zero, suc, ◌+◌, ◌<◌, ◌�
 use Rattle.std.specs.Prelude.{nat_lt, if◌then◌else◌}
 use Rattle.std.proofs.lemmas.Bool.Decides.{nat_tests}
 use Rattle.st_certificate.specs.Tree.{Step, Tree, Trees, branch, no_tree, with_tree}
-use Rattle.row_elimination.specs.declared.top.WideStage.TheVariants as stage
+use Rattle.elimination_laws.specs.declared.stage.WideStage.TheVariants as stage
 use Rattle.search_laws.specs.Walks.{Failure, given_up, Move, closes, divides, fails, Found, found, stopped, FoundAll, all, broke, onto_trees, then_rest, walk_all, divided_by, walk_node, walk, searched}
 use Rattle.search_laws.specs.Sizes.{nodes, nodes_of, levels, levels_of, IsModestTree}
 

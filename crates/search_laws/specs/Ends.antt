@@ -8,9 +8,9 @@ use Rattle.st_certificate.specs.Tree.{by_split}
 use Rattle.farkas_check.specs.Problem.{Setting, Problem, has_truth, divided_into, division, lines_of, first_problem}
 use Rattle.farkas_check.specs.Valid.{There}
 use Rattle.elimination_laws.specs.Stages.{Use, Stop, through, too_wide, ending}
-use Rattle.row_elimination.specs.declared.top.WideStage.{WideStage}
-use Rattle.row_elimination.specs.declared.top.WideStage.TheVariants as stage
-use Rattle.row_elimination.specs.Points.{point_of}
+use Rattle.elimination_laws.specs.declared.stage.WideStage.{WideStage}
+use Rattle.elimination_laws.specs.declared.stage.WideStage.TheVariants as stage
+use Rattle.elimination_laws.specs.Points.{point_of}
 use Rattle.search_laws.specs.States.{State, state_of}
 use Rattle.search_laws.specs.Walks.{PathStep, searched}
 use Rattle.search_laws.specs.Moves.{first_place_of, first_truth_of, stage_of, open_at, wide_at, decided, move_of}

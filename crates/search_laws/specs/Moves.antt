@@ -10,9 +10,9 @@ use Rattle.control_states.specs.Control.{ComponentFacts, ControlFacts, component
 use Rattle.st_certificate.specs.Tree.{Step, by_case, by_truth, by_split, Tree, impossible, linear}
 use Rattle.farkas_check.specs.Problem.{Setting, Problem, divided_into, lines_of, first_problem}
 use Rattle.elimination_laws.specs.Stages.{Stop, at_rows, at_variable, Ending, through, contradiction, too_wide, ending}
-use Rattle.row_elimination.specs.declared.top.WideStage.{WideStage}
-use Rattle.row_elimination.specs.declared.top.WideStage.TheVariants.{Rows, Variable}
-use Rattle.row_elimination.specs.Points.{point_of}
+use Rattle.elimination_laws.specs.declared.stage.WideStage.{WideStage}
+use Rattle.elimination_laws.specs.declared.stage.WideStage.TheVariants.{Rows, Variable}
+use Rattle.elimination_laws.specs.Points.{point_of}
 use Rattle.search_laws.specs.States.{State, state_of}
 use Rattle.search_laws.specs.Walks.{Failure, left_open, given_up, Move, closes, divides, fails, PathStep, Found, found, stopped, searched}
 

@@ -2,8 +2,8 @@
 -- open or the search gives up. No node has 400 nodes round it, and a tree has at most 100,000 nodes.
 use Rattle.std.specs.Prelude.{ℕ, zero, suc, ◌+◌, nat_lt, if◌then◌else◌, List, [], ◌∷◌, Option}
 use Rattle.st_certificate.specs.Tree.{Step, Tree, Trees, branch, no_tree, with_tree}
-use Rattle.row_elimination.specs.declared.top.WideStage.{WideStage}
-use Rattle.row_elimination.specs.declared.top.WideStage.TheVariants as stage
+use Rattle.elimination_laws.specs.declared.stage.WideStage.{WideStage}
+use Rattle.elimination_laws.specs.declared.stage.WideStage.TheVariants as stage
 use Rattle.search_laws.specs.States.{State}
 
 -- why no certificate is found: the lines of a problem have no contradiction, or it is too wide

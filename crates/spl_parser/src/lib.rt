@@ -21,6 +21,3 @@ pub use raw::{
     RawStatement,
 };
 pub use st_reading::{ParseFault, RawName};
-
-#[cfg(test)]
-mod tests;

@@ -23,6 +23,3 @@ pub use faults::MoveFault;
 pub use fitting::{has_numbers, store_fits};
 pub use playing::moves;
 pub use starts::start;
-
-#[cfg(test)]
-mod tests;

@@ -10,7 +10,5 @@ mod right_sides;
 pub use translating::transitions_of;
 pub use translation::translate;
 
-#[cfg(test)]
-mod tests;
 mod translating;
 mod translation;

@@ -21,6 +21,3 @@ pub use expr::{as_number, as_truth, typed_by, typed_expression};
 pub use fault::TypeFault;
 pub use program::type_program;
 pub use scope::{Known, Naming};
-
-#[cfg(test)]
-mod tests;

@@ -59,6 +59,3 @@ fn copy_all(alloc: Global, ts: &[Certificate]) -> Result<Vec<Certificate>, Memor
     }
     Ok(out)
 }
-
-#[cfg(test)]
-mod tests;

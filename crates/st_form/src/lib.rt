@@ -20,6 +20,3 @@ pub use replacement::Change;
 pub use simplification::simple_conjuncts;
 pub use st_linear::{Lin, LinFault, Line};
 pub use variables::Variable;
-
-#[cfg(test)]
-mod tests;

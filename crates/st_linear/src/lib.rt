@@ -16,6 +16,3 @@ pub use faults::LinFault;
 pub use linear::Lin;
 pub use numbers::{gcd, is_within, product_within, sum_within};
 pub use rows::Line;
-
-#[cfg(test)]
-mod tests;

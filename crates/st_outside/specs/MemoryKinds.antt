@@ -30,6 +30,10 @@ largest_read m = m.most
 abbrev pub ReadFails : MemoryFiles → List ℕ → Type 0
 ReadFails m name = Contains m.failing.items (risen m.calls) ⊎ (length m.files.items ≤ place (λ file. string_bytes file.0) m.files.items name)
 
+-- the two names have no count in common: another pair holds the other name, or only one of both is held
+abbrev pub IsCountedApart : MemoryFiles → List ℕ → List ℕ → Type 0
+IsCountedApart m name other = place (λ file. string_bytes file.0) m.files.items other ≢ place (λ file. string_bytes file.0) m.files.items name
+
 -- one call later, with the same files and the same list
 pub record NextRead (old new : MemoryFiles) : Type 0 where
   pub calls : new.calls ≡ risen old.calls

@@ -96,7 +96,7 @@ fn give(bytes: &[u8], from: u64, most: usize, buf: &mut [u8]) -> usize
 }
 
 impl Files for MemoryFiles {
-    ghost use Rattle.st_outside.specs.MemoryKinds.{told_by, faults_by, read_faults, largest_read, ReadFails, NextRead};
+    ghost use Rattle.st_outside.specs.MemoryKinds.{told_by, faults_by, read_faults, largest_read, ReadFails, IsCountedApart, NextRead};
 
     ghost told = { told_by };
 
@@ -119,6 +119,8 @@ impl Files for MemoryFiles {
             n ≡ min (min (largest_read self.old) (length buf.old)) (length bytes - from))) }
         ensures total { read_faults self.new ≡ (if is_ok result then read_faults self.old else risen (read_faults self.old)) }
         ensures next { NextRead self.old self.new }
+        // The counts of other names stay.
+        ensures others { (other : List ℕ) → IsCountedApart self.old name.now other → faults_by self.new other ≡ faults_by self.old other }
     {
         self.calls = self.calls.saturating_add(1);
         let i = place_in(&self.files, name);

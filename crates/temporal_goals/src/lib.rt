@@ -16,6 +16,3 @@ pub use goals::Goal;
 pub use nested::{Level, NestedNet, NestedNode};
 pub use nets::{Net, Node};
 pub use scripts::{RuleText, Script, Step};
-
-#[cfg(test)]
-mod tests;

@@ -16,6 +16,3 @@ pub use faults::VcFault;
 pub use naming::plainly;
 pub use rule::Rule;
 pub use walk::{PerMode, each_mode};
-
-#[cfg(test)]
-mod tests;

@@ -1,7 +1,6 @@
+use Rattle.std.specs.Prelude.{IsTrue}
 use Rattle.observations.proofs.RoundsExist as Rounds
 use Rattle.observations.proofs.laws.rounds_exist.Goals as goal
 
 pub returns : goal.returns
-returns g c o n may observed =
-    let s = g.S.System in
-    Rounds.rounds_exist s.enabled s.can s.next s.idle may o n observed
+returns g c enabled can next idle o n may observed = Rounds.rounds_exist enabled (λ s name t. IsTrue (can s name t)) next idle may o n observed

@@ -1,6 +1,6 @@
 use Rattle.std.proofs.Common.{◌≡◌, drop, false}
 use Rattle.st_linear.specs.Linear.{is_wide}
-use Rattle.row_elimination.specs.Points.{evaluated_but}
+use Rattle.elimination_laws.specs.Points.{evaluated_but}
 use Rattle.row_elimination.proofs.point.evaluate_but.Given as goal
 
 abbrev pub invariant-loop-e : goal.invariant-loop-e

@@ -1,7 +1,7 @@
 use Rattle.std.proofs.Common.{◌≡◌, drop, None}
 use Rattle.elimination_laws.specs.Stages.{forms}
 use Rattle.row_elimination.specs.Plain.{rows}
-use Rattle.row_elimination.specs.Points.{lowest}
+use Rattle.elimination_laws.specs.Points.{lowest}
 use Rattle.row_elimination.proofs.point.lowest.Given as goal
 
 abbrev pub invariant-loop-row : goal.invariant-loop-row

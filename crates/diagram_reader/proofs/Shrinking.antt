@@ -11,8 +11,8 @@ use Rattle.spl_parser.specs.Signs.{product_sign, sum_sign}
 use Rattle.spl_parser.specs.ExpressionTree.{Expr}
 use Rattle.spl_parser.specs.Reading.{Reader, below, joined, grouping, grouped, unary_of, product_of, sum_of, expression_of}
 use Rattle.spl_parser.proofs.ExpressionShrinking.{unary_shrinks, expression_shrinks, below_shrinks}
-use Rattle.spl_typer.specs.declared.fault.TypeFault.{TypeFault}
-use Rattle.spl_typer.specs.Scope.{Names}
+use Rattle.expression_typer.specs.declared.fault.TypeFault.{TypeFault}
+use Rattle.expression_typer.specs.Scope.{Names}
 use Rattle.st_linear.specs.Linear.{Linear}
 use Rattle.st_form.specs.Formula.{Formula}
 use Rattle.assertions.specs.Reading.{before, typed_behind, truth_of, number_of, form_of, linear_of}

@@ -10,10 +10,10 @@ use Rattle.st_program.specs.Plain.{plain_child, plain_children}
 use Rattle.st_program.specs.Programs.{IsProgram}
 use Rattle.st_program.specs.declared.trees.Child.{Child}
 use Rattle.spl_parser.specs.ProgramTree as raw
-use Rattle.spl_typer.specs.declared.fault.TypeFault.{TypeFault}
+use Rattle.expression_typer.specs.declared.fault.TypeFault.{TypeFault}
 use Rattle.spl_typer.specs.declared.program.Head.{Head}
 use Rattle.spl_typer.specs.declared.walk.Entry as declared
-use Rattle.spl_typer.specs.Answers.{◌>>=◌}
+use Rattle.expression_typer.specs.Answers.{◌>>=◌}
 use Rattle.spl_typer.specs.Walk.{entries}
 use Rattle.spl_typer.specs.Programs.{Heading, heading, heading_of, side_by_side, Apart, Typed, names_of, typing}
 use Rattle.spl_typer.proofs.Whole.{heading_sound, is_program}

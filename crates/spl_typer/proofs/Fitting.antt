@@ -9,17 +9,18 @@ use Rattle.st_program.specs.Locations.{NoLoop, NoLoopFirst, NoLoops, HeadsFit}
 use Rattle.st_program.specs.Types.{TestFits, TargetsFit, MayChange, PiecesFit, ActionFits}
 use Rattle.st_program.specs.Groups.{GroupFits}
 use Rattle.spl_parser.specs.ProgramTree as raw
-use Rattle.spl_typer.specs.declared.fault.TypeFault.{TypeFault}
-use Rattle.spl_typer.specs.declared.fault.TypeFault.TheVariants as faults
+use Rattle.expression_typer.specs.declared.fault.TypeFault.{TypeFault}
+use Rattle.expression_typer.specs.declared.fault.TypeFault.TheVariants as faults
 use Rattle.spl_typer.specs.declared.statement.Here.{Here}
-use Rattle.spl_typer.specs.Answers.{◌>>=◌}
-use Rattle.spl_typer.specs.Scope.{Known}
+use Rattle.expression_typer.specs.Answers.{◌>>=◌}
+use Rattle.expression_typer.specs.Scope.{Known}
 use Rattle.spl_typer.specs.Walk.{State, Made, new_location, new_occurrence}
 use Rattle.spl_typer.specs.Statements.{tested, target, counter, right_side, assigned, pieces_along}
 use Rattle.spl_typer.specs.Groups.{grouped}
 use Rattle.spl_typer.specs.Walking.{fresh, beneath, location, labelled, no_loop, something, some_statement, some_body, walked, acting, branched, along, inside, bodied}
-use Rattle.spl_typer.proofs.Holding.{Holds, bound, anyway}
-use Rattle.spl_typer.proofs.Terms.{Scoped, IsTarget, IsSide, tested_fits, target_fits, counter_fits, side_fits, one_target}
+use Rattle.expression_typer.proofs.Holding.{Holds, bound, anyway}
+use Rattle.expression_typer.proofs.Terms.{Scoped}
+use Rattle.spl_typer.proofs.Terms.{IsTarget, IsSide, tested_fits, target_fits, counter_fits, side_fits, one_target}
 use Rattle.spl_typer.proofs.Targets.{assigned_fit, pieces_fit}
 use Rattle.spl_typer.proofs.Grouping.{group_fits}
 

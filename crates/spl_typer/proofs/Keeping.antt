@@ -4,16 +4,16 @@ use Rattle.st_form.specs.Formula.{Formula}
 use Rattle.st_reading.specs.Reading.{Label}
 use Rattle.st_program.specs.Tree.{Statement, Action, Statements, Process, Processes}
 use Rattle.spl_parser.specs.ProgramTree as raw
-use Rattle.spl_typer.specs.declared.fault.TypeFault.{TypeFault}
+use Rattle.expression_typer.specs.declared.fault.TypeFault.{TypeFault}
 use Rattle.spl_typer.specs.declared.statement.Here.{Here}
 use Rattle.spl_typer.specs.declared.walk.Mark.{Mark}
-use Rattle.spl_typer.specs.Answers.{◌>>=◌}
-use Rattle.spl_typer.specs.Scope.{Known}
+use Rattle.expression_typer.specs.Answers.{◌>>=◌}
+use Rattle.expression_typer.specs.Scope.{Known}
 use Rattle.spl_typer.specs.Walk.{State, Made, declared_as, new_location, new_occurrence, with_weight}
 use Rattle.spl_typer.specs.Statements.{tested, target, counter, right_side, assigned, pieces_along}
 use Rattle.spl_typer.specs.Groups.{grouped}
 use Rattle.spl_typer.specs.Walking.{fresh, beneath, location, labelled, no_loop, something, some_statement, some_body, walked, acting, branched, along, inside, bodied}
-use Rattle.spl_typer.proofs.Holding.{Holds, bound, anyway}
+use Rattle.expression_typer.proofs.Holding.{Holds, bound, anyway}
 
 abbrev After : {X : Type 0} → (State → Type 0) → Made X → Type 0
 After Q a = Q a.after

@@ -6,13 +6,14 @@ use Rattle.st_program.specs.Tree as tree
 use Rattle.st_program.specs.Spots.{Spot, entry, bodies, bodies_in, spots, spots_within, spots_along, spots_among, spots_inside}
 use Rattle.spl_parser.specs.ProgramTree as raw
 use Rattle.spl_typer.specs.declared.statement.Here.{Here}
-use Rattle.spl_typer.specs.Answers.{◌>>=◌}
-use Rattle.spl_typer.specs.Scope.{Known}
+use Rattle.expression_typer.specs.Answers.{◌>>=◌}
+use Rattle.expression_typer.specs.Scope.{Known}
 use Rattle.spl_typer.specs.Walk.{State, Made, new_location, new_occurrence}
 use Rattle.spl_typer.specs.Statements.{tested, target, counter, right_side, assigned, pieces_along}
 use Rattle.spl_typer.specs.Groups.{grouped}
 use Rattle.spl_typer.specs.Walking.{fresh, beneath, location, labelled, no_loop, something, some_statement, some_body, with_else, walked, acting, branched, along, inside, bodied}
-use Rattle.spl_typer.proofs.Holding.{Holds, bound, anyway, Goes, labels, Located, locates, Numbered, numbers}
+use Rattle.expression_typer.proofs.Holding.{Holds, bound, anyway}
+use Rattle.spl_typer.proofs.Holding.{Goes, labels, Located, locates, Numbered, numbers}
 
 -- occurrences from one number to before another
 abbrev pub Counts : ℕ → ℕ → List Spot → Type 0

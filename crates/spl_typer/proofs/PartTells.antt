@@ -7,18 +7,18 @@ use Rattle.st_reading.specs.Reading.{Label}
 use Rattle.st_program.specs.Tree.{Term, number, truth, Pieces}
 use Rattle.spl_parser.specs.ExpressionTree.{Expr, start_of}
 use Rattle.spl_parser.specs.ProgramTree as raw
-use Rattle.spl_typer.specs.declared.fault.TypeFault.{TypeFault}
-use Rattle.spl_typer.specs.declared.fault.TypeFault.TheVariants as faults
-use Rattle.spl_typer.specs.Answers.{◌>>=◌}
-use Rattle.spl_typer.specs.Scope.{Known, find}
-use Rattle.spl_typer.specs.Typing.{typed, as_number, as_truth}
-use Rattle.spl_typer.specs.Rules.{meaning, faults_in, not_number, not_truth}
-use Rattle.spl_typer.specs.Told.{Told, IsWritten, IsModest, Tells}
+use Rattle.expression_typer.specs.declared.fault.TypeFault.{TypeFault}
+use Rattle.expression_typer.specs.declared.fault.TypeFault.TheVariants as faults
+use Rattle.expression_typer.specs.Answers.{◌>>=◌}
+use Rattle.expression_typer.specs.Scope.{Known, find}
+use Rattle.expression_typer.specs.Typing.{typed, as_number, as_truth}
+use Rattle.expression_typer.specs.Rules.{meaning, faults_in, not_number, not_truth}
+use Rattle.expression_typer.specs.Told.{Told, IsWritten, IsModest, Tells}
 use Rattle.spl_typer.specs.Modest.{AllModest, StatementModest, ActionModest, BranchModest, RowModest}
 use Rattle.spl_typer.specs.Statements.{tested, writable, target, counting, counter, wanted, right_side, is_target, targets, changes, assigned, pieces_of, pieces_in, other_pieces, pieces_along, pieces_behind}
 use Rattle.spl_typer.specs.Groups.{grouped}
 use Rattle.spl_typer.specs.StatementRules.{Faults, unless, where_true, test_faults, target_faults, counter_faults, wanted_faults, side_faults, and_known, same_faults, targets_faults, sides_faults, assign_faults, piece_faults, pieces_faults, other_faults, row_pieces_faults, faults_of, limit_faults, weight_or, weight_behind}
-use Rattle.spl_typer.proofs.Tells.{told}
+use Rattle.expression_typer.proofs.Tells.{told}
 
 abbrev pub Any : {A : Type 0} → A → Type 0
 Any x = Unit {0}

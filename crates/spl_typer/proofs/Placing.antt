@@ -5,15 +5,16 @@ use Rattle.st_program.specs.Tree.{Statement, stated, Action, Statements, no_stat
 use Rattle.st_program.specs.Tree as tree
 use Rattle.st_program.specs.Locations.{location_end, within_end, head_end, along_end, among_end, inside_end, SomeProcess, IsPlaced, WithinPlaced, HeadPlaced, AlongPlaced, AmongPlaced, InsidePlaced}
 use Rattle.spl_parser.specs.ProgramTree as raw
-use Rattle.spl_typer.specs.declared.fault.TypeFault.{TypeFault}
+use Rattle.expression_typer.specs.declared.fault.TypeFault.{TypeFault}
 use Rattle.spl_typer.specs.declared.statement.Here.{Here}
-use Rattle.spl_typer.specs.Answers.{◌>>=◌}
-use Rattle.spl_typer.specs.Scope.{Known}
+use Rattle.expression_typer.specs.Answers.{◌>>=◌}
+use Rattle.expression_typer.specs.Scope.{Known}
 use Rattle.spl_typer.specs.Walk.{State, Made, new_occurrence}
 use Rattle.spl_typer.specs.Statements.{tested, target, counter, right_side, assigned, pieces_along}
 use Rattle.spl_typer.specs.Groups.{grouped}
 use Rattle.spl_typer.specs.Walking.{fresh, beneath, location, labelled, no_loop, something, some_statement, some_body, walked, acting, branched, along, inside, bodied}
-use Rattle.spl_typer.proofs.Holding.{Holds, bound, anyway, if_ok, own_or, begun, Goes, labels, Located, locates, Numbered, numbers}
+use Rattle.expression_typer.proofs.Holding.{Holds, bound, anyway, if_ok}
+use Rattle.spl_typer.proofs.Holding.{own_or, begun, Goes, labels, Located, locates, Numbered, numbers}
 
 -- a statement whose location is own, or else the next one, and whose parts are numbered from there to before another
 abbrev Spans : Option ℕ → Statement → ℕ → ℕ → Type 0

@@ -7,13 +7,13 @@ use Rattle.st_program.specs.Names.{Names}
 use Rattle.st_program.specs.Tree.{Process}
 use Rattle.spl_parser.specs.ExpressionTree.{Expr}
 use Rattle.spl_parser.specs.ProgramTree as raw
-use Rattle.spl_typer.specs.declared.fault.TypeFault.{TypeFault}
-use Rattle.spl_typer.specs.declared.fault.TypeFault.TheVariants as faults
+use Rattle.expression_typer.specs.declared.fault.TypeFault.{TypeFault}
+use Rattle.expression_typer.specs.declared.fault.TypeFault.TheVariants as faults
 use Rattle.spl_typer.specs.declared.walk.Mark.{Mark}
 use Rattle.spl_typer.specs.declared.walk.Mark.TheVariants as marks
-use Rattle.spl_typer.specs.Answers.{◌>>=◌}
-use Rattle.spl_typer.specs.Scope.{Known}
-use Rattle.spl_typer.specs.Told.{Tells}
+use Rattle.expression_typer.specs.Answers.{◌>>=◌}
+use Rattle.expression_typer.specs.Scope.{Known}
+use Rattle.expression_typer.specs.Told.{Tells}
 use Rattle.spl_typer.specs.Modest.{BodyModest}
 use Rattle.spl_typer.specs.Walk.{Entry, State, Made, is_declared, with_name, declared_as}
 use Rattle.spl_typer.specs.Statements.{tested}

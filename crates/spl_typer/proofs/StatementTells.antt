@@ -5,13 +5,13 @@ use Rattle.st_tokens.specs.declared.limit.LimitKind.TheVariants as limits
 use Rattle.st_reading.specs.Reading.{Label}
 use Rattle.st_program.specs.Tree.{Term, Pieces, Statement, stated, Action, Statements, Process, Processes}
 use Rattle.spl_parser.specs.ProgramTree as raw
-use Rattle.spl_typer.specs.declared.fault.TypeFault.{TypeFault}
-use Rattle.spl_typer.specs.declared.fault.TypeFault.TheVariants as faults
+use Rattle.expression_typer.specs.declared.fault.TypeFault.{TypeFault}
+use Rattle.expression_typer.specs.declared.fault.TypeFault.TheVariants as faults
 use Rattle.spl_typer.specs.declared.statement.Here.{Here}
 use Rattle.spl_typer.specs.declared.walk.Mark.TheVariants as marks
-use Rattle.spl_typer.specs.Answers.{◌>>=◌}
-use Rattle.spl_typer.specs.Scope.{Known, find}
-use Rattle.spl_typer.specs.Told.{Tells}
+use Rattle.expression_typer.specs.Answers.{◌>>=◌}
+use Rattle.expression_typer.specs.Scope.{Known, find}
+use Rattle.expression_typer.specs.Told.{Tells}
 use Rattle.spl_typer.specs.Modest.{StatementModest, ActionModest, BranchModest, RowModest, BodiesModest, BodyModest}
 use Rattle.spl_typer.specs.Walk.{State, Made, is_declared, with_name, declared_as, next_location, next_occurrence, new_location, new_occurrence, with_weight}
 use Rattle.spl_typer.specs.Statements.{tested, target, counter, right_side, assigned, pieces_along}

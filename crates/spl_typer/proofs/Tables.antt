@@ -11,22 +11,12 @@ use Rattle.st_program.specs.Names.{AreApart, names_in}
 use Rattle.spl_parser.specs.declared.raw.RawStatement.{RawStatement}
 use Rattle.spl_parser.specs.declared.raw.RawBody.{RawBody}
 use Rattle.spl_parser.specs.ProgramTree.{statements, statement_views, bodies, body_views}
-use Rattle.spl_typer.specs.declared.fault.TypeFault.{TypeFault}
+use Rattle.expression_typer.specs.declared.fault.TypeFault.{TypeFault}
 use Rattle.spl_typer.specs.Walk.{Entry}
 use Rattle.spl_typer.specs.Walking.{some_statement, some_body}
-use Rattle.spl_typer.specs.Programs.{Apart, is_text, variables_of, labels_of}
+use Rattle.expression_typer.specs.Naming.{is_text}
+use Rattle.spl_typer.specs.Programs.{Apart, variables_of, labels_of}
 use Rattle.spl_typer.proofs.Apart.{names_apart}
-
-small : (b : ℕ) → nat_lt b 128 ≡ true → b < 128
-small b h = grind (arith, nat_tests)
-
-ascii : (bs : List ℕ) → is_text bs ≡ true → IsAscii bs
-ascii [] h i = IsAscii-nil i
-ascii (b ∷ bs) h zero = let p = and_parts (nat_lt b 128) (is_text bs) h in small b p.0
-ascii (b ∷ bs) h (suc i) = let p = and_parts (nat_lt b 128) (is_text bs) h in ascii bs p.1 i
-
-pub text_utf8 : (bs items : List ℕ) → items ≡ bs → is_text bs ≡ true → IsUtf8 items
-text_utf8 bs items e h = rw e (IsUtf8-from_ascii bs (ascii bs h))
 
 pub not_ok : false ≡ true → ⊥
 not_ok e = cc

@@ -7,13 +7,14 @@ use Rattle.st_program.specs.Tree.{Term, Piece, Pieces, piece_skip, piece_assign,
 use Rattle.st_program.specs.Types.{MayChange, IsNoTarget, TargetsFit, TestFits, PieceFits, PiecesFit, is_truth}
 use Rattle.spl_parser.specs.ExpressionTree.{Expr}
 use Rattle.spl_parser.specs.ProgramTree as raw
-use Rattle.spl_typer.specs.declared.fault.TypeFault.{TypeFault}
-use Rattle.spl_typer.specs.declared.fault.TypeFault.TheVariants as faults
-use Rattle.spl_typer.specs.Answers.{◌>>=◌}
-use Rattle.spl_typer.specs.Scope.{Known}
+use Rattle.expression_typer.specs.declared.fault.TypeFault.{TypeFault}
+use Rattle.expression_typer.specs.declared.fault.TypeFault.TheVariants as faults
+use Rattle.expression_typer.specs.Answers.{◌>>=◌}
+use Rattle.expression_typer.specs.Scope.{Known}
 use Rattle.spl_typer.specs.Statements.{tested, target, right_side, is_target, targets, changes, assigned, pieces_of, pieces_in, other_pieces, pieces_along, pieces_behind}
-use Rattle.spl_typer.proofs.Holding.{Holds, bound, anyway}
-use Rattle.spl_typer.proofs.Terms.{Scoped, IsTarget, IsSide, target_fits, tested_fits, side_fits, may_be, one_target}
+use Rattle.expression_typer.proofs.Holding.{Holds, bound, anyway}
+use Rattle.expression_typer.proofs.Terms.{Scoped}
+use Rattle.spl_typer.proofs.Terms.{IsTarget, IsSide, target_fits, tested_fits, side_fits, may_be, one_target}
 
 -- none of these is the variable
 abbrev Other : ℕ → List Known → Type 0

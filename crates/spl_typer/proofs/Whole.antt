@@ -14,22 +14,24 @@ use Rattle.st_program.specs.Types.{TestFits, FormulasFit, ActionFits}
 use Rattle.st_program.specs.Programs.{WellFormed, IsProgram}
 use Rattle.spl_parser.specs.ExpressionTree.{Expr}
 use Rattle.spl_parser.specs.ProgramTree as raw
-use Rattle.spl_typer.specs.declared.fault.TypeFault.{TypeFault}
-use Rattle.spl_typer.specs.declared.fault.TypeFault.TheVariants as faults
+use Rattle.expression_typer.specs.declared.fault.TypeFault.{TypeFault}
+use Rattle.expression_typer.specs.declared.fault.TypeFault.TheVariants as faults
 use Rattle.spl_typer.specs.declared.walk.Mark.{Mark}
 use Rattle.spl_typer.specs.declared.walk.Mark.TheVariants as marks
-use Rattle.spl_typer.specs.Answers.{◌>>=◌}
-use Rattle.spl_typer.specs.Scope.{Known}
+use Rattle.expression_typer.specs.Answers.{◌>>=◌}
+use Rattle.expression_typer.specs.Scope.{Known}
 use Rattle.spl_typer.specs.Walk.{Entry, State, Made, is_declared, with_name, declared_as, new_location, new_occurrence, next_location, next_occurrence, with_weight}
 use Rattle.spl_typer.specs.Statements.{tested}
 use Rattle.spl_typer.specs.Walking.{bodied}
 use Rattle.spl_typer.specs.Programs.{Heading, knows, named_in, names_in, with_initial, initial_in, declaration_in, declarations_in, with_state, with_process, process_in, processes_in, nothing_met, some_process, heading_of, side_by_side, Apart}
-use Rattle.spl_typer.proofs.Holding.{Holds, bound, anyway, weaker, unless_err, if_ok, Goes, declares}
+use Rattle.expression_typer.proofs.Holding.{Holds, bound, anyway, weaker, unless_err, if_ok}
+use Rattle.spl_typer.proofs.Holding.{Goes, declares}
 use Rattle.spl_typer.proofs.Keeping.{Steps, body_keeps}
 use Rattle.spl_typer.proofs.Apart.{declares_apart}
 use Rattle.spl_typer.proofs.Occurrences.{Counts, counts_append, ChildCounts, body_counts, beside_counts}
 use Rattle.spl_typer.proofs.Placing.{Child, Children, children_more, body_placed}
-use Rattle.spl_typer.proofs.Terms.{IsKnown, Scoped, tested_fits}
+use Rattle.expression_typer.proofs.Terms.{IsKnown, Scoped}
+use Rattle.spl_typer.proofs.Terms.{tested_fits}
 use Rattle.spl_typer.proofs.Fitting.{Fits, AllFit, all_append, SoundChild, body_sound, children_sound}
 
 -- lists of variables that grow

@@ -1,7 +1,3 @@
-pub mod Answers
-pub mod Scope
-pub mod Written
-pub mod Typing
 pub mod Row
 pub mod Walk
 pub mod Statements
@@ -11,9 +7,7 @@ pub mod GroupViews
 pub mod Unbounded
 pub mod Walking
 pub mod Programs
-pub mod Rules
 pub mod StatementRules
-pub mod Told
 pub mod Modest
 pub mod ProgramRules
-pub mod Placed
+pub mod Standing

@@ -6,11 +6,11 @@ use Rattle.st_tokens.specs.declared.limit.LimitKind.TheVariants as limits
 use Rattle.st_reading.specs.Reading.{Label}
 use Rattle.spl_parser.specs.ExpressionTree.{Expr}
 use Rattle.spl_parser.specs.ProgramTree as raw
-use Rattle.spl_typer.specs.declared.fault.TypeFault.TheVariants as faults
+use Rattle.expression_typer.specs.declared.fault.TypeFault.TheVariants as faults
 use Rattle.spl_typer.specs.declared.walk.Mark.{Mark}
 use Rattle.spl_typer.specs.declared.walk.Mark.TheVariants as marks
-use Rattle.spl_typer.specs.Scope.{Known}
-use Rattle.spl_typer.specs.Told.{IsModest}
+use Rattle.expression_typer.specs.Scope.{Known}
+use Rattle.expression_typer.specs.Told.{IsModest}
 use Rattle.spl_typer.specs.Modest.{BodyModest}
 use Rattle.spl_typer.specs.Walk.{State, is_declared, with_name}
 use Rattle.spl_typer.specs.Programs.{Heading, nothing_met, some_process, names_of}

@@ -6,11 +6,11 @@ use Rattle.st_reading.specs.Reading.{Label}
 use Rattle.st_program.specs.Tree.{Term, number, truth, Piece, Pieces, piece_skip, piece_assign, piece_await, piece_if, no_piece, piece}
 use Rattle.spl_parser.specs.ExpressionTree.{Expr, start_of}
 use Rattle.spl_parser.specs.ProgramTree as raw
-use Rattle.spl_typer.specs.declared.fault.TypeFault.{TypeFault}
-use Rattle.spl_typer.specs.declared.fault.TypeFault.TheVariants as faults
-use Rattle.spl_typer.specs.Answers.{◌>>=◌}
-use Rattle.spl_typer.specs.Scope.{Known, find}
-use Rattle.spl_typer.specs.Typing.{typed, as_number, as_truth}
+use Rattle.expression_typer.specs.declared.fault.TypeFault.{TypeFault}
+use Rattle.expression_typer.specs.declared.fault.TypeFault.TheVariants as faults
+use Rattle.expression_typer.specs.Answers.{◌>>=◌}
+use Rattle.expression_typer.specs.Scope.{Known, find}
+use Rattle.expression_typer.specs.Typing.{typed, as_number, as_truth}
 
 -- a test
 abbrev pub tested : List Known → Expr → Result Formula TypeFault

@@ -2,13 +2,12 @@
 
 ghost use Rattle.st_program.specs.Plain.{plain_pieces};
 ghost use Rattle.spl_parser.specs.ProgramTree.{statement_view, statement_views, statements, action_view};
-ghost use Rattle.spl_typer.specs.Answers.{Gives};
-ghost use Rattle.spl_typer.specs.Scope.{scope_view};
+ghost use Rattle.expression_typer.specs.Answers.{Gives};
+ghost use Rattle.expression_typer.specs.Scope.{scope_view};
 ghost use Rattle.spl_typer.specs.Statements.{pieces_of, pieces_in, pieces_along};
 
-use crate::fault::TypeFault;
 use crate::parts::{assigned, right_side, target, tested};
-use crate::scope::Known;
+use expression_typer::{Known, TypeFault};
 use spl_parser::{RawKind, RawStatement};
 use st_program::Inner;
 use st_tokens::LimitKind;

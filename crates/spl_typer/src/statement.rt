@@ -1,25 +1,23 @@
 //! Statements.
 
-ghost use Rattle.spl_typer.specs.declared.fault.TypeFault.{TypeFault};
+ghost use Rattle.expression_typer.specs.declared.fault.TypeFault.{TypeFault};
 ghost use Rattle.std.specs.Prelude.{◌≡◌, ◌++◌, [], ◌∷◌, true, false, Some, None, Ok, ℕ, Result, map, is_some};
 ghost use Rattle.st_form.specs.Formula.{truth_value};
 ghost use Rattle.st_form.specs.Plain.{plain};
 ghost use Rattle.st_program.specs.Plain.{plain_stmt, plain_kind, plain_stmts, plain_children, plain_child, plain_pieces};
 ghost use Rattle.st_program.specs.Tree as tree;
 ghost use Rattle.spl_parser.specs.ProgramTree.{statement_view, statement_views, statements, action_view, body_view, body_views, bodies, label_view, option_branch};
-ghost use Rattle.spl_typer.specs.Answers.{Gives};
-ghost use Rattle.spl_typer.specs.Scope.{scope_view};
+ghost use Rattle.expression_typer.specs.Answers.{Gives};
+ghost use Rattle.expression_typer.specs.Scope.{scope_view};
 ghost use Rattle.spl_typer.specs.Walk.{state, State, Makes, Made, Moves, give};
 ghost use Rattle.spl_typer.specs.Statements.{pieces_of, pieces_in, pieces_along, other_pieces};
 ghost use Rattle.spl_typer.specs.Walking.{fresh, beneath, location, labelled, no_loop, something, some_statement, some_body, with_else, walked, acting, branched, along, inside, bodied};
 
 use crate::composing::grouped;
-use crate::expr::truth;
-use crate::fault::TypeFault;
 use crate::inner::pieces_along;
 use crate::parts::{assigned, counter, right_side, target, tested};
-use crate::scope::Known;
 use crate::walk::{Mark, Walk};
+use expression_typer::{Known, TypeFault, truth};
 use spl_parser::{RawBody, RawKind, RawName, RawStatement};
 use st_form::Form;
 use st_program::{Child, Kind, Stmt};

@@ -8,11 +8,11 @@ use Rattle.st_program.specs.Locations.{SomeProcess}
 use Rattle.st_program.specs.Programs.{IsProgram}
 use Rattle.spl_parser.specs.ProgramTree as raw
 use Rattle.spl_parser.specs.Parsing.{parsed}
-use Rattle.spl_typer.specs.declared.fault.TypeFault.{TypeFault}
-use Rattle.spl_typer.specs.declared.fault.TypeFault.TheVariants as faults
-use Rattle.spl_typer.specs.Answers as typer
+use Rattle.expression_typer.specs.declared.fault.TypeFault.{TypeFault}
+use Rattle.expression_typer.specs.declared.fault.TypeFault.TheVariants as faults
+use Rattle.expression_typer.specs.Answers as typer
 use Rattle.spl_typer.specs.Programs.{Heading, heading_of, side_by_side, names_of, Typed, typing}
-use Rattle.spl_typer.proofs.Holding.{Holds, bound, anyway}
+use Rattle.expression_typer.proofs.Holding.{Holds, bound, anyway}
 use Rattle.spl_typer.proofs.Whole.{Sound, heading_sound, is_program}
 use Rattle.step_run.specs.declared.refusals.Refusal.{Refusal}
 use Rattle.step_run.specs.Refusals.{of_token, of_stop, of_rule, IsRefusal, Fails}

@@ -5,9 +5,9 @@ use Rattle.spl_parser.specs.ProgramTree as raw
 use Rattle.spl_parser.specs.Numbers.{in_statement, in_action, in_branch, in_statements, in_body, in_bodies}
 use Rattle.spl_typer.specs.declared.walk.Mark.{Mark}
 use Rattle.spl_typer.specs.declared.walk.Mark.TheVariants as marks
-use Rattle.spl_typer.specs.Scope.{Known}
+use Rattle.expression_typer.specs.Scope.{Known}
 use Rattle.spl_typer.specs.Walk.{Entry, State, with_name, next_location, next_occurrence}
-use Rattle.spl_typer.specs.Programs.{is_text}
+use Rattle.expression_typer.specs.Naming.{is_text}
 use Rattle.spl_typer.specs.StatementRules.{own_location, behind_location, begins, behind, behind_act, behind_branch, behind_row, behind_bodies, behind_body}
 use Rattle.typing_laws.proofs.Laying.{SomeStatements, StatementLaid, ActionLaid, BranchLaid, StatementsLaid, BodyLaid, BodiesLaid}
 

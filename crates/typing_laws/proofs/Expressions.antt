@@ -10,8 +10,8 @@ use Rattle.spl_parser.specs.ExpressionTree.{Expr, Exprs, Kind, node, numeral, tr
 use Rattle.spl_parser.specs.Signs.{product_sign, sum_sign}
 use Rattle.spl_parser.specs.Reading.{Level, formula, negated, signed, joined}
 use Rattle.spl_parser.specs.Grammar.{IsAtom, a_numeral, a_truth, a_name, a_place, a_group, IsUnary, minus, plain, Behind, stop, go, IsGrouped, grouping, IsChained, alone, chained, IsProduct, IsSum, IsComparison, sum, compare, IsNegation, tilde, straight, IsConjunction, IsDisjunction, IsExpression, disjunction, implication, Inside, SpellsWithin}
-use Rattle.spl_typer.specs.Placed.{IsPlaced, IsPlacedKind, ArePlaced}
-use Rattle.spl_typer.specs.Told.{IsModestKind, AreModest}
+use Rattle.expression_typer.specs.Placed.{IsPlaced, IsPlacedKind, ArePlaced}
+use Rattle.expression_typer.specs.Told.{IsModestKind, AreModest}
 use Rattle.typing_laws.proofs.Standing.{Stand, meet, stand_within}
 use Rattle.typing_laws.proofs.Laying.{ExprLaid}
 use Rattle.typing_laws.proofs.Numerals.{numeral_modest}

@@ -4,9 +4,9 @@ use Rattle.std.proofs.Common.{◌≡◌, ℕ, suc, ◌<◌, ◌≤◌, Bool, tru
 use Rattle.st_reading.specs.Reading.{Label}
 use Rattle.spl_parser.specs.ExpressionTree.{Expr}
 use Rattle.spl_parser.specs.ProgramTree.{Statement, stated, Action, skip, critical, noncritical, assign, assign_all, await, request, release, conditional, while_do, forever, block, select, cooperate, group, Branch, no_branch, branch, Statements, no_statements, followed, Body, body, Bodies, no_bodies, beside, Declaration, Process, Program}
-use Rattle.spl_typer.specs.Placed.{IsPlaced}
-use Rattle.spl_typer.specs.Told.{IsModest}
-use Rattle.spl_typer.specs.Programs.{is_text}
+use Rattle.expression_typer.specs.Placed.{IsPlaced}
+use Rattle.expression_typer.specs.Told.{IsModest}
+use Rattle.expression_typer.specs.Naming.{is_text}
 
 pub record ExprLaid (e : Expr) (from to : ℕ) : Type 0 where
   pub placed : IsPlaced e from to

@@ -5,11 +5,12 @@ use Rattle.st_reading.specs.Reading.{Label}
 use Rattle.spl_parser.specs.ExpressionTree.{Expr}
 use Rattle.spl_parser.specs.ProgramTree as raw
 use Rattle.spl_parser.specs.Numbers.{in_body, in_processes, declared, declared_inside, IsWithin}
-use Rattle.spl_typer.specs.declared.fault.TypeFault.TheVariants as faults
+use Rattle.expression_typer.specs.declared.fault.TypeFault.TheVariants as faults
 use Rattle.spl_typer.specs.declared.walk.Mark.{Mark}
 use Rattle.spl_typer.specs.declared.walk.Mark.TheVariants as marks
 use Rattle.spl_typer.specs.Walk.{Entry, is_declared}
-use Rattle.spl_typer.specs.Programs.{nothing_met, some_process, is_text, Variables, Labels, with_variable, with_label, variables_of, labels_of, names_of}
+use Rattle.expression_typer.specs.Naming.{is_text}
+use Rattle.spl_typer.specs.Programs.{nothing_met, some_process, Variables, Labels, with_variable, with_label, variables_of, labels_of, names_of}
 use Rattle.spl_typer.specs.StatementRules.{faults_of}
 use Rattle.spl_typer.specs.ProgramRules.{Front, front, declares_again, named, behind_name, name_faults, behind_names, names_faults, initial_faults, behind_declaration, declaration_faults, behind_declarations, declarations_faults, inside_process, behind_process, process_faults, behind_processes, processes_faults, before_processes, program_faults}
 use Rattle.typing_laws.proofs.Laying.{LabelLaid, InRow, InitialLaid, DeclarationLaid, ProcessLaid, SomeProcesses, ProgramLaid}

@@ -6,11 +6,11 @@ use Rattle.st_program.specs.Tree.{Pieces}
 use Rattle.spl_parser.specs.ExpressionTree.{Expr}
 use Rattle.spl_parser.specs.ProgramTree as raw
 use Rattle.spl_parser.specs.Numbers.{in_statement, in_action, in_branch, in_statements, in_body, in_bodies}
-use Rattle.spl_typer.specs.declared.fault.TypeFault.{TypeFault}
-use Rattle.spl_typer.specs.declared.fault.TypeFault.TheVariants as faults
+use Rattle.expression_typer.specs.declared.fault.TypeFault.{TypeFault}
+use Rattle.expression_typer.specs.declared.fault.TypeFault.TheVariants as faults
 use Rattle.spl_typer.specs.declared.statement.Here.{Here}
-use Rattle.spl_typer.specs.Scope.{Known, find}
-use Rattle.spl_typer.specs.Told.{Tells}
+use Rattle.expression_typer.specs.Scope.{Known, find}
+use Rattle.expression_typer.specs.Told.{Tells}
 use Rattle.spl_typer.specs.Walk.{State, is_declared, next_location, next_occurrence}
 use Rattle.spl_typer.specs.Statements.{is_target, pieces_along}
 use Rattle.spl_typer.specs.Groups.{grouped}

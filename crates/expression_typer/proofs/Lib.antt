@@ -1,0 +1,10 @@
+pub mod Limits
+pub mod Chains
+pub mod Fits
+pub mod Holding
+pub mod Numerals
+pub mod Rising
+pub mod Sizes
+pub mod Tells
+pub mod Terms
+pub mod Texts

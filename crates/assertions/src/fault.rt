@@ -3,7 +3,7 @@
 
 ghost use Rattle.std.specs.Prelude.{◌≡◌};
 
-use spl_parser::ParseFault;
+use expression_parser::ParseFault;
 use expression_typer::TypeFault;
 use st_tokens::TokenFault;
 use thiserror::Error;

@@ -11,7 +11,7 @@ ghost use Rattle.assertions.specs.Reading.{Answers, form_of, linear_of};
 
 use crate::fault::FormFault;
 use crate::names::Table;
-use spl_parser::{LEVELS, expression, sum};
+use expression_parser::{LEVELS, expression, sum};
 use expression_typer::{as_number, as_truth, typed_by};
 use st_form::{Form, Lin};
 use st_program::NameTable;
@@ -22,7 +22,7 @@ use std::alloc::Global;
 /// are those of the whole program, and `at` stands before a label.
 ///
 /// That it is the longest, and that a fault of the grammar is the first, are `formulas_are_longest` and
-/// `formulas_first_fault` of `spl_parser::laws`; that it is typed to its meaning, or refused for the lowest rule that is
+/// `formulas_first_fault` of `expression_parser::laws`; that it is typed to its meaning, or refused for the lowest rule that is
 /// broken at the first place, are `first_is_told_by_names` and `least_is_told_by_names` of
 /// `expression_typer::laws`.
 #[tactic(auto, unfolding(crate::specs::Reading::form_of))]

@@ -1,5 +1,6 @@
 pub mod Limits
-pub mod Chains
+pub mod Conjuncts
+pub mod Chaining
 pub mod Fits
 pub mod Holding
 pub mod Numerals

@@ -3,6 +3,7 @@ pub mod Scope
 pub mod Written
 pub mod Typing
 pub mod Row
+pub mod Chains
 pub mod Rules
 pub mod Told
 pub mod Placed

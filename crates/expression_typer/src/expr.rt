@@ -3,17 +3,18 @@
 ghost use Rattle.std.specs.Prelude.{◌≡◌, IfOk, false, true, map, Ok};
 ghost use Rattle.st_form.specs.Formula.{formulas, truth_value, negation, equal};
 ghost use Rattle.st_form.specs.Plain.{plain, plain_list};
-ghost use Rattle.spl_parser.specs.ExpressionTree.{expr_view, exprs_view};
+ghost use Rattle.expression_parser.specs.ExpressionTree.{expr_view, exprs_view};
 ghost use Rattle.st_reading.specs.Faults.{name_view};
 ghost use Rattle.expression_typer.specs.Answers.{Gives};
 ghost use Rattle.expression_typer.specs.Scope.{scope_view};
 ghost use Rattle.st_program.specs.Plain.{plain_term};
+ghost use Rattle.expression_typer.specs.Chains.{paired, chained};
 ghost use Rattle.expression_typer.specs.Typing.{typed, typed_by, all_typed_by, as_number, as_truth, named_by, placed_by, combine, is_implication, implied};
 
 use crate::fault::TypeFault;
 use crate::linear::{difference, less, lowered, negative, numeral, product, sum};
 use crate::scope::{Known, Naming, Variables};
-use spl_parser::{Operator, RawExpr, RawExprKind, RawName};
+use expression_parser::{Operator, RawExpr, RawExprKind, RawName, RawTerm};
 use st_form::{Form, Lin};
 use st_program::Value;
 use std::alloc::Global;
@@ -111,7 +112,7 @@ fn combine(alloc: Global, operator: Operator, at: u64, f: &Lin, g: &Lin) -> Resu
 
 /// The meaning of an expression, or the first rule that is broken in it.
 #[cycle(typed)]
-#[tactic(auto, using(st_form::proofs::Nodes::nodes, spl_parser::proofs::Rows::kinds))]
+#[tactic(auto, using(st_form::proofs::Nodes::nodes, expression_parser::proofs::Rows::kinds, crate::proofs::Chaining::chains))]
 pub fn typed_by<N: Naming>(alloc: Global, names: &N, e: &RawExpr<'_>) -> Result<Value, TypeFault>
     ensures { Gives plain_term result (typed_by (N.told names.now) (expr_view e.now)) }
 {
@@ -130,26 +131,65 @@ pub fn typed_by<N: Naming>(alloc: Global, names: &N, e: &RawExpr<'_>) -> Result<
         }
         RawExprKind::All(items) => Ok(Value::Truth(Form::And(all_typed_by(alloc, names, items)?))),
         RawExprKind::Any(items) => Ok(Value::Truth(Form::Or(all_typed_by(alloc, names, items)?))),
+        RawExprKind::Chain { first, rest } => {
+            let value = typed_by(alloc, names, first)?;
+            chained(alloc, names, first.place, value, rest)
+        }
         RawExprKind::Pair {
             operator,
             at,
             left,
             right,
         } => {
-            if is_implication(*operator) {
-                let f = as_truth(left.place, typed_by(alloc, names, left)?)?;
-                let g = as_truth(right.place, typed_by(alloc, names, right)?)?;
-                Ok(Value::Truth(implication(alloc, f, g)?))
-            } else {
-                let f = as_number(left.place, typed_by(alloc, names, left)?)?;
-                let g = as_number(right.place, typed_by(alloc, names, right)?)?;
-                combine(alloc, *operator, *at, &f, &g)
-            }
+            let value = typed_by(alloc, names, left)?;
+            paired(alloc, names, *operator, *at, left.place, value, right)
         }
     }
 }
 
-/// The parts of a chain, each of which is to be a truth value.
+/// An operator between a value, whose expression begins at a place, and an expression.
+#[cycle(typed)]
+fn paired<N: Naming>(
+    alloc: Global,
+    names: &N,
+    operator: Operator,
+    at: u64,
+    place: u64,
+    value: Value,
+    right: &RawExpr<'_>,
+) -> Result<Value, TypeFault>
+    ensures { Gives plain_term result (paired (N.told names.now) operator at place (plain_term value) (expr_view right.now)) }
+{
+    if is_implication(operator) {
+        let f = as_truth(place, value)?;
+        let g = as_truth(right.place, typed_by(alloc, names, right)?)?;
+        Ok(Value::Truth(implication(alloc, f, g)?))
+    } else {
+        let f = as_number(place, value)?;
+        let g = as_number(right.place, typed_by(alloc, names, right)?)?;
+        combine(alloc, operator, at, &f, &g)
+    }
+}
+
+/// A value with further terms behind it, from the left.
+#[cycle(typed)]
+fn chained<N: Naming>(
+    alloc: Global,
+    names: &N,
+    place: u64,
+    first: Value,
+    rest: &[RawTerm<'_>],
+) -> Result<Value, TypeFault>
+    ensures { Gives plain_term result (chained (N.told names.now) place (plain_term first) rest.now) }
+{
+    let mut value = first;
+    for term in rest {
+        value = paired(alloc, names, term.operator, term.at, place, value, &term.of)?;
+    }
+    Ok(value)
+}
+
+/// The parts of a conjunction or disjunction, each of which is to be a truth value.
 #[cycle(typed)]
 fn all_typed_by<N: Naming>(
     alloc: Global,

@@ -6,8 +6,8 @@ use Rattle.st_form.specs.Formula.{Formula, Formulas, none, more}
 use Rattle.st_form.specs.Plain.{plain, plain_list}
 use Rattle.expression_typer.specs.Row.{onto}
 use Rattle.st_form.specs.declared.formulas.Form.{Form}
-use Rattle.spl_parser.specs.ExpressionTree.{Expr, Exprs, one_more, expr_view, exprs_view, start_of}
-use Rattle.spl_parser.specs.declared.raw.RawExpr.{RawExpr}
+use Rattle.expression_parser.specs.ExpressionTree.{Expr, Exprs, one_more, expr_view, exprs_view, start_of}
+use Rattle.expression_parser.specs.declared.raw.RawExpr.{RawExpr}
 use Rattle.expression_typer.specs.declared.fault.TypeFault.{TypeFault}
 use Rattle.expression_typer.specs.Answers.{◌>>=◌}
 use Rattle.expression_typer.specs.Scope.{Names}
@@ -37,15 +37,15 @@ all-more s es i e h k = ap (λ l. all_typed_by s (exprs_view l)) (drop_more es i
 first_is : (rest : Result Formulas TypeFault) (e : Expr) (w : Term) (r : Result Term TypeFault) (f : Formula) → r ≡ Ok w → as_truth (start_of e) w ≡ Ok f → with_first rest e r ≡ (rest >>= λ fs. Ok (more f fs))
 first_is rest e w r f h k = rw (h, k)
 
-pub chain-step : (s : Names) (es : List RawExpr) (out : List Form) (i : ℕ) (e : RawExpr) (w : Term) (f : Form) (whole : Result Formulas TypeFault) → i < length es → e ≡ get_or es i e
+pub conjunct-step : (s : Names) (es : List RawExpr) (out : List Form) (i : ℕ) (e : RawExpr) (w : Term) (f : Form) (whole : Result Formulas TypeFault) → i < length es → e ≡ get_or es i e
     → typed_by s (expr_view e) ≡ Ok w → as_truth e.place w ≡ Ok (plain f)
     → onto_all out (all_typed_by s (exprs_view (drop i es))) ≡ whole
     → onto_all (out ++ f ∷ []) (all_typed_by s (exprs_view (drop (i + 1) es))) ≡ whole
-chain-step s es out i e w f whole h k t a g =
+conjunct-step s es out i e w f whole h k t a g =
     onto_all-push out f (all_typed_by s (exprs_view (drop (i + 1) es)))
     ∙ ap (onto_all out) (sym (first_is (all_typed_by s (exprs_view (drop (i + 1) es))) (expr_view e) w (typed_by s (expr_view e)) (plain f) t a))
     ∙ ap (onto_all out) (sym (all-more s es i e h k))
     ∙ g
 
-pub chain-end : (s : Names) (es : List RawExpr) (out : List Form) (i : ℕ) (whole : Result Formulas TypeFault) → length es ≤ i → onto_all out (all_typed_by s (exprs_view (drop i es))) ≡ whole → whole ≡ Ok (plain_list out)
-chain-end s es out i whole h g = sym (rw (drop_of_length-le es h) at g) ∙ ap Ok (onto-none out)
+pub conjunct-end : (s : Names) (es : List RawExpr) (out : List Form) (i : ℕ) (whole : Result Formulas TypeFault) → length es ≤ i → onto_all out (all_typed_by s (exprs_view (drop i es))) ≡ whole → whole ≡ Ok (plain_list out)
+conjunct-end s es out i whole h g = sym (rw (drop_of_length-le es h) at g) ∙ ap Ok (onto-none out)

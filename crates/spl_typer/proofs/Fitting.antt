@@ -17,7 +17,8 @@ use Rattle.expression_typer.specs.Scope.{Known}
 use Rattle.spl_typer.specs.Walk.{State, Made, new_location, new_occurrence}
 use Rattle.spl_typer.specs.Statements.{tested, target, counter, right_side, assigned, pieces_along}
 use Rattle.spl_typer.specs.Groups.{grouped}
-use Rattle.spl_typer.specs.Walking.{fresh, beneath, location, labelled, no_loop, something, some_statement, some_body, walked, acting, branched, along, inside, bodied}
+use Rattle.spl_typer.specs.Shapes.{something, some_statement, some_body}
+use Rattle.spl_typer.specs.Walking.{fresh, beneath, location, labelled, no_loop, walked, acting, branched, along, inside, bodied}
 use Rattle.expression_typer.proofs.Holding.{Holds, bound, anyway}
 use Rattle.expression_typer.proofs.Terms.{Scoped}
 use Rattle.spl_typer.proofs.Terms.{IsTarget, IsSide, tested_fits, target_fits, counter_fits, side_fits, one_target}

@@ -10,9 +10,10 @@ use Rattle.spl_typer.specs.declared.walk.Mark.{Mark}
 use Rattle.spl_typer.specs.declared.walk.Mark.TheVariants as marks
 use Rattle.expression_typer.specs.Scope.{Known}
 use Rattle.spl_typer.specs.Walk.{Entry, State, Made, is_declared, with_name, new_location, new_occurrence, next_location, next_occurrence}
-use Rattle.spl_typer.specs.Statements.{tested, target, counter, right_side, assigned, pieces_along}
+use Rattle.spl_typer.specs.Statements.{tested, target, counter, right_side, assigned, pieces_inside}
 use Rattle.spl_typer.specs.Groups.{grouped}
-use Rattle.spl_typer.specs.Walking.{fresh, beneath, location, labelled, no_loop, something, some_statement, some_body, walked, acting, branched, along, inside, bodied}
+use Rattle.spl_typer.specs.Shapes.{something, some_statement, two_statements, two_bodies}
+use Rattle.spl_typer.specs.Walking.{fresh, beneath, location, labelled, no_loop, walked, acting, branched, along, inside, bodied}
 use Rattle.expression_typer.proofs.Holding.{Holds, bound, anyway, unless_err, if_ok}
 
 -- the types of the variables among declared names
@@ -142,11 +143,12 @@ module _ (bs : List Bool) where
         anyway (Rose bs st.loc) (something (some_statement ss) place) _
         (λ u. bound (Rose bs st.loc) (Rose bs st.loc) (along s (beneath l head) fresh ss st) _ (along_kept s (beneath l head) fresh ss st lt tt k) (λ a h. h))
     acting_kept s l head place (raw.select ss) st lt k =
-        bound (Rose bs st.loc) (Rose bs st.loc) (along s (beneath l true) (beneath l true) ss st) _ (along_kept s (beneath l true) (beneath l true) ss st lt lt k) (λ a h. h)
+        anyway (Rose bs st.loc) (something (two_statements ss) place) _
+        (λ u. bound (Rose bs st.loc) (Rose bs st.loc) (along s (beneath l true) (beneath l true) ss st) _ (along_kept s (beneath l true) (beneath l true) ss st lt lt k) (λ a h. h))
     acting_kept s l head place (raw.cooperate xs) st lt k =
-        anyway (Rose bs st.loc) (something (some_body xs) place) _ (λ u. bound (Rose bs st.loc) (Rose bs st.loc) (inside s xs st) _ (inside_kept s xs st k) (λ a h. h))
+        anyway (Rose bs st.loc) (something (two_bodies xs) place) _ (λ u. bound (Rose bs st.loc) (Rose bs st.loc) (inside s xs st) _ (inside_kept s xs st k) (λ a h. h))
     acting_kept s l head place (raw.group ss) st lt k =
-        anyway (Rose bs st.loc) (pieces_along s ss) _ (λ xs. anyway (Rose bs st.loc) (grouped place xs st.weight) _ (λ w. (k, omega arith)))
+        anyway (Rose bs st.loc) (pieces_inside s place ss) _ (λ xs. anyway (Rose bs st.loc) (grouped place xs st.weight) _ (λ w. (k, omega arith)))
 
     branched_kept : (s : List Known) (f : Formula) (y : Statement) (other : raw.Branch) (from : ℕ) (st : State) → from ≤ st.loc → Kept bs st → Holds (Rose bs from) (branched s f y other st)
     branched_kept s f y raw.no_branch from st le k = (k, le)
@@ -169,7 +171,8 @@ module _ (bs : List Bool) where
 
     pub body_kept : (s : List Known) (b : raw.Body) (st : State) → Kept bs st → Holds (Rose bs st.loc) (bodied s b st)
     body_kept s (raw.body ss end) st k =
-        bound {A = Made Statements} {B = Made Process} (Rose bs st.loc) (Rose bs st.loc) (along s fresh fresh ss st) _ (along_kept s fresh fresh ss st tt tt k)
+        anyway {A = Unit {0}} {B = Made Process} (Rose bs st.loc) (something (some_statement ss) 0) _
+        (λ u. bound {A = Made Statements} {B = Made Process} (Rose bs st.loc) (Rose bs st.loc) (along s fresh fresh ss st) _ (along_kept s fresh fresh ss st tt tt k)
         (λ a h. bound {A = Made ℕ} {B = Made Process} (Given bs a.after.loc) (Rose bs st.loc) (new_location 0 a.after) _ (new_given bs 0 a.after h.0)
         (λ l hl. bound {A = State} {B = Made Process} (Same bs l.after.loc) (Rose bs st.loc) (labelled end l.made None l.after) _ (label_kept bs end l.made None l.after hl.1.1 hl.0)
-        (λ st1 g. (g.0, omega (arith, g.1, hl.1.0, h.1)))))
+        (λ st1 g. (g.0, omega (arith, g.1, hl.1.0, h.1))))))

@@ -19,7 +19,7 @@ use Rattle.spl_typer.specs.Walk.{Entry, State, is_declared, with_name, declared_
 use Rattle.spl_typer.specs.Statements.{tested}
 use Rattle.spl_typer.specs.Walking.{bodied}
 use Rattle.expression_typer.specs.Naming.{is_text}
-use Rattle.spl_typer.specs.Programs.{Heading, knows, named_in, names_in, initial_in, declaration_in, declarations_in, with_state, process_in, processes_in, nothing_met, some_process, heading_of, text_of, Variables, Labels, with_variable, with_label, variables_of, labels_of, few_names, names_of, Typed, typing}
+use Rattle.spl_typer.specs.Programs.{Heading, knows, named_in, names_in, initial_in, declaration_in, declarations_in, with_state, process_in, processes_in, nothing_met, few_processes, heading_of, text_of, Variables, Labels, with_variable, with_label, variables_of, labels_of, few_names, names_of, Typed, typing}
 use Rattle.expression_typer.proofs.Holding.{Holds, bound, anyway, weaker, unless_err, if_ok}
 use Rattle.expression_typer.specs.Naming.{variable_at, location_named}
 use Rattle.expression_typer.specs.Naming as naming
@@ -78,7 +78,7 @@ processes_entered [] h e = e
 processes_entered (p ∷ ps) h e = bound Entered Entered (process_in p h) _ (process_entered p h e) (λ k f. processes_entered ps k f)
 
 heading_entered : (p : raw.Program) → Holds Entered (heading_of p)
-heading_entered p = go (some_process p.processes)
+heading_entered p = go (few_processes p.processes)
   where
     go : (b : Bool) → Holds Entered (cond b (declarations_in p.declarations nothing_met >>= λ h. processes_in p.processes h) (Err (faults.Limit limits.Processes 0)))
     go false = tt

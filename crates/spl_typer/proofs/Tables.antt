@@ -13,7 +13,7 @@ use Rattle.spl_parser.specs.declared.raw.RawBody.{RawBody}
 use Rattle.spl_parser.specs.ProgramTree.{statements, statement_views, bodies, body_views}
 use Rattle.expression_typer.specs.declared.fault.TypeFault.{TypeFault}
 use Rattle.spl_typer.specs.Walk.{Entry}
-use Rattle.spl_typer.specs.Walking.{some_statement, some_body}
+use Rattle.spl_typer.specs.Shapes.{some_statement, some_body}
 use Rattle.expression_typer.specs.Naming.{is_text}
 use Rattle.spl_typer.specs.Programs.{Apart, variables_of, labels_of}
 use Rattle.spl_typer.proofs.Apart.{names_apart}

@@ -1,5 +1,6 @@
 pub mod Row
 pub mod Walk
+pub mod Shapes
 pub mod Statements
 pub mod Groups
 pub mod Measured

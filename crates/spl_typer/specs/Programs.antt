@@ -104,9 +104,13 @@ abbrev pub some_process : List raw.Process → Bool
 some_process [] = false
 some_process (p ∷ ps) = true
 
+-- no program that was read has more than 16
+abbrev pub few_processes : List raw.Process → Bool
+few_processes ps = some_process ps && nat_le (length ps) 16
+
 abbrev pub heading_of : raw.Program → Result Heading TypeFault
 heading_of p =
-    if some_process p.processes then (declarations_in p.declarations nothing_met >>= λ h. processes_in p.processes h)
+    if few_processes p.processes then (declarations_in p.declarations nothing_met >>= λ h. processes_in p.processes h)
     else Err (faults.Limit limits.Processes 0)
 
 abbrev pub side_by_side : List Process → Processes

@@ -11,6 +11,7 @@ use Rattle.expression_typer.specs.declared.fault.TypeFault.TheVariants as faults
 use Rattle.expression_typer.specs.Answers.{◌>>=◌}
 use Rattle.expression_typer.specs.Scope.{Known, find}
 use Rattle.expression_typer.specs.Typing.{typed, as_number, as_truth}
+use Rattle.spl_typer.specs.Shapes.{something, some_statement}
 
 -- a test
 abbrev pub tested : List Known → Expr → Result Formula TypeFault
@@ -81,12 +82,16 @@ abbrev mutual
   pieces_in s place (raw.await e) = tested s e >>= λ f. alone (piece_await f)
   pieces_in s place (raw.conditional e y other) =
       tested s e >>= λ f. pieces_of s y >>= λ ys. other_pieces s other >>= λ ns. alone (piece_if f ys ns)
-  pieces_in s place (raw.block ss) = pieces_along s ss
+  pieces_in s place (raw.block ss) = pieces_inside s place ss
   pieces_in s place _ = Err (faults.Limit limits.Statements place)
 
   pub other_pieces : List Known → raw.Branch → Result Pieces TypeFault
   other_pieces s raw.no_branch = Ok no_piece
   other_pieces s (raw.branch x) = pieces_of s x
+
+  -- what stands between brackets
+  pub pieces_inside : List Known → ℕ → raw.Statements → Result Pieces TypeFault
+  pieces_inside s place ss = something (some_statement ss) place >>= λ _. pieces_along s ss
 
   pub pieces_along : List Known → raw.Statements → Result Pieces TypeFault
   pieces_along s raw.no_statements = Ok no_piece

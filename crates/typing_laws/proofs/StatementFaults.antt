@@ -14,7 +14,8 @@ use Rattle.expression_typer.specs.Told.{Tells}
 use Rattle.spl_typer.specs.Walk.{State, is_declared, next_location, next_occurrence}
 use Rattle.spl_typer.specs.Statements.{is_target, pieces_along}
 use Rattle.spl_typer.specs.Groups.{grouped}
-use Rattle.spl_typer.specs.Walking.{fresh, beneath, some_statement, some_body}
+use Rattle.spl_typer.specs.Shapes.{some_statement, some_body}
+use Rattle.spl_typer.specs.Walking.{fresh, beneath}
 use Rattle.spl_typer.specs.StatementRules.{unless, where_true, test_faults, target_faults, counter_faults, side_faults, and_known, same_faults, targets_faults, sides_faults, assign_faults, piece_faults, pieces_faults, other_faults, row_pieces_faults, faults_of, limit_faults, twice, own_location, behind_location, location_faults, occurrence_faults, begins, behind, behind_row, behind_body, statement_faults, action_faults, branch_faults, row_faults, bodies_faults, body_faults}
 use Rattle.spl_typer.proofs.PartTells.{Any, row_tells}
 use Rattle.typing_laws.proofs.Laying.{ExprLaid, LabelLaid, InRow, SomeStatements, SomeBodies, StatementLaid, ActionLaid, BranchLaid, StatementsLaid, BodyLaid, BodiesLaid}

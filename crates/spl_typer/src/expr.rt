@@ -3,7 +3,7 @@
 ghost use Rattle.std.specs.Prelude.{◌≡◌, IfOk, false, true, map, Ok};
 ghost use Rattle.st_form.specs.Formula.{formulas, truth_value, negation, equal};
 ghost use Rattle.st_form.specs.Plain.{plain, plain_list};
-ghost use Rattle.spl_parser.specs.ExpressionTree.{expr_view, exprs_view};
+ghost use Rattle.expression_parser.specs.ExpressionTree.{expr_view, exprs_view};
 ghost use Rattle.st_reading.specs.Faults.{name_view};
 ghost use Rattle.spl_typer.specs.Answers.{Gives};
 ghost use Rattle.spl_typer.specs.Scope.{scope_view};

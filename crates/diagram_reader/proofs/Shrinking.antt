@@ -8,8 +8,8 @@ use Rattle.st_reading.proofs.Soundness.{Shrinks}
 use Rattle.st_reading.proofs.Shrinking.{shrinks_gives, shrinks_bind, shrinks_map, shrinks_chain}
 use Rattle.expression_parser.specs.declared.raw.Operator.{Operator}
 use Rattle.expression_parser.specs.Signs.{product_sign, sum_sign}
-use Rattle.expression_parser.specs.ExpressionTree.{Expr}
-use Rattle.expression_parser.specs.Reading.{Reader, below, joined, grouping, grouped, unary_of, product_of, sum_of, expression_of}
+use Rattle.expression_parser.specs.ExpressionTree.{Expr, joined}
+use Rattle.expression_parser.specs.Reading.{Reader, below, grouping, grouped, unary_of, product_of, sum_of, expression_of}
 use Rattle.expression_parser.proofs.ExpressionShrinking.{unary_shrinks, expression_shrinks, below_shrinks}
 use Rattle.expression_typer.specs.declared.fault.TypeFault.{TypeFault}
 use Rattle.expression_typer.specs.Scope.{Names}

@@ -9,8 +9,8 @@ use Rattle.st_reading.specs.declared.sign.Sign.{Sign}
 use Rattle.st_reading.specs.Mark.{number}
 use Rattle.st_reading.specs.Sign.{sign_of, is}
 use Rattle.st_reading.specs.Reading.{only}
-use Rattle.spl_parser.specs.Calm.{loud, calm, calm_but, calm_but2}
-use Rattle.spl_parser.specs.Signs.{product_sign, sum_sign, comparison_sign}
+use Rattle.expression_parser.specs.Calm.{loud, calm, calm_but, calm_but2}
+use Rattle.expression_parser.specs.Signs.{product_sign, sum_sign, comparison_sign}
 
 or_parts : (a b : Bool) → a || b ≡ false → (a ≡ false) × (b ≡ false)
 or_parts true b h = cc

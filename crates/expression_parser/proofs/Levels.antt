@@ -6,11 +6,11 @@ use Rattle.st_reading.specs.Sign.{is}
 use Rattle.st_reading.specs.Faults.{Passed}
 use Rattle.st_reading.specs.Reading.{Stop, Read, ahead, place_of, expected, IsStop}
 use Rattle.st_reading.proofs.Loops.{stop_as}
-use Rattle.spl_parser.specs.declared.raw.Operator.TheVariants as operators
-use Rattle.spl_parser.specs.declared.sign.Front.TheVariants as fronts
-use Rattle.spl_parser.specs.Signs.{front}
-use Rattle.spl_parser.specs.ExpressionTree.{Expr, node, negation, negative, kind_of}
-use Rattle.spl_parser.specs.Reading.{Level, formula, negated, signed, below, level_of, joined, atom_of, unary_of, negation_of, disjunction_of, expression_of}
+use Rattle.expression_parser.specs.declared.raw.Operator.TheVariants as operators
+use Rattle.expression_parser.specs.declared.sign.Front.TheVariants as fronts
+use Rattle.expression_parser.specs.Signs.{front}
+use Rattle.expression_parser.specs.ExpressionTree.{Expr, node, negation, negative, kind_of, joined}
+use Rattle.expression_parser.specs.Reading.{Level, formula, negated, signed, below, level_of, atom_of, unary_of, negation_of, disjunction_of, expression_of}
 
 pub below_is : (places : Bool) (room : ℕ) (level : Level) (place : ℕ) (s : Stream) → 0 < room → below places room level place s ≡ level_of places (below places (room - 1)) level s
 unfolding below

@@ -3,10 +3,10 @@ use Rattle.st_tokens.specs.Stream.{stream}
 use Rattle.st_reading.specs.declared.mark.Mark.TheVariants as marks
 use Rattle.st_reading.specs.Reading.{size, gives, only, listing}
 use Rattle.st_reading.proofs.Chains.{Running}
-use Rattle.spl_parser.specs.Signs.{product_sign, sum_sign}
-use Rattle.spl_parser.specs.ExpressionTree.{expr_view, views, exprs, node, all, any}
-use Rattle.spl_parser.specs.Reading.{below, grouping, unary_of, product_of, sum_of, negation_of, conjunction_of, disjunction_of}
-use Rattle.spl_parser.proofs.expr.+expr.Given as goal
+use Rattle.expression_parser.specs.Signs.{product_sign, sum_sign}
+use Rattle.expression_parser.specs.ExpressionTree.{expr_view, views, exprs, node, all, any}
+use Rattle.expression_parser.specs.Reading.{below, grouping, unary_of, product_of, sum_of, negation_of, conjunction_of, disjunction_of}
+use Rattle.expression_parser.proofs.expr.+expr.Given as goal
 
 abbrev pub decreases-atom : goal.decreases-atom
 decreases-atom l = 16 * l.room + 0

@@ -7,14 +7,14 @@ use Rattle.st_reading.specs.Sign.{is}
 use Rattle.st_reading.specs.Reading.{size}
 use Rattle.st_reading.proofs.Streams.{behind_size}
 use Rattle.st_reading.proofs.Loops.{listing_next, listing_ends, listing_fails}
-use Rattle.spl_parser.specs.declared.raw.Operator.TheVariants as operators
-use Rattle.spl_parser.specs.Signs.{front, product_sign, sum_sign}
-use Rattle.spl_parser.specs.ExpressionTree.{expr_view, kind_view, views, node, negation, negative}
-use Rattle.spl_parser.specs.Reading.{joined}
-use Rattle.spl_parser.proofs.Views.{view_all, view_any, view_not, view_negate, reads_made}
-use Rattle.spl_parser.proofs.Loops.{grouping_next, grouping_ends, grouping_fails}
-use Rattle.spl_parser.proofs.Levels.{atom_open, atom_fails, atom_unclosed, implication, implication_fails, negation_is, negation_fails, negative_is, negative_fails}
-use Rattle.spl_parser.proofs.expr.+expr.Goals as goal
+use Rattle.expression_parser.specs.declared.raw.Operator.TheVariants as operators
+use Rattle.expression_parser.specs.Signs.{front, product_sign, sum_sign}
+use Rattle.expression_parser.specs.ExpressionTree.{expr_view, kind_view, views, node, negation, negative, joined}
+
+use Rattle.expression_parser.proofs.Views.{view_all, view_any, view_not, view_negate, reads_made}
+use Rattle.expression_parser.proofs.Loops.{grouping_next, grouping_ends, grouping_fails}
+use Rattle.expression_parser.proofs.Levels.{atom_open, atom_fails, atom_unclosed, implication, implication_fails, negation_is, negation_fails, negative_is, negative_fails}
+use Rattle.expression_parser.proofs.expr.+expr.Goals as goal
 
 pub atom-returns-in_err-inner-in-Open-clause-reads : goal.atom-returns-in_err-inner-in-Open-clause-reads
 atom-returns-in_err-inner-in-Open-clause-reads t c =

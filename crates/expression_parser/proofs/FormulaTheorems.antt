@@ -1,6 +1,7 @@
 -- The theorems of formulas, which programs and proofs share.
-use Rattle.std.proofs.Common.{◌≡◌, ℕ, zero, suc, ◌+◌, ◌≤◌, Bool, List, [], ◌∷◌, ◌++◌, Ok, Err, sym, subst, append_assoc, arith}
+use Rattle.std.proofs.Common.{◌≡◌, ℕ, zero, suc, ◌+◌, ◌≤◌, Bool, List, [], ◌∷◌, ◌++◌, true, Ok, Err, refl, sym, subst, append_assoc, arith}
 use Rattle.st_tokens.specs.Stream.{◌++>◌, Lexeme, Stream, ends, more}
+use Rattle.st_reading.specs.declared.sign.Sign.TheVariants as signs
 use Rattle.st_reading.specs.Faults.{Passed}
 use Rattle.st_reading.specs.Reading.{Stop}
 use Rattle.st_reading.specs.Spelling.{Sound}
@@ -8,15 +9,18 @@ use Rattle.st_reading.specs.Theorem.{Begins, IsFirst}
 use Rattle.st_reading.proofs.Streams.{same_text}
 use Rattle.st_reading.proofs.Soundness.{values}
 use Rattle.st_reading.proofs.Theorems.{first_fault, longest, first_as}
-use Rattle.spl_parser.specs.ExpressionTree.{Expr}
-use Rattle.spl_parser.specs.Calm.{calm}
-use Rattle.spl_parser.specs.Reading.{Reader, below, expression_of}
-use Rattle.spl_parser.specs.Grammar.{Inside, SpellsWithin, Formula}
-use Rattle.spl_parser.specs.Theorems.{FormulasReadOnce, FormulasAreLongest, FormulasFirstFault}
-use Rattle.spl_parser.proofs.BodyLaw.{quiet}
-use Rattle.spl_parser.proofs.ExpressionLaw.{larger, lawful_formula}
-use Rattle.spl_parser.proofs.ExpressionSoundness.{expression_sound, below_sound}
-use Rattle.spl_parser.proofs.ExpressionCompleteness.{formula_complete}
+use Rattle.expression_parser.specs.ExpressionTree.{Expr}
+use Rattle.expression_parser.specs.Calm.{calm}
+use Rattle.expression_parser.specs.Reading.{Reader, below, expression_of}
+use Rattle.expression_parser.specs.Grammar.{Inside, SpellsWithin, Formula}
+use Rattle.expression_parser.specs.Theorems.{FormulasReadOnce, FormulasAreLongest, FormulasFirstFault}
+use Rattle.expression_parser.proofs.ExpressionLaw.{larger, lawful_formula}
+use Rattle.expression_parser.proofs.ExpressionSoundness.{expression_sound, below_sound}
+use Rattle.expression_parser.proofs.ExpressionCompleteness.{formula_complete}
+
+quiet : calm signs.Nothing ≡ true
+unfolding calm
+quiet = refl
 
 module _ (places : Bool) where
   abbrev reader : ℕ → Reader Expr

@@ -7,9 +7,9 @@ use Rattle.st_reading.specs.Faults.{Passed}
 use Rattle.st_reading.specs.Reading.{Stop, Read, ahead, place_of, size, gives, goes, IsStop}
 use Rattle.st_reading.proofs.Chains.{Running, running_next, running_ends, running_fails}
 use Rattle.st_reading.proofs.Loops.{map_fails, mapped}
-use Rattle.spl_parser.specs.declared.raw.Operator.{Operator}
-use Rattle.spl_parser.specs.ExpressionTree.{Expr}
-use Rattle.spl_parser.specs.Reading.{Reader, joined, grouping}
+use Rattle.expression_parser.specs.declared.raw.Operator.{Operator}
+use Rattle.expression_parser.specs.ExpressionTree.{Expr, joined}
+use Rattle.expression_parser.specs.Reading.{Reader, grouping}
 
 module _ (op : Sign → Option Operator) (item : Reader Expr) (left : Expr) (s start : Stream) (whole : Read Passed Expr) where
   pub grouping_next : (o : Operator) (x : Expr) (next after : Stream) (left2 : Expr) → Running op (grouping item) gives left s start whole → Some o ≡ op (ahead s) → None ≡ op signs.Nothing → next ≡ behind s → item next ≡ Ok (x, after) → size after ≤ size next → left2 ≡ joined o (place_of s) left x

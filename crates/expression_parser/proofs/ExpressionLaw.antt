@@ -17,16 +17,16 @@ use Rattle.st_reading.proofs.Shrinking.{left, shrinks_map}
 use Rattle.st_reading.proofs.Streams.{behind_size}
 use Rattle.st_reading.proofs.Chains.{chain_step}
 use Rattle.st_reading.proofs.Lawful.{Lawful, Opens, opened, lawful_bind, lawful_gives, lawful_map, lawful_expected, lawful_named, lawful_chain, lawful_weak, viable_at}
-use Rattle.spl_parser.specs.declared.raw.Operator.{Operator}
-use Rattle.spl_parser.specs.declared.raw.Operator.TheVariants as operators
-use Rattle.spl_parser.specs.declared.sign.Front.{Front}
-use Rattle.spl_parser.specs.declared.sign.Front.TheVariants as fronts
-use Rattle.spl_parser.specs.Signs.{front, product_sign, sum_sign, comparison_sign}
-use Rattle.spl_parser.specs.ExpressionTree.{Expr, Exprs, Kind, node, numeral, truth, name, at, negation as negation_kind, negative, all, any, exprs, kind_of, start_of}
-use Rattle.spl_parser.specs.Calm.{calm}
-use Rattle.spl_parser.specs.Reading.{Reader, Level, formula, negated, signed, Down, joined, closing, seen, atom_of, unary_at, unary_of, grouping, grouped, product_of, sum_of, compared, comparison_of, negation_at, negation_of, chained, conjunction_of, disjunction_of, implied, expression_of, below}
-use Rattle.spl_parser.proofs.Quiet.{quiet, product_calm, sum_calm, comparison_calm, zero_token, name_token, close_token, close_is, close_calm, name_calm, zero_calm}
-use Rattle.spl_parser.proofs.ExpressionShrinking.{unary_shrinks, negation_shrinks, implied_shrinks, below_shrinks, viable_level}
+use Rattle.expression_parser.specs.declared.raw.Operator.{Operator}
+use Rattle.expression_parser.specs.declared.raw.Operator.TheVariants as operators
+use Rattle.expression_parser.specs.declared.sign.Front.{Front}
+use Rattle.expression_parser.specs.declared.sign.Front.TheVariants as fronts
+use Rattle.expression_parser.specs.Signs.{front, product_sign, sum_sign, comparison_sign}
+use Rattle.expression_parser.specs.ExpressionTree.{Expr, Exprs, Kind, node, numeral, truth, name, at, negation as negation_kind, negative, all, any, exprs, kind_of, start_of, joined}
+use Rattle.expression_parser.specs.Calm.{calm}
+use Rattle.expression_parser.specs.Reading.{Reader, Level, formula, negated, signed, Down, closing, seen, atom_of, unary_at, unary_of, grouping, grouped, product_of, sum_of, compared, comparison_of, negation_at, negation_of, chained, conjunction_of, disjunction_of, implied, expression_of, below}
+use Rattle.expression_parser.proofs.Quiet.{quiet, product_calm, sum_calm, comparison_calm, zero_token, name_token, close_token, close_is, close_calm, name_calm, zero_calm}
+use Rattle.expression_parser.proofs.ExpressionShrinking.{unary_shrinks, negation_shrinks, implied_shrinks, below_shrinks, viable_level}
 
 same_calm : Within calm calm
 same_calm g h = h

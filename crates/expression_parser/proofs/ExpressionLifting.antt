@@ -9,13 +9,13 @@ use Rattle.st_reading.specs.Sign.{is}
 use Rattle.st_reading.specs.Faults.{Passed, passed}
 use Rattle.st_reading.specs.Reading.{ahead, place_of, gives, then_reads, goes, chain, size, only, listing}
 use Rattle.st_reading.proofs.Lifting.{Lifted, Lifts, lifted_same, lifts_bind, lifts_map, lifted_cond, lifted_operator, lifts_chain}
-use Rattle.spl_parser.specs.declared.raw.Operator.{Operator}
-use Rattle.spl_parser.specs.declared.raw.Operator.TheVariants as operators
-use Rattle.spl_parser.specs.declared.sign.Front.{Front}
-use Rattle.spl_parser.specs.declared.sign.Front.TheVariants as fronts
-use Rattle.spl_parser.specs.Signs.{front, product_sign, sum_sign, comparison_sign}
-use Rattle.spl_parser.specs.ExpressionTree.{Expr, Exprs, Kind, node, all, any, negation, negative, exprs, start_of}
-use Rattle.spl_parser.specs.Reading.{Reader, Down, Level, formula, negated, signed, joined, closing, atom_at, atom_of, unary_at, unary_of, grouping, grouped, product_of, sum_of, compared, comparison_of, negation_at, negation_of, chained, conjunction_of, disjunction_of, implied, expression_of, level_of, below}
+use Rattle.expression_parser.specs.declared.raw.Operator.{Operator}
+use Rattle.expression_parser.specs.declared.raw.Operator.TheVariants as operators
+use Rattle.expression_parser.specs.declared.sign.Front.{Front}
+use Rattle.expression_parser.specs.declared.sign.Front.TheVariants as fronts
+use Rattle.expression_parser.specs.Signs.{front, product_sign, sum_sign, comparison_sign}
+use Rattle.expression_parser.specs.ExpressionTree.{Expr, Exprs, Kind, node, all, any, negation, negative, exprs, start_of, joined}
+use Rattle.expression_parser.specs.Reading.{Reader, Down, Level, formula, negated, signed, closing, atom_at, atom_of, unary_at, unary_of, grouping, grouped, product_of, sum_of, compared, comparison_of, negation_at, negation_of, chained, conjunction_of, disjunction_of, implied, expression_of, level_of, below}
 
 module _ (Keep : Passed → Type 0) where
   module _ (places : Bool) (down down2 : Down) (deeper : (level : Level) (place : ℕ) → Lifts Keep (down level place) (down2 level place)) where

@@ -8,12 +8,12 @@ use Rattle.st_reading.specs.declared.sign.Sign.{Sign}
 use Rattle.st_reading.specs.Sign.{is}
 use Rattle.st_reading.specs.Faults.{Passed, passed}
 use Rattle.st_reading.specs.Reading.{other, Read, ahead, place_of, name_of, refusal, expected, named, gives, then_reads, Turn, goes, on_operator, chain, size, only, listing}
-use Rattle.spl_parser.specs.declared.raw.Operator.{Operator}
-use Rattle.spl_parser.specs.declared.raw.Operator.TheVariants as operators
-use Rattle.spl_parser.specs.declared.sign.Front.{Front}
-use Rattle.spl_parser.specs.declared.sign.Front.TheVariants as fronts
-use Rattle.spl_parser.specs.Signs.{front, product_sign, sum_sign, comparison_sign}
-use Rattle.spl_parser.specs.ExpressionTree.{Expr, Exprs, node, Kind, numeral, truth, name, at, negation, negative, all, any, pair, exprs, kind_of, start_of}
+use Rattle.expression_parser.specs.declared.raw.Operator.{Operator}
+use Rattle.expression_parser.specs.declared.raw.Operator.TheVariants as operators
+use Rattle.expression_parser.specs.declared.sign.Front.{Front}
+use Rattle.expression_parser.specs.declared.sign.Front.TheVariants as fronts
+use Rattle.expression_parser.specs.Signs.{front, product_sign, sum_sign, comparison_sign}
+use Rattle.expression_parser.specs.ExpressionTree.{Expr, Exprs, node, Kind, numeral, truth, name, at, negation, negative, all, any, pair, exprs, kind_of, start_of}
 
 abbrev pub Reader : Type 0 → Type 0
 Reader A = Stream → Read Passed A
@@ -27,9 +27,6 @@ pub data Level : Type 0 where
 -- A reader of what is one level down, given the place of the token that opens the level.
 abbrev pub Down : Type 0
 Down = Level → ℕ → Reader Expr
-
-abbrev pub joined : Operator → ℕ → Expr → Expr → Expr
-joined o place left right = node (start_of left) (pair o place left right)
 
 -- ")"
 abbrev pub closing : ℕ → Expr → Reader Expr

@@ -1,14 +1,14 @@
 -- How a tree is seen that holds a list.
 use Rattle.std.proofs.Common.{◌≡◌, ℕ, Vec, Box, Global, Result, Ok, Err, MatchResult, refl, sym, ap, ◌∙◌}
-use Rattle.spl_parser.specs.declared.raw.RawExpr.{RawExpr}
-use Rattle.spl_parser.specs.declared.raw.RawExprKind.TheViews as seen
+use Rattle.expression_parser.specs.declared.raw.RawExpr.{RawExpr}
+use Rattle.expression_parser.specs.declared.raw.RawExprKind.TheViews as seen
 use Rattle.st_tokens.specs.Stream.{Stream}
 use Rattle.st_reading.specs.declared.fault.ParseFault.{ParseFault}
 use Rattle.st_reading.specs.declared.fault.ParseFault.TheVariants as faults
 use Rattle.st_reading.specs.Reading.{Read, Reads}
 use Rattle.st_reading.specs.Faults.{Passed, see}
-use Rattle.spl_parser.proofs.Rows.{vector_exprs}
-use Rattle.spl_parser.specs.ExpressionTree.{Expr, node, all, any, negation, negative, expr_view, views, exprs}
+use Rattle.expression_parser.proofs.Rows.{vector_exprs}
+use Rattle.expression_parser.specs.ExpressionTree.{Expr, node, all, any, negation, negative, expr_view, views, exprs}
 
 pub view_all : (place : ℕ) (v : Vec RawExpr Global) → expr_view (seen.roll-RawExpr (record { place = place; kind = seen.All v })) ≡ node place (all (exprs (views v.items)))
 view_all place v = ap (λ xs. node place (all xs)) (vector_exprs v)

@@ -13,15 +13,15 @@ use Rattle.st_reading.proofs.Soundness.{Shrinks}
 use Rattle.st_reading.proofs.Shrinking.{left, shrinks_gives, shrinks_bind, shrinks_map, shrinks_expected, shrinks_named, shrinks_chain}
 use Rattle.st_reading.proofs.Streams.{behind_size}
 use Rattle.st_reading.proofs.Chains.{chain_none}
-use Rattle.spl_parser.specs.declared.raw.Operator.{Operator}
-use Rattle.spl_parser.specs.declared.raw.Operator.TheVariants as operators
-use Rattle.spl_parser.specs.declared.sign.Front.{Front}
-use Rattle.spl_parser.specs.declared.sign.Front.TheVariants as fronts
-use Rattle.spl_parser.specs.Signs.{front, product_sign, sum_sign, comparison_sign}
-use Rattle.spl_parser.specs.ExpressionTree.{Expr, Exprs, Kind, node, numeral, truth, name, at, negation as negation_kind, negative, all, any, exprs, kind_of, start_of}
-use Rattle.spl_parser.specs.Calm.{calm}
-use Rattle.spl_parser.specs.Reading.{Reader, Level, formula, negated, signed, Down, joined, closing, seen, atom_at, atom_of, unary_at, unary_of, grouping, grouped, product_of, sum_of, compared, comparison_of, negation_at, negation_of, chained, conjunction_of, disjunction_of, implied, expression_of, below}
-use Rattle.spl_parser.proofs.Quiet.{quiet, product_calm, sum_calm, comparison_calm, zero_token, zero_calm}
+use Rattle.expression_parser.specs.declared.raw.Operator.{Operator}
+use Rattle.expression_parser.specs.declared.raw.Operator.TheVariants as operators
+use Rattle.expression_parser.specs.declared.sign.Front.{Front}
+use Rattle.expression_parser.specs.declared.sign.Front.TheVariants as fronts
+use Rattle.expression_parser.specs.Signs.{front, product_sign, sum_sign, comparison_sign}
+use Rattle.expression_parser.specs.ExpressionTree.{Expr, Exprs, Kind, node, numeral, truth, name, at, negation as negation_kind, negative, all, any, exprs, kind_of, start_of, joined}
+use Rattle.expression_parser.specs.Calm.{calm}
+use Rattle.expression_parser.specs.Reading.{Reader, Level, formula, negated, signed, Down, closing, seen, atom_at, atom_of, unary_at, unary_of, grouping, grouped, product_of, sum_of, compared, comparison_of, negation_at, negation_of, chained, conjunction_of, disjunction_of, implied, expression_of, below}
+use Rattle.expression_parser.proofs.Quiet.{quiet, product_calm, sum_calm, comparison_calm, zero_token, zero_calm}
 
 module _ (places : Bool) (d : Down) (sh : (level : Level) (place : ℕ) → Shrinks (d level place)) where
   atom_shrinks_at : (s : Stream) (x : Expr) (rest : Stream) (f : Front) → atom_at d s f ≡ Ok (x, rest) → size rest ≤ size s

@@ -19,16 +19,16 @@ use Rattle.st_reading.proofs.Shrinking.{shrinks_map}
 use Rattle.st_reading.proofs.Chains.{chain_none, chain_of, chain_step}
 use Rattle.st_reading.proofs.ListSoundness.{listing_mapped}
 use Rattle.st_reading.proofs.ListCompleteness.{Complete, expected_is, items_complete, list_between}
-use Rattle.spl_parser.specs.declared.raw.Operator.{Operator}
-use Rattle.spl_parser.specs.declared.raw.Operator.TheVariants as operators
-use Rattle.spl_parser.specs.declared.sign.Front.{Front}
-use Rattle.spl_parser.specs.declared.sign.Front.TheVariants as fronts
-use Rattle.spl_parser.specs.Signs.{front, product_sign, sum_sign, comparison_sign}
-use Rattle.spl_parser.specs.ExpressionTree.{Expr, Exprs, Kind, node, all, any, exprs, start_of, kind_of}
-use Rattle.spl_parser.specs.Calm.{calm}
-use Rattle.spl_parser.specs.Reading.{Reader, Down, Level, formula, negated, signed, joined, closing, atom_of, unary_of, grouping, grouped, product_of, sum_of, compared, comparison_of, negation_at, negation_of, chained, conjunction_of, disjunction_of, implied, expression_of, below}
-use Rattle.spl_parser.specs.Grammar.{IsAtom, a_numeral, a_truth, a_name, a_place, a_group, IsUnary, minus, plain, Behind, stop, go, IsGrouped, grouping as a_grouping, IsChained, alone, chained as a_chain, IsProduct, IsSum, IsComparison, sum, compare, IsNegation, tilde, straight, IsConjunction, IsDisjunction, IsExpression, disjunction, implication, Inside, SpellsWithin}
-use Rattle.spl_parser.proofs.ExpressionSoundness.{unary_sound, product_sound, negation_sound, conjunction_sound, below_sound}
+use Rattle.expression_parser.specs.declared.raw.Operator.{Operator}
+use Rattle.expression_parser.specs.declared.raw.Operator.TheVariants as operators
+use Rattle.expression_parser.specs.declared.sign.Front.{Front}
+use Rattle.expression_parser.specs.declared.sign.Front.TheVariants as fronts
+use Rattle.expression_parser.specs.Signs.{front, product_sign, sum_sign, comparison_sign}
+use Rattle.expression_parser.specs.ExpressionTree.{Expr, Exprs, Kind, node, all, any, exprs, start_of, kind_of, joined}
+use Rattle.expression_parser.specs.Calm.{calm}
+use Rattle.expression_parser.specs.Reading.{Reader, Down, Level, formula, negated, signed, closing, atom_of, unary_of, grouping, grouped, product_of, sum_of, compared, comparison_of, negation_at, negation_of, chained, conjunction_of, disjunction_of, implied, expression_of, below}
+use Rattle.expression_parser.specs.Grammar.{IsAtom, a_numeral, a_truth, a_name, a_place, a_group, IsUnary, minus, plain, Behind, stop, go, IsGrouped, grouping as a_grouping, IsChained, alone, chained as a_chain, IsProduct, IsSum, IsComparison, sum, compare, IsNegation, tilde, straight, IsConjunction, IsDisjunction, IsExpression, disjunction, implication, Inside, SpellsWithin}
+use Rattle.expression_parser.proofs.ExpressionSoundness.{unary_sound, product_sound, negation_sound, conjunction_sound, below_sound}
 
 -- How tightly a token binds, as an operator behind what stands before it; other tokens bind least.
 unfoldable pub rank : Sign → ℕ

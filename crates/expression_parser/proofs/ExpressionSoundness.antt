@@ -12,14 +12,14 @@ use Rattle.st_reading.specs.Spelling.{Cut, Sound, Both, behind_it, Is, OneName, 
 use Rattle.st_reading.proofs.Streams.{append_stream}
 use Rattle.st_reading.proofs.Soundness.{split, values, taken, sound_bind}
 use Rattle.st_reading.proofs.ListSoundness.{OneMark, one_mark, Given, given, sound_gives, sound_expected, sound_named, Continues, listing_continues, listing_mapped}
-use Rattle.spl_parser.specs.declared.raw.Operator.{Operator}
-use Rattle.spl_parser.specs.declared.raw.Operator.TheVariants as operators
-use Rattle.spl_parser.specs.declared.sign.Front.{Front}
-use Rattle.spl_parser.specs.declared.sign.Front.TheVariants as fronts
-use Rattle.spl_parser.specs.Signs.{front, product_sign, sum_sign, comparison_sign}
-use Rattle.spl_parser.specs.ExpressionTree.{Expr, Exprs, Kind, node, numeral, truth, name, at, negation, negative, all, any, exprs, kind_of, start_of}
-use Rattle.spl_parser.specs.Reading.{Reader, Down, Level, formula, negated, signed, joined, closing, seen, atom_at, atom_of, unary_at, unary_of, grouping, grouped, product_of, sum_of, compared, comparison_of, negation_at, negation_of, chained, conjunction_of, disjunction_of, implied, expression_of, below}
-use Rattle.spl_parser.specs.Grammar.{IsAtom, a_numeral, a_truth, a_name, a_place, a_group, IsUnary, minus, plain, Behind, stop, go, IsGrouped, grouping as a_grouping, IsChained, alone, chained as a_chain, IsProduct, IsSum, IsComparison, sum, compare, IsNegation, tilde, straight, IsConjunction, IsDisjunction, IsExpression, disjunction, implication, Inside}
+use Rattle.expression_parser.specs.declared.raw.Operator.{Operator}
+use Rattle.expression_parser.specs.declared.raw.Operator.TheVariants as operators
+use Rattle.expression_parser.specs.declared.sign.Front.{Front}
+use Rattle.expression_parser.specs.declared.sign.Front.TheVariants as fronts
+use Rattle.expression_parser.specs.Signs.{front, product_sign, sum_sign, comparison_sign}
+use Rattle.expression_parser.specs.ExpressionTree.{Expr, Exprs, Kind, node, numeral, truth, name, at, negation, negative, all, any, exprs, kind_of, start_of, joined}
+use Rattle.expression_parser.specs.Reading.{Reader, Down, Level, formula, negated, signed, closing, seen, atom_at, atom_of, unary_at, unary_of, grouping, grouped, product_of, sum_of, compared, comparison_of, negation_at, negation_of, chained, conjunction_of, disjunction_of, implied, expression_of, below}
+use Rattle.expression_parser.specs.Grammar.{IsAtom, a_numeral, a_truth, a_name, a_place, a_group, IsUnary, minus, plain, Behind, stop, go, IsGrouped, grouping as a_grouping, IsChained, alone, chained as a_chain, IsProduct, IsSum, IsComparison, sum, compare, IsNegation, tilde, straight, IsConjunction, IsDisjunction, IsExpression, disjunction, implication, Inside}
 
 -- OPERATORS, GROUPED FROM THE LEFT
 module _ (op : Sign → Option Operator) (nothing : None ≡ op signs.Nothing) (item : Reader Expr) (L : List Lexeme → Expr → Type 0) (sound : Sound item L) where

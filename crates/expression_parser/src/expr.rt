@@ -5,8 +5,8 @@ ghost use Rattle.st_tokens.specs.Stream.{stream};
 ghost use Rattle.st_reading.specs.declared.fault.ParseFault.TheVariants.{Memory};
 ghost use Rattle.st_reading.specs.Reading.{Reads, size};
 ghost use Rattle.st_reading.specs.Faults.{see};
-ghost use Rattle.spl_parser.specs.ExpressionTree.{expr_view};
-ghost use Rattle.spl_parser.specs.Reading.{joined, below, atom_of, unary_of, product_of, sum_of, comparison_of, negation_of, conjunction_of, disjunction_of, expression_of};
+ghost use Rattle.expression_parser.specs.ExpressionTree.{expr_view, joined};
+ghost use Rattle.expression_parser.specs.Reading.{below, atom_of, unary_of, product_of, sum_of, comparison_of, negation_of, conjunction_of, disjunction_of, expression_of};
 
 use crate::raw::{Operator, RawExpr, RawExprKind};
 use crate::sign::{Front, comparison_operator, front_of, product_operator, sum_operator};

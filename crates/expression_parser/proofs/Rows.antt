@@ -1,9 +1,9 @@
 -- How an expression is seen that holds a list.
 use Rattle.std.proofs.Common.{◌≡◌, Vec, Global, refl, ap, ◌∙◌}
-use Rattle.spl_parser.specs.declared.raw.RawExpr.{RawExpr}
-use Rattle.spl_parser.specs.declared.raw.RawExprKind as raw_kind
-use Rattle.spl_parser.specs.declared.raw.RawExprKind.TheBlock.{hidden-the_row-RawExpr-0, items-the_row-RawExpr, items_hidden-the_row-RawExpr-0}
-use Rattle.spl_parser.specs.ExpressionTree.{one_more, all, any, kind_view, row_view, exprs_view, node}
+use Rattle.expression_parser.specs.declared.raw.RawExpr.{RawExpr}
+use Rattle.expression_parser.specs.declared.raw.RawExprKind as raw_kind
+use Rattle.expression_parser.specs.declared.raw.RawExprKind.TheBlock.{hidden-the_row-RawExpr-0, items-the_row-RawExpr, items_hidden-the_row-RawExpr-0}
+use Rattle.expression_parser.specs.ExpressionTree.{one_more, all, any, kind_view, row_view, exprs_view, node}
 
 row_exprs : (n : _) (row : raw_kind.Row_of-RawExpr n) → row_view row ≡ exprs_view (items-the_row-RawExpr n row)
 row_exprs n raw_kind.end_of-RawExpr = refl

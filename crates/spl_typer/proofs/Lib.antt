@@ -7,6 +7,7 @@ pub mod Changes
 pub mod Ends
 pub mod Apart
 pub mod Finishing
+pub mod Shaping
 pub mod Fitting
 pub mod Grouping
 pub mod Holding

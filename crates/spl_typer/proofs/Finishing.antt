@@ -23,13 +23,13 @@ children_are [] = refl
 children_are (x ∷ xs) = ap (beside (plain_child x)) (children_are xs)
 
 pub apart_behind : (p : raw.Program) (head : Head) (names : List declared.Entry) → heading_of p ≡ Ok (heading head) → names ≡ head.walk.names.items → Apart (entries names)
-apart_behind p head names e f = let k = rw e at (heading_sound p) in rw f k.0.apart
+apart_behind p head names e f = let k = rw e at (heading_sound p) in rw f k.sound.apart
 
 pub program_is : (p : raw.Program) (head : Head) → heading_of p ≡ Ok (heading head)
     → IsProgram head.variables.items (plain (forms.And head.initial)) (plain_children head.processes.items) head.walk.loc head.walk.occ
 program_is p head e =
     let k = rw e at (heading_sound p) in
-    rw (plain-And head.initial, ← children_are head.processes.items) (is_program (heading head) k.0 k.1)
+    rw (plain-And head.initial, ← children_are head.processes.items) (is_program (heading head) k)
 
 pub typing_is : (p : raw.Program) (head : Head) (names : List declared.Entry) (n : Names) → heading_of p ≡ Ok (heading head) → names ≡ head.walk.names.items → names_of (entries names) ≡ Ok n
     → typing p

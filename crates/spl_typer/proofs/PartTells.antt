@@ -152,7 +152,7 @@ mutual
       (λ ys q. finally (Any {A = Pieces}) (Any {A = Pieces}) (other_pieces s other) _ _ (others_tell s other m.2) (λ ns r. (refl, tt))))
   pieces_tell s place (raw.while_do e y) m = ([], refl)
   pieces_tell s place (raw.forever y) m = ([], refl)
-  pieces_tell s place (raw.block ss) m = inside_tells s place ss m
+  pieces_tell s place (raw.block ss) m = then (Any {A = Unit {0}}) (Any {A = Pieces}) (something (some_statement ss) place) _ _ _ (some_tells (some_statement ss) place) (λ u p. row_tells s ss m)
   pieces_tell s place (raw.select ss) m = ([], refl)
   pieces_tell s place (raw.cooperate bs) m = ([], refl)
   pieces_tell s place (raw.group ss) m = ([], refl)
@@ -161,14 +161,14 @@ mutual
   others_tell s raw.no_branch m = (refl, tt)
   others_tell s (raw.branch x) m = piece_tells s x m
 
-  pub inside_tells : (s : List Known) (place : ℕ) (ss : raw.Statements) → RowModest ss → Tells (Any {A = Pieces}) (pieces_inside s place ss) (inside_faults s place ss)
-  inside_tells s place ss m = then (Any {A = Unit {0}}) (Any {A = Pieces}) (something (some_statement ss) place) _ _ _ (some_tells (some_statement ss) place) (λ u p. row_tells s ss m)
-
   pub row_tells : (s : List Known) (ss : raw.Statements) → RowModest ss → Tells (Any {A = Pieces}) (pieces_along s ss) (row_pieces_faults s ss)
   row_tells s raw.no_statements m = (refl, tt)
   row_tells s (raw.followed x xs) m =
       then (Any {A = Pieces}) (Any {A = Pieces}) (pieces_of s x) _ _ _ (piece_tells s x m.0)
       (λ ys p. finally (Any {A = Pieces}) (Any {A = Pieces}) (pieces_along s xs) _ _ (row_tells s xs m.1) (λ zs q. (refl, tt)))
+
+pub inside_tells : (s : List Known) (place : ℕ) (ss : raw.Statements) → RowModest ss → Tells (Any {A = Pieces}) (pieces_inside s place ss) (inside_faults s place ss)
+inside_tells s place ss m = then (Any {A = Unit {0}}) (Any {A = Pieces}) (something (some_statement ss) place) _ _ _ (some_tells (some_statement ss) place) (λ u p. row_tells s ss m)
 
 -- a group's limits
 grouped_tells : (place w : ℕ) (xs : Pieces) → Tells (λ v. weight_or w (grouped place xs w) ≡ v) (grouped place xs w) (faults_of (grouped place xs w))

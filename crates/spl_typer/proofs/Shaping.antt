@@ -92,18 +92,19 @@ mutual
       anyway SomePiece (tested s e) _ (λ f. anyway SomePiece (pieces_of s y) _ (λ ys. anyway SomePiece (other_pieces s other) _ (λ ns. tt)))
   pieces_in_some s place (raw.while_do e y) = tt
   pieces_in_some s place (raw.forever y) = tt
-  pieces_in_some s place (raw.block ss) = inside_pieces s place ss
+  pieces_in_some s place (raw.block ss) =
+      bound (λ u. some_statement ss ≡ true) SomePiece (something (some_statement ss) place) _ (is_some (some_statement ss) place) (λ u e. along_pieces s ss e)
   pieces_in_some s place (raw.select ss) = tt
   pieces_in_some s place (raw.cooperate bs) = tt
   pieces_in_some s place (raw.group ss) = tt
-
-  pub inside_pieces : (s : List Known) (place : ℕ) (ss : raw.Statements) → Holds SomePiece (pieces_inside s place ss)
-  inside_pieces s place ss = bound (λ u. some_statement ss ≡ true) SomePiece (something (some_statement ss) place) _ (is_some (some_statement ss) place) (λ u e. along_pieces s ss e)
 
   along_pieces : (s : List Known) (ss : raw.Statements) → some_statement ss ≡ true → Holds SomePiece (pieces_along s ss)
   along_pieces s raw.no_statements e = absurd (not_true e)
   along_pieces s (raw.followed x xs) e =
       bound SomePiece SomePiece (pieces_of s x) _ (piece_some s x) (λ ys h. anyway SomePiece (pieces_along s xs) _ (λ zs. behind_some ys zs h))
+
+inside_pieces : (s : List Known) (place : ℕ) (ss : raw.Statements) → Holds SomePiece (pieces_inside s place ss)
+inside_pieces s place ss = bound (λ u. some_statement ss ≡ true) SomePiece (something (some_statement ss) place) _ (is_some (some_statement ss) place) (λ u e. along_pieces s ss e)
 
 branched_shaped : (s : List Known) (f : Formula) (y : Statement) (other : raw.Branch) (st : State) → Holds (λ a. ShapeFits a.made) (branched s f y other st)
 branched_shaped s f y raw.no_branch st = tt

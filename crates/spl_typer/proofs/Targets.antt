@@ -131,7 +131,7 @@ mutual
       (λ ys i. bound (PiecesFit vs) (PiecesFit vs) (other_pieces s other) _ (others_fit vs s other h) (λ ns j. ((g, i, j), tt))))
   pieces_in_fit vs s place (raw.while_do e y) h = tt
   pieces_in_fit vs s place (raw.forever y) h = tt
-  pieces_in_fit vs s place (raw.block ss) h = inside_fit vs s place ss h
+  pieces_in_fit vs s place (raw.block ss) h = anyway (PiecesFit vs) (something (some_statement ss) place) _ (λ u. pieces_fit vs s ss h)
   pieces_in_fit vs s place (raw.select ss) h = tt
   pieces_in_fit vs s place (raw.cooperate bs) h = tt
   pieces_in_fit vs s place (raw.group ss) h = tt
@@ -140,11 +140,11 @@ mutual
   others_fit vs s raw.no_branch h = tt
   others_fit vs s (raw.branch x) h = piece_fits vs s x h
 
-  pub inside_fit : (vs : List Variable) (s : List Known) (place : ℕ) (ss : raw.Statements) → Scoped vs s → Holds (PiecesFit vs) (pieces_inside s place ss)
-  inside_fit vs s place ss h = anyway (PiecesFit vs) (something (some_statement ss) place) _ (λ u. pieces_fit vs s ss h)
-
   pieces_fit : (vs : List Variable) (s : List Known) (ss : raw.Statements) → Scoped vs s → Holds (PiecesFit vs) (pieces_along s ss)
   pieces_fit vs s raw.no_statements h = tt
   pieces_fit vs s (raw.followed x xs) h =
       bound (PiecesFit vs) (PiecesFit vs) (pieces_of s x) _ (piece_fits vs s x h)
       (λ ys i. bound (PiecesFit vs) (PiecesFit vs) (pieces_along s xs) _ (pieces_fit vs s xs h) (λ zs j. behind_fit vs ys zs i j))
+
+pub inside_fit : (vs : List Variable) (s : List Known) (place : ℕ) (ss : raw.Statements) → Scoped vs s → Holds (PiecesFit vs) (pieces_inside s place ss)
+inside_fit vs s place ss h = anyway (PiecesFit vs) (something (some_statement ss) place) _ (λ u. pieces_fit vs s ss h)

@@ -1,5 +1,5 @@
 -- A program that the walk gives is a typed program within the limits.
-use Rattle.std.proofs.Common.{◌≡◌, ℕ, zero, suc, ◌+◌, ◌-◌, ◌<◌, ◌≤◌, ◌^◌, Bool, true, false, cond, nat_lt, List, [], ◌∷◌, ◌++◌, length, take, slice_get, Option, Some, None, Result, Ok, Err, refl, ap, sym, ◌∙◌, arith, append-nil, append_assoc}
+use Rattle.std.proofs.Common.{◌≡◌, ℕ, zero, suc, ◌+◌, ◌-◌, ◌<◌, ◌≤◌, ◌^◌, Bool, true, false, cond, nat_lt, nat_le, List, [], ◌∷◌, ◌++◌, length, take, slice_get, Option, Some, None, Result, Ok, Err, refl, ap, sym, ◌∙◌, arith, append-nil, append_assoc}
 use Rattle.std.proofs.lemmas.Bool.{and_parts}
 use Rattle.std.proofs.lemmas.Bool.Decides.{nat_tests}
 use Rattle.std.proofs.lemmas.List.{length-append}
@@ -10,7 +10,7 @@ use Rattle.st_reading.specs.Reading.{Label}
 use Rattle.st_program.specs.Tree.{Statements, Process, process, Processes, no_process, beside, occurrence, action}
 use Rattle.st_program.specs.Member.{Member, here, there}
 use Rattle.st_program.specs.Spots.{Spot, bodies_in, spots_along, spots_inside, all_spots, spot, IsNumbered}
-use Rattle.st_program.specs.Locations.{SomeProcess, InsidePlaced, inside_end, along_end, HeadsFit}
+use Rattle.st_program.specs.Locations.{SomeProcess, InsidePlaced, inside_end, along_end, HeadsFit, BodiesFit, ShapeFits}
 use Rattle.st_program.specs.Types.{TestFits, FormulasFit, ActionFits}
 use Rattle.st_program.specs.Programs.{WellFormed, IsProgram, process_count}
 use Rattle.expression_parser.specs.ExpressionTree.{Expr}

@@ -87,20 +87,19 @@ abbrev mutual
   pieces_faults s place (raw.assign_all ns list es) = assign_faults s ns list es
   pieces_faults s place (raw.await e) = test_faults s e
   pieces_faults s place (raw.conditional e y other) = test_faults s e ++ (piece_faults s y ++ other_faults s other)
-  pieces_faults s place (raw.block ss) = inside_faults s place ss
+  pieces_faults s place (raw.block ss) = unless (some_statement ss) (faults.Limit limits.Statements place) ++ row_pieces_faults s ss
   pieces_faults s place _ = faults.Limit limits.Statements place ∷ []
 
   pub other_faults : List Known → raw.Branch → Faults
   other_faults s raw.no_branch = []
   other_faults s (raw.branch x) = piece_faults s x
 
-  -- what stands between brackets
-  pub inside_faults : List Known → ℕ → raw.Statements → Faults
-  inside_faults s place ss = unless (some_statement ss) (faults.Limit limits.Statements place) ++ row_pieces_faults s ss
-
   pub row_pieces_faults : List Known → raw.Statements → Faults
   row_pieces_faults s raw.no_statements = []
   row_pieces_faults s (raw.followed x xs) = piece_faults s x ++ row_pieces_faults s xs
+
+abbrev pub inside_faults : List Known → ℕ → raw.Statements → Faults
+inside_faults s place ss = unless (some_statement ss) (faults.Limit limits.Statements place) ++ row_pieces_faults s ss
 
 abbrev pub faults_of : {X : Type 0} → Result X TypeFault → Faults
 faults_of (Ok x) = []

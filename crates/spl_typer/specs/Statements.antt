@@ -82,17 +82,17 @@ abbrev mutual
   pieces_in s place (raw.await e) = tested s e >>= λ f. alone (piece_await f)
   pieces_in s place (raw.conditional e y other) =
       tested s e >>= λ f. pieces_of s y >>= λ ys. other_pieces s other >>= λ ns. alone (piece_if f ys ns)
-  pieces_in s place (raw.block ss) = pieces_inside s place ss
+  pieces_in s place (raw.block ss) = something (some_statement ss) place >>= λ _. pieces_along s ss
   pieces_in s place _ = Err (faults.Limit limits.Statements place)
 
   pub other_pieces : List Known → raw.Branch → Result Pieces TypeFault
   other_pieces s raw.no_branch = Ok no_piece
   other_pieces s (raw.branch x) = pieces_of s x
 
-  -- what stands between brackets
-  pub pieces_inside : List Known → ℕ → raw.Statements → Result Pieces TypeFault
-  pieces_inside s place ss = something (some_statement ss) place >>= λ _. pieces_along s ss
-
   pub pieces_along : List Known → raw.Statements → Result Pieces TypeFault
   pieces_along s raw.no_statements = Ok no_piece
   pieces_along s (raw.followed x xs) = pieces_of s x >>= λ ys. pieces_along s xs >>= λ zs. Ok (pieces_behind ys zs)
+
+-- what stands in a group
+abbrev pub pieces_inside : List Known → ℕ → raw.Statements → Result Pieces TypeFault
+pieces_inside s place ss = something (some_statement ss) place >>= λ _. pieces_along s ss

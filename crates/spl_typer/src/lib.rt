@@ -10,6 +10,7 @@ mod numbers;
 mod parts;
 mod paths;
 mod program;
+mod shapes;
 mod statement;
 mod walk;
 

@@ -132,6 +132,9 @@ fn typed_program<'a>(alloc: Global, raw: &RawProgram<'a>) -> Result<Head<'a>, Ty
     if raw.processes.is_empty() {
         return Err(TypeFault::Limit(LimitKind::Processes, 0));
     }
+    if raw.processes.as_slice().len() > 16 {
+        return Err(TypeFault::Limit(LimitKind::Processes, 0));
+    }
     let mut head = Head {
         scope: Vec::new(alloc),
         walk: Walk {

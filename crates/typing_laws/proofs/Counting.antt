@@ -105,7 +105,7 @@ mutual
   action_grows s l place (raw.while_do e y) st to h = wider _ _ 1 0 st _ (omega arith) (omega arith) (statement_grows s None y st h.1 to h.3)
   action_grows s l place (raw.forever y) st to h = wider _ _ 1 0 st _ (omega arith) (omega arith) (statement_grows s None y st (suc place) to h.1)
   action_grows s l place (raw.block ss) st to h = row_grows s (Some l) None ss st (suc place) to h.1
-  action_grows s l place (raw.select ss) st to h = row_grows s (Some l) (Some l) ss st (suc place) to h.1
+  action_grows s l place (raw.select ss) st to h = row_grows s (Some l) (Some l) ss st (suc place) to h.2
   action_grows s l place (raw.cooperate bs) st to h = bodies_grow s bs st (suc place) to h.2
   action_grows s l place (raw.group ss) st to h = record { occ = omega arith; loc = omega arith; plain = λ p. p; among = refl }
 

@@ -13,7 +13,7 @@ use Rattle.expression_parser.specs.declared.raw.Operator.TheVariants as operator
 use Rattle.expression_parser.specs.declared.sign.Front.{Front}
 use Rattle.expression_parser.specs.declared.sign.Front.TheVariants as fronts
 use Rattle.expression_parser.specs.Signs.{front, product_sign, sum_sign, comparison_sign}
-use Rattle.expression_parser.specs.ExpressionTree.{Expr, Exprs, node, Kind, numeral, truth, name, at, negation, negative, all, any, pair, exprs, kind_of, start_of}
+use Rattle.expression_parser.specs.ExpressionTree.{Expr, Exprs, node, Kind, numeral, truth, name, at, negation, negative, all, any, exprs, kind_of, start_of, joined}
 
 abbrev pub Reader : Type 0 → Type 0
 Reader A = Stream → Read Passed A

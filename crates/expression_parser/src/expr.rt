@@ -5,10 +5,10 @@ ghost use Rattle.st_tokens.specs.Stream.{stream};
 ghost use Rattle.st_reading.specs.declared.fault.ParseFault.TheVariants.{Memory};
 ghost use Rattle.st_reading.specs.Reading.{Reads, size};
 ghost use Rattle.st_reading.specs.Faults.{see};
-ghost use Rattle.expression_parser.specs.ExpressionTree.{expr_view, joined};
+ghost use Rattle.expression_parser.specs.ExpressionTree.{expr_view, terms_view, joined};
 ghost use Rattle.expression_parser.specs.Reading.{below, atom_of, unary_of, product_of, sum_of, comparison_of, negation_of, conjunction_of, disjunction_of, expression_of};
 
-use crate::raw::{Operator, RawExpr, RawExprKind};
+use crate::raw::{Operator, RawExpr, RawExprKind, RawTerm};
 use crate::sign::{Front, comparison_operator, front_of, product_operator, sum_operator};
 use st_reading::{
     Mark, ParseFault, advance, ahead, expect, is, name, name_ahead, place_of, refusal,
@@ -37,6 +37,25 @@ fn join<'a>(
             left,
             right,
         },
+    })
+}
+
+/// An expression and the terms or factors behind it, where there are any.
+fn chain_of<'a>(
+    alloc: Global,
+    first: RawExpr<'a>,
+    rest: Vec<RawTerm<'a>>,
+) -> Result<RawExpr<'a>, ParseFault>
+    ensures { MatchResult result (λ e. expr_view e ≡ terms_view (expr_view first.entry) rest.entry.items) (λ e. e ≡ Memory) }
+{
+    if rest.is_empty() {
+        return Ok(first);
+    }
+    let place = first.place;
+    let first = Box::new(alloc, first)?;
+    Ok(RawExpr {
+        place,
+        kind: RawExprKind::Chain { first, rest },
     })
 }
 
@@ -139,14 +158,15 @@ fn product<'a>(
     ensures reads { Reads see expr_view result (stream tokens.new) (product_of places (below places room) (stream tokens.old)) }
     ensures shrinks { size (stream tokens.new) ≤ size (stream tokens.old) }
 {
-    let mut left = unary(alloc, places, room, tokens)?;
+    let first = unary(alloc, places, room, tokens)?;
+    let mut rest = Vec::new(alloc);
     'chain: while let Some(operator) = product_operator(ahead(tokens)) {
         let at = place_of(tokens);
         advance(tokens);
-        let right = unary(alloc, places, room, tokens)?;
-        left = join(alloc, operator, at, left, right)?;
+        let of = unary(alloc, places, room, tokens)?;
+        rest.push(RawTerm { operator, at, of })?;
     }
-    Ok(left)
+    chain_of(alloc, first, rest)
 }
 
 /// Reads the longest sum, at most `room` levels deep. `at` names stand where `places` are asked for.
@@ -161,14 +181,15 @@ pub fn sum<'a>(
     ensures reads { Reads see expr_view result (stream tokens.new) (sum_of places (below places room) (stream tokens.old)) }
     ensures shrinks { size (stream tokens.new) ≤ size (stream tokens.old) }
 {
-    let mut left = product(alloc, places, room, tokens)?;
+    let first = product(alloc, places, room, tokens)?;
+    let mut rest = Vec::new(alloc);
     'chain: while let Some(operator) = sum_operator(ahead(tokens)) {
         let at = place_of(tokens);
         advance(tokens);
-        let right = product(alloc, places, room, tokens)?;
-        left = join(alloc, operator, at, left, right)?;
+        let of = product(alloc, places, room, tokens)?;
+        rest.push(RawTerm { operator, at, of })?;
     }
-    Ok(left)
+    chain_of(alloc, first, rest)
 }
 
 #[cycle(expr)]

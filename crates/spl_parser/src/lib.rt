@@ -12,9 +12,7 @@ mod raw;
 mod sign;
 mod statement;
 
-pub use expression_parser::{
-    LEVELS, Operator, RawExpr, RawExprKind, RawTerm, expression, sum,
-};
+pub use expression_parser::{LEVELS, Operator, RawExpr, RawExprKind, RawTerm, expression, sum};
 pub use program::parse_program;
 pub use raw::{RawBody, RawDeclaration, RawKind, RawProcess, RawProgram, RawStatement};
 pub use st_reading::{ParseFault, RawName};

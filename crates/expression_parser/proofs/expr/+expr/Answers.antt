@@ -9,8 +9,8 @@ use Rattle.st_reading.proofs.Streams.{behind_size}
 use Rattle.st_reading.proofs.Loops.{listing_next, listing_ends, listing_fails}
 use Rattle.expression_parser.specs.declared.raw.Operator.TheVariants as operators
 use Rattle.expression_parser.specs.Signs.{front, product_sign, sum_sign}
-use Rattle.expression_parser.specs.ExpressionTree.{expr_view, kind_view, views, node, negation, negative, joined}
-
+use Rattle.expression_parser.specs.ExpressionTree.{expr_view, kind_view, terms_view, views, node, negation, negative, joined}
+use Rattle.expression_parser.proofs.Rows.{terms_push}
 use Rattle.expression_parser.proofs.Views.{view_all, view_any, view_not, view_negate, reads_made}
 use Rattle.expression_parser.proofs.Loops.{grouping_next, grouping_ends, grouping_fails}
 use Rattle.expression_parser.proofs.Levels.{atom_open, atom_fails, atom_unclosed, implication, implication_fails, negation_is, negation_fails, negative_is, negative_fails}
@@ -95,33 +95,35 @@ unary-returns-in_ok-of-in-Minus-2-clause-reads t c =
     ∙ ap (λ x. Ok (node c.place_of-place.result (negative c.place_of-place.result (expr_view x)), stream c.unary.new.tokens)) (sym c.in_ok-of-in-Minus-2.ensures.ok)
     ∙ ap (λ x. Ok (x, stream c.unary.new.tokens)) (sym (view_negate c.place_of-place.result c.place_of-place.result c.in_ok-of-in-Minus-2.of))
 
-pub product-returns-in_err-right-clause-reads : goal.product-returns-in_err-right-clause-reads
-product-returns-in_err-right-clause-reads t c =
-    let p = err_from_is_err_and c.from_residual-in_err-right.result c.from_residual-in_err-right.ensures.1 in
-    rw (p.1, p.2) (grouping_fails product_sign _ _ _ _ _ _ _ _ c.chain.invariant (c.in-Some.ensures ∙ ap product_sign c.ahead.ensures) refl c.advance.ensures c.in_err-right.ensures.reads)
+pub product-returns-in_err-of-clause-reads : goal.product-returns-in_err-of-clause-reads
+product-returns-in_err-of-clause-reads t c =
+    let p = err_from_is_err_and c.from_residual-in_err-of.result c.from_residual-in_err-of.ensures.1 in
+    rw (p.1, p.2) (grouping_fails product_sign _ _ _ _ _ _ _ _ c.chain.invariant (c.in-Some.ensures ∙ ap product_sign c.ahead.ensures) refl c.advance.ensures c.in_err-of.ensures.reads)
 
 pub product-chain-preserved : goal.product-chain-preserved
 product-chain-preserved t c =
-    grouping_next product_sign _ _ _ _ _ _ _ _ _ _ c.chain.invariant (c.in-Some.ensures ∙ ap product_sign c.ahead.ensures) refl c.advance.ensures c.in_ok-right.ensures.reads c.in_ok-right.ensures.shrinks
-    (c.in_ok-left-2.ensures ∙ ap (λ p. joined c.in-Some.operator p (expr_view c.chain.left) (expr_view c.in_ok-right.right)) c.place_of-at.ensures)
+    grouping_next product_sign _ _ _ _ _ _ _ _ _ _ c.chain.invariant (c.in-Some.ensures ∙ ap product_sign c.ahead.ensures) refl c.advance.ensures c.in_ok-of.ensures.reads c.in_ok-of.ensures.shrinks
+    (ap (terms_view (expr_view c.in_ok-first.first)) c.in_ok-push.ensures.items ∙ terms_push (expr_view c.in_ok-first.first) c.chain.rest.items _
+    ∙ ap (λ p. joined c.in-Some.operator p (terms_view (expr_view c.in_ok-first.first) c.chain.rest.items) (expr_view c.in_ok-of.of)) c.place_of-at.ensures)
 
 pub product-returns-clause-reads : goal.product-returns-clause-reads
 product-returns-clause-reads t c =
-    grouping_ends product_sign _ _ _ _ _ c.chain.invariant (c.in_default.ensures ∙ ap product_sign c.ahead.ensures) refl
+    reads_made _ _ _ _ c.chain_of.ensures (grouping_ends product_sign _ _ _ _ _ c.chain.invariant (c.in_default.ensures ∙ ap product_sign c.ahead.ensures) refl)
 
-pub sum-returns-in_err-right-clause-reads : goal.sum-returns-in_err-right-clause-reads
-sum-returns-in_err-right-clause-reads t c =
-    let p = err_from_is_err_and c.from_residual-in_err-right.result c.from_residual-in_err-right.ensures.1 in
-    rw (p.1, p.2) (grouping_fails sum_sign _ _ _ _ _ _ _ _ c.chain.invariant (c.in-Some.ensures ∙ ap sum_sign c.ahead.ensures) refl c.advance.ensures c.in_err-right.ensures.reads)
+pub sum-returns-in_err-of-clause-reads : goal.sum-returns-in_err-of-clause-reads
+sum-returns-in_err-of-clause-reads t c =
+    let p = err_from_is_err_and c.from_residual-in_err-of.result c.from_residual-in_err-of.ensures.1 in
+    rw (p.1, p.2) (grouping_fails sum_sign _ _ _ _ _ _ _ _ c.chain.invariant (c.in-Some.ensures ∙ ap sum_sign c.ahead.ensures) refl c.advance.ensures c.in_err-of.ensures.reads)
 
 pub sum-chain-preserved : goal.sum-chain-preserved
 sum-chain-preserved t c =
-    grouping_next sum_sign _ _ _ _ _ _ _ _ _ _ c.chain.invariant (c.in-Some.ensures ∙ ap sum_sign c.ahead.ensures) refl c.advance.ensures c.in_ok-right.ensures.reads c.in_ok-right.ensures.shrinks
-    (c.in_ok-left-2.ensures ∙ ap (λ p. joined c.in-Some.operator p (expr_view c.chain.left) (expr_view c.in_ok-right.right)) c.place_of-at.ensures)
+    grouping_next sum_sign _ _ _ _ _ _ _ _ _ _ c.chain.invariant (c.in-Some.ensures ∙ ap sum_sign c.ahead.ensures) refl c.advance.ensures c.in_ok-of.ensures.reads c.in_ok-of.ensures.shrinks
+    (ap (terms_view (expr_view c.in_ok-first.first)) c.in_ok-push.ensures.items ∙ terms_push (expr_view c.in_ok-first.first) c.chain.rest.items _
+    ∙ ap (λ p. joined c.in-Some.operator p (terms_view (expr_view c.in_ok-first.first) c.chain.rest.items) (expr_view c.in_ok-of.of)) c.place_of-at.ensures)
 
 pub sum-returns-clause-reads : goal.sum-returns-clause-reads
 sum-returns-clause-reads t c =
-    grouping_ends sum_sign _ _ _ _ _ c.chain.invariant (c.in_default.ensures ∙ ap sum_sign c.ahead.ensures) refl
+    reads_made _ _ _ _ c.chain_of.ensures (grouping_ends sum_sign _ _ _ _ _ c.chain.invariant (c.in_default.ensures ∙ ap sum_sign c.ahead.ensures) refl)
 
 pub atom-returns-in_ok-name-in-At-clause-shrinks : goal.atom-returns-in_ok-name-in-At-clause-shrinks
 atom-returns-in_ok-name-in-At-clause-shrinks t c =

@@ -4,7 +4,7 @@ use Rattle.st_reading.specs.declared.mark.Mark.TheVariants as marks
 use Rattle.st_reading.specs.Reading.{size, gives, only, listing}
 use Rattle.st_reading.proofs.Chains.{Running}
 use Rattle.expression_parser.specs.Signs.{product_sign, sum_sign}
-use Rattle.expression_parser.specs.ExpressionTree.{expr_view, views, exprs, node, all, any}
+use Rattle.expression_parser.specs.ExpressionTree.{expr_view, terms_view, views, exprs, node, all, any}
 use Rattle.expression_parser.specs.Reading.{below, grouping, unary_of, product_of, sum_of, negation_of, conjunction_of, disjunction_of}
 use Rattle.expression_parser.proofs.expr.+expr.Given as goal
 
@@ -36,13 +36,13 @@ abbrev pub decreases-expression : goal.decreases-expression
 decreases-expression l = 16 * l.room + 8
 
 abbrev pub invariant-product-chain : goal.invariant-product-chain
-invariant-product-chain l = Running product_sign (grouping (unary_of l.places (below l.places l.room))) gives (expr_view l.left) (stream l.tokens) (stream l.fn.tokens) (product_of l.places (below l.places l.room) (stream l.fn.tokens))
+invariant-product-chain l = Running product_sign (grouping (unary_of l.places (below l.places l.room))) gives (terms_view (expr_view l.first) l.rest.items) (stream l.tokens) (stream l.fn.tokens) (product_of l.places (below l.places l.room) (stream l.fn.tokens))
 
 abbrev pub decreases-product-chain : goal.decreases-product-chain
 decreases-product-chain l = size (stream l.tokens)
 
 abbrev pub invariant-sum-chain : goal.invariant-sum-chain
-invariant-sum-chain l = Running sum_sign (grouping (product_of l.places (below l.places l.room))) gives (expr_view l.left) (stream l.tokens) (stream l.fn.tokens) (sum_of l.places (below l.places l.room) (stream l.fn.tokens))
+invariant-sum-chain l = Running sum_sign (grouping (product_of l.places (below l.places l.room))) gives (terms_view (expr_view l.first) l.rest.items) (stream l.tokens) (stream l.fn.tokens) (sum_of l.places (below l.places l.room) (stream l.fn.tokens))
 
 abbrev pub decreases-sum-chain : goal.decreases-sum-chain
 decreases-sum-chain l = size (stream l.tokens)

@@ -4,7 +4,7 @@ use Rattle.std.proofs.lemmas.List.{drop_more}
 use Rattle.std.proofs.Math.ListN.{drop_of_length-le}
 use Rattle.expression_parser.specs.declared.raw.Operator.{Operator}
 use Rattle.expression_parser.specs.declared.raw.RawTerm.{RawTerm}
-use Rattle.expression_parser.specs.ExpressionTree.{Expr, node, kind_of, start_of, joined, expr_view, terms_view}
+use Rattle.expression_parser.specs.ExpressionTree.{Expr, Kind, node, kind_of, start_of, joined, expr_view, terms_view}
 use Rattle.st_program.specs.Tree.{Term, truth}
 use Rattle.expression_typer.specs.declared.fault.TypeFault.{TypeFault}
 use Rattle.expression_typer.specs.Answers.{◌>>=◌}
@@ -20,14 +20,14 @@ then_ok : {A : Type 0} (r : Result A TypeFault) → (r >>= λ x. Ok x) ≡ r
 then_ok (Ok x) = refl
 then_ok (Err e) = refl
 
-pub pair_is : (s : Names) (o : Operator) (at : ℕ) (l r : Expr) → typed_by s (joined o at l r) ≡ (typed_by s l >>= λ x. paired s o at (start_of l) x r)
+pair_is : (s : Names) (o : Operator) (at : ℕ) (l r : Expr) → typed_by s (joined o at l r) ≡ (typed_by s l >>= λ x. paired s o at (start_of l) x r)
 pair_is s o at l r = go (is_implication o) (typed_by s l)
   where
     go : (b : Bool) (w : Result Term TypeFault)
         → cond b (w >>= λ x. as_truth (start_of l) x >>= λ f. typed_by s r >>= λ y. as_truth (start_of r) y >>= λ g. Ok (truth (implied f g)))
-            (w >>= λ x. as_number (start_of l) x >>= λ f. typed_by s r >>= λ y. as_number (start_of r) y >>= λ g. combine o at f g)
+        (w >>= λ x. as_number (start_of l) x >>= λ f. typed_by s r >>= λ y. as_number (start_of r) y >>= λ g. combine o at f g)
         ≡ (w >>= λ x. cond b (as_truth (start_of l) x >>= λ f. typed_by s r >>= λ y. as_truth (start_of r) y >>= λ g. Ok (truth (implied f g)))
-            (as_number (start_of l) x >>= λ f. typed_by s r >>= λ y. as_number (start_of r) y >>= λ g. combine o at f g))
+        (as_number (start_of l) x >>= λ f. typed_by s r >>= λ y. as_number (start_of r) y >>= λ g. combine o at f g))
     go true (Ok x) = refl
     go false (Ok x) = refl
     go true (Err f) = refl
@@ -45,6 +45,10 @@ kind_is s (node place k) = refl
 
 pub chain_typed : (s : Names) (e : Expr) (ts : List RawTerm) → kind_typed_by s (kind_of (terms_view e ts)) ≡ (typed_by s e >>= λ x. chained s (start_of e) x ts)
 chain_typed s e ts = kind_is s (terms_view e ts) ∙ chain_is s e ts
+
+-- what a chain gives, whose first expression gives a value
+pub chain_given : (s : Names) (k : Kind) (e : Expr) (ts : List RawTerm) (x : Term) → k ≡ kind_of (terms_view e ts) → typed_by s e ≡ Ok x → kind_typed_by s k ≡ chained s (start_of e) x ts
+chain_given s k e ts x h g = rw (h, chain_typed s e ts, g) refl
 
 pub ruleset chains = (chain_typed)
 

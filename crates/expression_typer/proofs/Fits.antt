@@ -1,20 +1,18 @@
 -- Forms that the rules give use each variable by its type, and have small numbers.
-use Rattle.std.proofs.Common.{◌≡◌, ℕ, zero, suc, ◌+◌, ◌^◌, ◌<◌, ◌≤◌, Bool, true, false, cond, List, [], ◌∷◌, map, refl, ap, sym, ◌∙◌, arith, ℤ, pos, negsuc, ◌+ℤ◌, ◌*ℤ◌, unsigned_abs, slice_get, Option, Some, None, Result, Ok, Err}
+use Rattle.std.proofs.Common.{◌≡◌, ℕ, zero, suc, ◌+◌, ◌^◌, ◌<◌, Bool, true, false, cond, List, [], ◌∷◌, map, refl, sym, arith, ℤ, pos, negsuc, ◌+ℤ◌, ◌*ℤ◌, Option, Some, None, Err}
 use Rattle.std.specs.Prelude.{neg_ℤ}
-use Rattle.st_linear.specs.Linear.{Linear, AreEntries, joined, with_entry, sum_of, scaled, scaled_entries, number, variable, fitting}
+use Rattle.st_linear.specs.Linear.{Linear, AreEntries, joined, with_entry, sum_of, scaled, scaled_entries, number, fitting}
 use Rattle.st_linear.specs.Simple.{negated}
 use Rattle.st_linear.proofs.Joined.{joined-ind, AreEntries-joined}
 use Rattle.st_linear.proofs.Fitting.{AreEntries-scaled, fitting-is}
 use Rattle.st_linear.proofs.Dividing.{AreEntries-negated}
 use Rattle.st_form.specs.declared.variables.Variable.{Variable}
 use Rattle.st_program.specs.Types.{type_of, EntriesFit, LinearFits}
-use Rattle.expression_typer.specs.declared.fault.TypeFault.{TypeFault}
 use Rattle.expression_typer.specs.declared.fault.TypeFault.TheVariants as faults
-use Rattle.expression_typer.specs.Answers.{◌>>=◌}
 use Rattle.expression_typer.specs.Written.{is_writable, limited, fitted, fitted_to, difference, lowered, is_constant, product}
 use Rattle.expression_typer.specs.Rules.{minus, less_one}
 use Rattle.expression_typer.proofs.Sizes.{Within, Bounded, bounded_written, bounded_minus, bounded_one, bounded_sum}
-use Rattle.expression_typer.proofs.Holding.{Holds, bound, anyway, if_ok}
+use Rattle.expression_typer.proofs.Holding.{Holds, bound, if_ok}
 
 -- each entry is of an integer variable
 abbrev pub Of : List Variable → List (ℕ × ℤ) → Type 0

@@ -1,5 +1,5 @@
 -- Numerals and variables as forms.
-use Rattle.std.proofs.Common.{◌≡◌, ℕ, ◌^◌, ◌≤◌, true, false, List, refl, arith, pos, Option, Some}
+use Rattle.std.proofs.Common.{◌≡◌, ℕ, true, false, List, refl, pos, Some}
 use Rattle.st_linear.specs.Linear.{Linear, AreEntries}
 use Rattle.st_linear.specs.Linear as linear
 use Rattle.st_form.specs.declared.variables.Variable.{Variable}
@@ -7,7 +7,7 @@ use Rattle.st_program.specs.Groups.{is_written_number}
 use Rattle.st_program.specs.Types.{type_of}
 use Rattle.expression_typer.specs.Written.{is_writable, limited}
 use Rattle.expression_typer.proofs.Holding.{Holds, if_ok}
-use Rattle.expression_typer.proofs.Fits.{IsOf, IsWord, of_number}
+use Rattle.expression_typer.proofs.Fits.{IsWord, of_number}
 
 pub numeral_word : (vs : List Variable) (n : ℕ) → Holds (IsWord vs) (limited 0 (linear.number (pos n)))
 numeral_word vs n = if_ok (IsWord vs) (is_writable (linear.number (pos n))) (linear.number (pos n)) _ (λ e. record { form = of_number vs (pos n); written = e })

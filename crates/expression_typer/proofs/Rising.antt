@@ -1,11 +1,10 @@
 -- The faults of an expression come in text order, so the first of them is the least.
-use Rattle.std.proofs.Common.{◌≡◌, ℕ, suc, ◌+◌, ◌<◌, ◌≤◌, Bool, true, false, cond, List, [], ◌∷◌, ◌++◌, refl, ap, sym, ◌∙◌, arith, negsuc, Option, Some, None, Result, Ok, Err, append-nil, append_assoc, ◌⊎◌, inl, inr}
+use Rattle.std.proofs.Common.{◌≡◌, ℕ, suc, ◌<◌, ◌≤◌, Bool, true, false, cond, List, [], ◌∷◌, ◌++◌, refl, arith, negsuc, Option, Some, None, Result, Ok, Err, append-nil, append_assoc, inl, inr}
 use Rattle.std.specs.Option.{option_map}
 use Rattle.st_linear.specs.Linear.{Linear, scaled}
 use Rattle.st_program.specs.Tree.{Term, number, truth}
 use Rattle.expression_parser.specs.declared.raw.Operator.{Operator}
 use Rattle.expression_parser.specs.declared.raw.Operator.TheVariants as operators
-use Rattle.st_reading.specs.Reading.{Label}
 use Rattle.expression_parser.specs.ExpressionTree.{Expr, Kind, Exprs, start_of}
 use Rattle.expression_parser.specs.ExpressionTree as raw
 use Rattle.expression_typer.specs.declared.fault.TypeFault.{TypeFault}
@@ -13,9 +12,9 @@ use Rattle.expression_typer.specs.declared.fault.TypeFault.TheVariants as faults
 use Rattle.expression_typer.specs.Scope.{Names}
 use Rattle.expression_typer.specs.Written.{is_writable}
 use Rattle.expression_typer.specs.Typing.{typed_by, is_implication}
-use Rattle.expression_typer.specs.Rules.{number_in, truth_in, not_number, not_truth, unknown, too_large, not_linear, operator_faults, form_of, meaning_by, faults_by, kind_faults_by, all_faults_by}
+use Rattle.expression_typer.specs.Rules.{number_in, not_number, not_truth, unknown, too_large, not_linear, operator_faults, form_of, meaning_by, faults_by, kind_faults_by, all_faults_by}
 use Rattle.expression_typer.specs.Told.{Told, IsWritten, IsModest, IsModestKind, AreModest}
-use Rattle.expression_typer.specs.Placed.{place, rule, Before, AllBehind, IsLeast, IsPlaced, IsPlacedKind, ArePlaced}
+use Rattle.expression_typer.specs.Placed.{place, AllBehind, IsLeast, IsPlaced, IsPlacedKind, ArePlaced}
 use Rattle.expression_typer.proofs.Tells.{told_by}
 
 abbrev pub Rising : ℕ → ℕ → List TypeFault → Type 0

@@ -1,5 +1,5 @@
 -- The walk over an expression tells the first broken rule.
-use Rattle.std.proofs.Common.{◌≡◌, ℕ, ◌≤◌, ◌^◌, Bool, true, false, cond, List, [], ◌∷◌, ◌++◌, refl, ap, sym, ◌∙◌, arith, ℤ, pos, negsuc, Option, Some, None, Result, Ok, Err, append-nil}
+use Rattle.std.proofs.Common.{◌≡◌, ℕ, ◌≤◌, ◌^◌, Bool, true, false, cond, List, [], ◌∷◌, ◌++◌, refl, ap, arith, pos, negsuc, Option, Some, None, Result, Ok, Err, append-nil}
 use Rattle.std.proofs.lemmas.Bool.Decides.{nat_tests}
 use Rattle.std.specs.Option.{option_map}
 use Rattle.st_linear.specs.Linear.{Linear, sum_of, scaled, variable}
@@ -9,19 +9,18 @@ use Rattle.st_form.specs.Formula.{Formula, Formulas, truth_value, row, equal, bo
 use Rattle.st_program.specs.Tree.{Term, number, truth}
 use Rattle.expression_parser.specs.declared.raw.Operator.{Operator}
 use Rattle.expression_parser.specs.declared.raw.Operator.TheVariants as operators
-use Rattle.st_reading.specs.Reading.{Label}
 use Rattle.expression_parser.specs.ExpressionTree.{Expr, Kind, Exprs, start_of}
 use Rattle.expression_parser.specs.ExpressionTree as raw
 use Rattle.expression_typer.specs.declared.fault.TypeFault.{TypeFault}
 use Rattle.expression_typer.specs.declared.fault.TypeFault.TheVariants as faults
 use Rattle.expression_typer.specs.Answers.{◌>>=◌}
 use Rattle.expression_typer.specs.Scope.{Known, Names, only}
-use Rattle.st_program.specs.Groups.{is_written_number, is_written}
-use Rattle.expression_typer.specs.Written.{is_writable, is_constant, limited, fitted}
+use Rattle.st_program.specs.Groups.{is_written_number}
+use Rattle.expression_typer.specs.Written.{is_writable, is_constant, limited}
 use Rattle.expression_typer.specs.Typing.{typed, typed_by, kind_typed_by, all_typed_by, as_number, as_truth, combine, implied, is_implication, named_by, placed_by, variable_term}
 use Rattle.expression_typer.specs.Rules.{number_in, truth_in, both, not_number, not_truth, unknown, too_large, not_linear, operator_faults, form_of, if_written, combined, meaning, meaning_by, kind_meaning_by, meanings_by, faults_in, faults_by, kind_faults_by, all_faults_by}
 use Rattle.expression_typer.specs.Told.{Told, IsWritten, IsModest, IsModestKind, AreModest}
-use Rattle.expression_typer.proofs.Sizes.{Bounded, fitted_is, difference_is, lowered_is}
+use Rattle.expression_typer.proofs.Sizes.{Bounded, difference_is, lowered_is}
 
 abbrev Any : {A : Type 0} → A → Type 0
 Any x = Unit {0}

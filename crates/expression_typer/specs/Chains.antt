@@ -1,6 +1,6 @@
 -- A chain of terms or factors, typed from the left. Nobody has to believe this page: that it gives what Typing gives of the same
 -- tree, grouped from the left, is a lemma.
-use Rattle.std.specs.Prelude.{ℕ, if◌then◌else◌, List, [], ◌∷◌, Result, Ok, Err}
+use Rattle.std.specs.Prelude.{ℕ, if◌then◌else◌, List, [], ◌∷◌, Result, Ok}
 use Rattle.expression_parser.specs.declared.raw.Operator.{Operator}
 use Rattle.expression_parser.specs.declared.raw.RawTerm.{RawTerm}
 use Rattle.expression_parser.specs.ExpressionTree.{Expr, expr_view, start_of}

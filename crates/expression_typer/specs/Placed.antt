@@ -1,6 +1,5 @@
 -- Places in text order.
-use Rattle.std.specs.Prelude.{◌≡◌, ℕ, suc, ◌<◌, ◌≤◌, ◌⊎◌, List, [], ◌∷◌, Result, Ok, Err}
-use Rattle.st_reading.specs.Reading.{Label}
+use Rattle.std.specs.Prelude.{◌≡◌, ℕ, suc, ◌<◌, ◌≤◌, ◌⊎◌, List, [], ◌∷◌}
 use Rattle.expression_parser.specs.ExpressionTree.{Expr, Kind, Exprs, start_of}
 use Rattle.expression_parser.specs.ExpressionTree as raw
 use Rattle.expression_typer.specs.declared.fault.TypeFault.{TypeFault}

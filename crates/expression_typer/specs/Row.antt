@@ -1,5 +1,5 @@
 -- Formulas that the code has put together, in front of what the rules still give.
-use Rattle.std.specs.Prelude.{List, [], ◌∷◌, Result, Ok, Err}
+use Rattle.std.specs.Prelude.{List, [], ◌∷◌, Result, Ok}
 use Rattle.st_form.specs.Formula.{Formulas, more}
 use Rattle.st_form.specs.Plain.{plain}
 use Rattle.st_form.specs.declared.formulas.Form.{Form}

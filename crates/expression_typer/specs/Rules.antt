@@ -1,5 +1,5 @@
 -- The rules of typing, each by the places at which it is broken, in text order.
-use Rattle.std.specs.Prelude.{ℕ, Bool, true, false, if◌then◌else◌, List, [], ◌∷◌, ◌++◌, pos, negsuc, Option, Some, None, option_and_then}
+use Rattle.std.specs.Prelude.{ℕ, if◌then◌else◌, List, [], ◌∷◌, ◌++◌, pos, negsuc, Option, Some, None}
 use Rattle.std.specs.Option.{option_map}
 use Rattle.st_linear.specs.Linear.{Linear, sum_of, scaled, variable}
 use Rattle.st_linear.specs.Linear as linear
@@ -8,7 +8,6 @@ use Rattle.st_form.specs.Formula as forms
 use Rattle.st_form.specs.Formula.{Formula, Formulas, truth_value, row, equal, bool_var, negation, every, some, none, more}
 use Rattle.expression_parser.specs.declared.raw.Operator.{Operator}
 use Rattle.expression_parser.specs.declared.raw.Operator.TheVariants as operators
-use Rattle.st_reading.specs.Reading.{Label}
 use Rattle.expression_parser.specs.ExpressionTree.{Expr, Kind, Exprs, start_of}
 use Rattle.expression_parser.specs.ExpressionTree as raw
 use Rattle.expression_typer.specs.declared.fault.TypeFault.{TypeFault}

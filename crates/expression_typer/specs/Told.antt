@@ -1,6 +1,5 @@
 -- What a walk answers, against the list of all broken rules and the meaning.
-use Rattle.std.specs.Prelude.{◌≡◌, ℕ, ◌≤◌, ◌^◌, Bool, true, List, [], ◌∷◌, Option, Some, None, Result, Ok, Err}
-use Rattle.st_linear.specs.Linear.{Linear}
+use Rattle.std.specs.Prelude.{◌≡◌, ◌≤◌, ◌^◌, true, List, [], ◌∷◌, Option, Some, None, Result, Ok, Err}
 use Rattle.st_program.specs.Tree.{Term, number, truth}
 use Rattle.expression_parser.specs.ExpressionTree.{Expr, Kind, Exprs}
 use Rattle.expression_parser.specs.ExpressionTree as raw

@@ -1,5 +1,5 @@
 -- The typing of expressions, in text order, with the first fault that is met.
-use Rattle.std.specs.Prelude.{ℕ, Bool, true, false, if◌then◌else◌, List, [], ◌∷◌, pos, negsuc, Option, Some, None, Result, Ok, Err}
+use Rattle.std.specs.Prelude.{ℕ, Bool, true, false, if◌then◌else◌, List, pos, negsuc, Option, Some, None, Result, Ok, Err}
 use Rattle.st_linear.specs.Linear.{Linear, sum_of, scaled, variable}
 use Rattle.st_linear.specs.Linear as linear
 use Rattle.st_linear.specs.Simple.{negated}

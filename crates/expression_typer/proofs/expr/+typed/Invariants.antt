@@ -12,4 +12,4 @@ invariant-all_typed_by-loop-item g l =
 
 abbrev pub invariant-chained-loop-term : goal.invariant-chained-loop-term
 invariant-chained-loop-term g l =
-    chained (g.N.Naming.told l.names) l.place (plain_term l.value) (drop l.term-index l.rest) ≡ chained (g.N.Naming.told l.names) l.place (plain_term l.first) l.rest
+    chained (g.N.Naming.told l.names) l.place (plain_term l.value) (drop l.term-index l.rest) ≡ chained (g.N.Naming.told l.names) l.place (plain_term l.fn.first) l.rest

@@ -111,7 +111,7 @@ fn combine(alloc: Global, operator: Operator, at: u64, f: &Lin, g: &Lin) -> Resu
 
 /// The meaning of an expression, or the first rule that is broken in it.
 #[cycle(typed)]
-#[tactic(auto, using(st_form::proofs::Nodes::nodes, spl_parser::proofs::Rows::kinds))]
+#[tactic(auto, using(st_form::proofs::Nodes::nodes, expression_parser::proofs::Rows::kinds))]
 pub fn typed_by<N: Naming>(alloc: Global, names: &N, e: &RawExpr<'_>) -> Result<Value, TypeFault>
     ensures { Gives plain_term result (typed_by (N.told names.now) (expr_view e.now)) }
 {

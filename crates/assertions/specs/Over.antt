@@ -1,6 +1,6 @@
 -- What a formula of a proof speaks of: a program's variables, each by its type, and locations below the program's, with
 -- numbers that are small.
-use Rattle.std.specs.Prelude.{◌≡◌, ℕ, suc, ◌^◌, ◌<◌, Bool, true, List, Some, Ok, ⊤}
+use Rattle.std.specs.Prelude.{◌≡◌, ℕ, suc, ◌^◌, ◌<◌, true, List, Some, Ok, ⊤}
 use Rattle.st_tokens.specs.Stream.{Stream}
 use Rattle.st_linear.specs.Linear.{Linear}
 use Rattle.st_form.specs.Formula.{Formula, Formulas, truth_value, row, equal, bool_var, at, negation, every, some, none, more}

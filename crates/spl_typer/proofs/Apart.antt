@@ -1,5 +1,5 @@
 -- No name is declared twice.
-use Rattle.std.proofs.Common.{◌≡◌, ℕ, Bool, true, false, cond, nat_lt, nat_le, List, [], ◌∷◌, ◌++◌, length, map, refl, ap, sym, ◌∙◌, Option, Some, None, Result, Ok, Err, append-nil, append_assoc}
+use Rattle.std.proofs.Common.{◌≡◌, ℕ, Bool, true, false, cond, List, [], ◌∷◌, ◌++◌, refl, ap, sym, ◌∙◌, Option, Result, Ok, Err, append-nil, append_assoc}
 use Rattle.std.specs.Str.{bytes_eq}
 use Rattle.std.proofs.lemmas.List.{map-append}
 use Rattle.std.proofs.lemmas.Slice.Eq.{bytes_eq-Decides}
@@ -9,11 +9,10 @@ use Rattle.expression_typer.specs.declared.fault.TypeFault.{TypeFault}
 use Rattle.expression_typer.specs.declared.fault.TypeFault.TheVariants as faults
 use Rattle.spl_typer.specs.declared.walk.Mark.{Mark}
 use Rattle.spl_typer.specs.declared.walk.Mark.TheVariants as marks
-use Rattle.expression_typer.specs.Answers.{◌>>=◌}
 use Rattle.spl_typer.specs.Walk.{Entry, State, is_declared, with_name, declared_as}
 use Rattle.expression_typer.specs.Naming.{is_text}
 use Rattle.spl_typer.specs.Programs.{entry_names, Apart, Variables, Labels, text_of, with_variable, with_label, variables_of, labels_of}
-use Rattle.expression_typer.proofs.Holding.{Holds, bound, unless_err, if_ok}
+use Rattle.expression_typer.proofs.Holding.{Holds, bound, if_ok}
 
 abbrev Texts : Type 0
 Texts = List (List ℕ)

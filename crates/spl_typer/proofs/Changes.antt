@@ -1,5 +1,5 @@
 -- The changes of a multiple assignment, one by one.
-use Rattle.std.proofs.Common.{◌≡◌, ℕ, ◌+◌, ◌<◌, ◌≤◌, List, [], ◌∷◌, ◌++◌, length, drop, get_or, map, refl, ap, ◌∙◌, sym, Result, Ok, Err}
+use Rattle.std.proofs.Common.{◌≡◌, ℕ, ◌+◌, ◌<◌, ◌≤◌, List, [], ◌∷◌, ◌++◌, length, drop, get_or, map, refl, ap, ◌∙◌, sym, Result, Ok}
 use Rattle.std.proofs.lemmas.List.{drop_more, map_push}
 use Rattle.std.proofs.Math.ListN.{drop_of_length-le}
 use Rattle.st_program.specs.Tree.{Term}
@@ -9,7 +9,6 @@ use Rattle.expression_parser.specs.declared.raw.RawExpr.{RawExpr}
 use Rattle.expression_parser.specs.ExpressionTree.{Expr, expr_view}
 use Rattle.expression_typer.specs.declared.scope.Known as declared
 use Rattle.expression_typer.specs.declared.fault.TypeFault.{TypeFault}
-use Rattle.expression_typer.specs.Answers.{◌>>=◌}
 use Rattle.expression_typer.specs.Scope.{Known, known_view, scope_view}
 use Rattle.spl_typer.specs.Statements.{right_side, changes}
 

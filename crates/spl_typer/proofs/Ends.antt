@@ -1,5 +1,5 @@
 -- What is left behind a process.
-use Rattle.std.proofs.Common.{◌≡◌, ℕ, List, [], ◌∷◌, ◌++◌, length, take, map, refl, ap, sym, ◌∙◌, Result, Ok, Err}
+use Rattle.std.proofs.Common.{◌≡◌, ℕ, List, [], ◌∷◌, ◌++◌, length, take, map, ap, sym, ◌∙◌, Result, Ok}
 use Rattle.std.proofs.lemmas.List.{map_push, take-map, length-map}
 use Rattle.st_form.specs.Formula.{Formula}
 use Rattle.st_form.specs.declared.variables.Variable.{Variable}
@@ -14,7 +14,7 @@ use Rattle.spl_typer.specs.Walk.{State, Made, declared_as}
 use Rattle.spl_parser.specs.ProgramTree.{Declaration}
 use Rattle.spl_parser.specs.ProgramTree as raw
 use Rattle.spl_typer.specs.Walking.{bodied}
-use Rattle.spl_typer.specs.Programs.{Heading, heading, process_in, declarations_in, with_state, with_process}
+use Rattle.spl_typer.specs.Programs.{Heading, process_in, declarations_in, with_state, with_process}
 
 abbrev headed : List Known → State → List Variable → List Formula → List Process → Result Heading TypeFault
 headed s st vs fs cs = Ok (record { scope = s; state = st; variables = vs; initial = fs; processes = cs })

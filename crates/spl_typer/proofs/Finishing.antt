@@ -1,21 +1,18 @@
 -- What is left of the walk is a program with its names.
-use Rattle.std.proofs.Common.{◌≡◌, ℕ, List, [], ◌∷◌, map, refl, ap, sym, ◌∙◌, Result, Ok, Err, Vec, Global}
-use Rattle.st_form.specs.Formula.{every, formulas}
+use Rattle.std.proofs.Common.{◌≡◌, List, [], ◌∷◌, map, refl, ap, Ok}
 use Rattle.st_form.specs.Plain.{plain}
 use Rattle.st_form.specs.declared.formulas.Form as forms
 use Rattle.st_form.proofs.Nodes.{plain-And}
-use Rattle.st_program.specs.Tree.{Processes, beside}
+use Rattle.st_program.specs.Tree.{beside}
 use Rattle.st_program.specs.Names.{Names}
 use Rattle.st_program.specs.Plain.{plain_child, plain_children}
 use Rattle.st_program.specs.Programs.{IsProgram}
 use Rattle.st_program.specs.declared.trees.Child.{Child}
 use Rattle.spl_parser.specs.ProgramTree as raw
-use Rattle.expression_typer.specs.declared.fault.TypeFault.{TypeFault}
 use Rattle.spl_typer.specs.declared.program.Head.{Head}
 use Rattle.spl_typer.specs.declared.walk.Entry as declared
-use Rattle.expression_typer.specs.Answers.{◌>>=◌}
 use Rattle.spl_typer.specs.Walk.{entries}
-use Rattle.spl_typer.specs.Programs.{Heading, heading, heading_of, side_by_side, Apart, Typed, names_of, typing}
+use Rattle.spl_typer.specs.Programs.{heading, heading_of, side_by_side, Apart, names_of, typing}
 use Rattle.spl_typer.proofs.Whole.{heading_sound, is_program}
 
 children_are : (xs : List Child) → side_by_side (map plain_child xs) ≡ plain_children xs

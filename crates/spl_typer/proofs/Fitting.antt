@@ -1,18 +1,14 @@
 -- Each statement of the walk uses variables by their types, and no branch of a selection begins with a loop.
-use Rattle.std.proofs.Common.{◌≡◌, ℕ, suc, ◌+◌, Bool, true, false, cond, List, [], ◌∷◌, ◌++◌, length, Option, Some, None, Result, Ok, Err, refl, ap, sym, ◌∙◌}
-use Rattle.st_form.specs.Formula.{Formula, truth_value}
+use Rattle.std.proofs.Common.{◌≡◌, ℕ, suc, ◌+◌, Bool, true, false, List, [], ◌∷◌, ◌++◌, length, Some, None, refl}
+use Rattle.st_form.specs.Formula.{Formula}
 use Rattle.st_form.specs.declared.variables.Variable.{Variable}
-use Rattle.st_program.specs.Tree.{Term, Pieces, Statement, stated, Action, Statements, no_statement, statement, Process, process, Processes, no_process, beside, action}
-use Rattle.st_program.specs.Tree as tree
+use Rattle.st_program.specs.Tree.{Statement, stated, Action, Statements, statement, Process, process, Processes, beside, action}
 use Rattle.st_program.specs.Spots.{Spot, entry, bodies, bodies_in, spots, spots_within, spots_along, spots_among, spots_inside}
 use Rattle.st_program.specs.Locations.{NoLoop, NoLoopFirst, NoLoops, HeadsFit, ShapeFits}
 use Rattle.st_program.specs.Types.{TestFits, TargetsFit, MayChange, PiecesFit, ActionFits}
 use Rattle.st_program.specs.Groups.{GroupFits}
 use Rattle.spl_parser.specs.ProgramTree as raw
-use Rattle.expression_typer.specs.declared.fault.TypeFault.{TypeFault}
-use Rattle.expression_typer.specs.declared.fault.TypeFault.TheVariants as faults
 use Rattle.spl_typer.specs.declared.statement.Here.{Here}
-use Rattle.expression_typer.specs.Answers.{◌>>=◌}
 use Rattle.expression_typer.specs.Scope.{Known}
 use Rattle.spl_typer.specs.Walk.{State, Made, new_location, new_occurrence}
 use Rattle.spl_typer.specs.Statements.{tested, target, counter, right_side, assigned, pieces_inside}

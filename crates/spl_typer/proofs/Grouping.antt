@@ -1,5 +1,5 @@
 -- A group within the limits has few paths, and the numbers on each of them stay small.
-use Rattle.std.proofs.Common.{◌≡◌, ℕ, ◌≤◌, Bool, true, false, cond, nat_le, List, [], ◌∷◌, ◌++◌, length, refl, ap, sym, ◌∙◌, arith, Option, Some, None, Result, Ok, Err, append-nil, append_assoc}
+use Rattle.std.proofs.Common.{◌≡◌, ℕ, ◌≤◌, Bool, true, false, nat_le, List, [], ◌∷◌, ◌++◌, length, refl, ap, sym, ◌∙◌, arith, Option, Some, None, Result, Ok, Err, append-nil, append_assoc}
 use Rattle.std.specs.Prelude.{option_and_then, IsSome}
 use Rattle.std.specs.Option.{option_map}
 use Rattle.std.proofs.lemmas.Bool.Decides.{nat_tests}
@@ -11,7 +11,6 @@ use Rattle.st_program.specs.Member.{Member, here, there}
 use Rattle.st_program.specs.Groups.{Link, tested, given, paths_along, inserted, is_written, if_written, Composed, nothing_composed, exchange_of, composed_term, put_all, signed, met, composed_link, composed, GroupFits}
 use Rattle.st_program.specs.Groups as plain
 use Rattle.expression_typer.specs.declared.fault.TypeFault.{TypeFault}
-use Rattle.expression_typer.specs.Answers.{◌>>=◌}
 use Rattle.expression_typer.specs.Written.{is_writable, limited}
 use Rattle.spl_typer.specs.Groups.{Composition, nothing, large_unless, limit_unless, composed_number, few, composed_formula, term_on, terms_on, guarded, link_on, path_on, with_path, with_paths, all_small, grouped}
 use Rattle.spl_typer.specs.Groups as rules

@@ -1,10 +1,8 @@
 -- What the next numbers and declared names are.
-use Rattle.std.proofs.Common.{◌≡◌, ℕ, suc, ◌-◌, ◌^◌, Bool, true, false, cond, nat_lt, List, Option, Some, None, Result, Ok, Err, refl}
-use Rattle.st_tokens.specs.declared.limit.LimitKind.{LimitKind}
+use Rattle.std.proofs.Common.{◌≡◌, ℕ, suc, ◌-◌, ◌^◌, nat_lt, Option, Some, None, refl}
 use Rattle.st_reading.specs.Reading.{Label}
-use Rattle.expression_typer.specs.declared.fault.TypeFault.{TypeFault}
 use Rattle.spl_typer.specs.declared.walk.Mark.{Mark}
-use Rattle.spl_typer.specs.Walk.{State, Made, give, is_declared, declared_as, with_name, new_location, new_occurrence, next_location, next_occurrence}
+use Rattle.spl_typer.specs.Walk.{State, Made, is_declared, declared_as, with_name, new_occurrence, next_location, next_occurrence}
 use Rattle.spl_typer.specs.Walking.{location, labelled}
 use Rattle.expression_typer.proofs.Holding.{Holds, unless_err, if_ok}
 

@@ -1,13 +1,11 @@
 -- What each step of the walk keeps, the walk keeps.
-use Rattle.std.proofs.Common.{◌≡◌, ℕ, Bool, true, List, [], ◌∷◌, Option, Some, None, Result, Ok, Err}
+use Rattle.std.proofs.Common.{ℕ, Bool, true, List, Option, Some, None}
 use Rattle.st_form.specs.Formula.{Formula}
 use Rattle.st_reading.specs.Reading.{Label}
-use Rattle.st_program.specs.Tree.{Statement, Action, Statements, Process, Processes}
+use Rattle.st_program.specs.Tree.{Statement, Action, Statements, Process}
 use Rattle.spl_parser.specs.ProgramTree as raw
-use Rattle.expression_typer.specs.declared.fault.TypeFault.{TypeFault}
 use Rattle.spl_typer.specs.declared.statement.Here.{Here}
 use Rattle.spl_typer.specs.declared.walk.Mark.{Mark}
-use Rattle.expression_typer.specs.Answers.{◌>>=◌}
 use Rattle.expression_typer.specs.Scope.{Known}
 use Rattle.spl_typer.specs.Walk.{State, Made, declared_as, new_location, new_occurrence, with_weight}
 use Rattle.spl_typer.specs.Statements.{tested, target, counter, right_side, assigned, pieces_inside}

@@ -1,18 +1,16 @@
 -- The walk numbers statements in text order.
-use Rattle.std.proofs.Common.{◌≡◌, ℕ, suc, ◌+◌, Bool, true, false, List, [], ◌∷◌, ◌++◌, length, Option, Some, None, Result, Ok, Err, refl, ap, sym, ◌∙◌}
+use Rattle.std.proofs.Common.{◌≡◌, ℕ, suc, ◌+◌, Bool, true, List, [], ◌∷◌, ◌++◌, length, Some, None, refl, ap, sym, ◌∙◌}
 use Rattle.st_form.specs.Formula.{Formula}
-use Rattle.st_program.specs.Tree.{Statement, stated, Action, Statements, no_statement, statement, Process, process, Processes, no_process, beside, occurrence}
-use Rattle.st_program.specs.Tree as tree
+use Rattle.st_program.specs.Tree.{Statement, Action, Statements, Process, process, Processes, beside, occurrence}
 use Rattle.st_program.specs.Spots.{Spot, entry, bodies, bodies_in, spots, spots_within, spots_along, spots_among, spots_inside}
 use Rattle.spl_parser.specs.ProgramTree as raw
 use Rattle.spl_typer.specs.declared.statement.Here.{Here}
-use Rattle.expression_typer.specs.Answers.{◌>>=◌}
 use Rattle.expression_typer.specs.Scope.{Known}
-use Rattle.spl_typer.specs.Walk.{State, Made, new_location, new_occurrence}
+use Rattle.spl_typer.specs.Walk.{State, Made, new_occurrence}
 use Rattle.spl_typer.specs.Statements.{tested, target, counter, right_side, assigned, pieces_inside}
 use Rattle.spl_typer.specs.Groups.{grouped}
 use Rattle.spl_typer.specs.Shapes.{something, some_statement, two_statements, two_bodies}
-use Rattle.spl_typer.specs.Walking.{fresh, beneath, location, labelled, no_loop, with_else, walked, acting, branched, along, inside, bodied}
+use Rattle.spl_typer.specs.Walking.{fresh, beneath, location, labelled, no_loop, walked, acting, branched, along, inside, bodied}
 use Rattle.expression_typer.proofs.Holding.{Holds, bound, anyway}
 use Rattle.spl_typer.proofs.Holding.{Goes, labels, Located, locates, Numbered, numbers}
 

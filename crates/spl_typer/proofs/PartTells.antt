@@ -1,5 +1,5 @@
 -- The walk over the parts of statements tells the first broken rule.
-use Rattle.std.proofs.Common.{◌≡◌, ℕ, suc, ◌-◌, ◌^◌, Bool, true, false, cond, nat_lt, nat_eq, List, [], ◌∷◌, ◌++◌, length, refl, ap, sym, ◌∙◌, arith, Option, Some, None, Result, Ok, Err, append-nil, append_assoc}
+use Rattle.std.proofs.Common.{◌≡◌, ℕ, Bool, true, false, cond, nat_eq, List, [], ◌∷◌, ◌++◌, length, refl, ap, sym, ◌∙◌, arith, Option, Some, None, Result, Ok, Err, append-nil, append_assoc}
 use Rattle.std.proofs.lemmas.Bool.Decides.{nat_tests}
 use Rattle.st_form.specs.Formula.{Formula}
 use Rattle.st_tokens.specs.declared.limit.LimitKind.TheVariants as limits
@@ -11,14 +11,14 @@ use Rattle.expression_typer.specs.declared.fault.TypeFault.{TypeFault}
 use Rattle.expression_typer.specs.declared.fault.TypeFault.TheVariants as faults
 use Rattle.expression_typer.specs.Answers.{◌>>=◌}
 use Rattle.expression_typer.specs.Scope.{Known, find}
-use Rattle.expression_typer.specs.Typing.{typed, as_number, as_truth}
+use Rattle.expression_typer.specs.Typing.{typed, as_truth}
 use Rattle.expression_typer.specs.Rules.{meaning, faults_in, not_number, not_truth}
 use Rattle.expression_typer.specs.Told.{Told, IsWritten, IsModest, Tells}
 use Rattle.spl_typer.specs.Modest.{AllModest, StatementModest, ActionModest, BranchModest, RowModest}
-use Rattle.spl_typer.specs.Statements.{tested, writable, target, counting, counter, wanted, right_side, is_target, targets, changes, assigned, pieces_of, pieces_in, other_pieces, pieces_inside, pieces_along, pieces_behind}
+use Rattle.spl_typer.specs.Statements.{tested, writable, target, counting, counter, wanted, right_side, is_target, targets, changes, assigned, pieces_of, pieces_in, other_pieces, pieces_inside, pieces_along}
 use Rattle.spl_typer.specs.Shapes.{something, some_statement}
 use Rattle.spl_typer.specs.Groups.{grouped}
-use Rattle.spl_typer.specs.StatementRules.{Faults, unless, where_true, test_faults, target_faults, counter_faults, wanted_faults, side_faults, and_known, same_faults, targets_faults, sides_faults, assign_faults, piece_faults, pieces_faults, other_faults, inside_faults, row_pieces_faults, faults_of, limit_faults, weight_or, weight_behind}
+use Rattle.spl_typer.specs.StatementRules.{Faults, unless, where_true, test_faults, target_faults, counter_faults, side_faults, and_known, same_faults, targets_faults, sides_faults, assign_faults, piece_faults, pieces_faults, other_faults, inside_faults, row_pieces_faults, faults_of, limit_faults, weight_or, weight_behind}
 use Rattle.expression_typer.proofs.Tells.{told}
 
 abbrev pub Any : {A : Type 0} → A → Type 0

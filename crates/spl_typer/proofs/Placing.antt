@@ -1,20 +1,18 @@
 -- The walk numbers locations in text order.
-use Rattle.std.proofs.Common.{◌≡◌, ℕ, suc, Bool, true, false, cond, List, [], ◌∷◌, Option, Some, None, Result, Ok, Err, refl, ap, sym, ◌∙◌}
+use Rattle.std.proofs.Common.{◌≡◌, ℕ, suc, Bool, true, false, List, Option, Some, None, refl, ap, sym, ◌∙◌}
 use Rattle.st_form.specs.Formula.{Formula}
 use Rattle.st_program.specs.Tree.{Statement, stated, Action, Statements, no_statement, statement, Process, process, Processes, no_process, beside}
 use Rattle.st_program.specs.Tree as tree
 use Rattle.st_program.specs.Locations.{location_end, within_end, head_end, along_end, among_end, inside_end, SomeProcess, IsPlaced, WithinPlaced, HeadPlaced, AlongPlaced, AmongPlaced, InsidePlaced}
 use Rattle.spl_parser.specs.ProgramTree as raw
-use Rattle.expression_typer.specs.declared.fault.TypeFault.{TypeFault}
 use Rattle.spl_typer.specs.declared.statement.Here.{Here}
-use Rattle.expression_typer.specs.Answers.{◌>>=◌}
 use Rattle.expression_typer.specs.Scope.{Known}
 use Rattle.spl_typer.specs.Walk.{State, Made, new_occurrence}
 use Rattle.spl_typer.specs.Statements.{tested, target, counter, right_side, assigned, pieces_inside}
 use Rattle.spl_typer.specs.Groups.{grouped}
 use Rattle.spl_typer.specs.Shapes.{something, some_statement, two_statements, some_body, two_bodies}
 use Rattle.spl_typer.specs.Walking.{fresh, beneath, location, labelled, no_loop, walked, acting, branched, along, inside, bodied}
-use Rattle.expression_typer.proofs.Holding.{Holds, bound, anyway, if_ok}
+use Rattle.expression_typer.proofs.Holding.{Holds, bound, anyway}
 use Rattle.spl_typer.proofs.Holding.{own_or, begun, Goes, labels, Located, locates, Numbered, numbers}
 
 -- a statement whose location is own, or else the next one, and whose parts are numbered from there to before another

@@ -1,5 +1,5 @@
 -- The walk over programs tells the first broken rule.
-use Rattle.std.proofs.Common.{◌≡◌, ℕ, Bool, true, false, cond, nat_lt, List, [], ◌∷◌, ◌++◌, length, take, refl, ap, sym, ◌∙◌, Option, Some, None, Result, Ok, Err, append-nil}
+use Rattle.std.proofs.Common.{◌≡◌, Bool, true, false, cond, nat_lt, List, [], ◌∷◌, ◌++◌, length, take, refl, ap, sym, Option, Some, None, Result, Ok, Err}
 use Rattle.st_form.specs.Formula.{Formula}
 use Rattle.st_tokens.specs.declared.limit.LimitKind.TheVariants as limits
 use Rattle.st_reading.specs.Reading.{Label}
@@ -12,16 +12,15 @@ use Rattle.expression_typer.specs.declared.fault.TypeFault.TheVariants as faults
 use Rattle.spl_typer.specs.declared.walk.Mark.{Mark}
 use Rattle.spl_typer.specs.declared.walk.Mark.TheVariants as marks
 use Rattle.expression_typer.specs.Answers.{◌>>=◌}
-use Rattle.expression_typer.specs.Scope.{Known}
 use Rattle.expression_typer.specs.Told.{Tells}
 use Rattle.spl_typer.specs.Modest.{BodyModest}
 use Rattle.spl_typer.specs.Walk.{Entry, State, Made, is_declared, with_name, declared_as}
 use Rattle.spl_typer.specs.Statements.{tested}
 use Rattle.spl_typer.specs.Walking.{bodied}
-use Rattle.spl_typer.specs.Programs.{Heading, knows, named_in, names_in, with_initial, initial_in, declaration_in, declarations_in, with_state, with_process, process_in, processes_in, nothing_met, few_processes, heading_of, names_of, typed_of, typing, Typed}
-use Rattle.spl_typer.specs.StatementRules.{Faults, unless, where_true, test_faults, faults_of, behind_body, body_faults}
-use Rattle.spl_typer.specs.ProgramRules.{Front, front, declares_again, named, behind_name, name_faults, behind_names, names_faults, initial_faults, behind_declaration, declaration_faults, behind_declarations, declarations_faults, inside_process, behind_process, process_faults, behind_processes, processes_faults, before_processes, program_faults, InitialModest, DeclarationsModest, ProcessesModest, ProgramModest}
-use Rattle.spl_typer.proofs.PartTells.{Any, then, finally, tells_unless, tells_where, tested_tells}
+use Rattle.spl_typer.specs.Programs.{Heading, knows, named_in, names_in, initial_in, declaration_in, declarations_in, with_state, with_process, process_in, processes_in, nothing_met, few_processes, heading_of, names_of, typing, Typed}
+use Rattle.spl_typer.specs.StatementRules.{Faults, unless, where_true, faults_of, behind_body, body_faults}
+use Rattle.spl_typer.specs.ProgramRules.{Front, front, named, behind_name, name_faults, behind_names, names_faults, initial_faults, behind_declaration, declaration_faults, behind_declarations, declarations_faults, inside_process, behind_process, process_faults, behind_processes, processes_faults, before_processes, program_faults, InitialModest, DeclarationsModest, ProcessesModest, ProgramModest}
+use Rattle.spl_typer.proofs.PartTells.{Any, then, finally, tells_where, tested_tells}
 use Rattle.spl_typer.proofs.StatementTells.{Leaves, body_tells}
 
 -- the front behind

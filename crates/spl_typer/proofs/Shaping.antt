@@ -1,11 +1,10 @@
 -- What is typed has a statement in each body and group, two branches in a selection, and two children in a cooperation.
-use Rattle.std.proofs.Common.{◌≡◌, ℕ, Bool, true, false, Option, Some, None, Result, Ok, Err, refl}
+use Rattle.std.proofs.Common.{◌≡◌, ℕ, Bool, true, false, List, None, Result, Ok, Err, refl}
 use Rattle.st_form.specs.Formula.{Formula}
-use Rattle.st_program.specs.Tree.{Pieces, no_piece, piece, Statement, Action, Statements, no_statement, statement, Process, process, Processes, no_process, beside}
+use Rattle.st_program.specs.Tree.{Pieces, no_piece, piece, Statement, Action, Statements, Process, process, Processes, beside}
 use Rattle.st_program.specs.Locations.{SomeProcess, SomeStatement, TwoStatements, TwoProcesses, SomePiece, BodiesFit, ShapeFits}
 use Rattle.spl_parser.specs.ProgramTree as raw
 use Rattle.expression_typer.specs.declared.fault.TypeFault.{TypeFault}
-use Rattle.expression_typer.specs.Answers.{◌>>=◌}
 use Rattle.expression_typer.specs.Scope.{Known}
 use Rattle.expression_typer.proofs.Holding.{Holds, bound, anyway}
 use Rattle.spl_typer.specs.declared.statement.Here.{Here}

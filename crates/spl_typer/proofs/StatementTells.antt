@@ -1,24 +1,22 @@
 -- The walk over statements tells the first broken rule, and leaves the state behind them.
-use Rattle.std.proofs.Common.{◌≡◌, ℕ, suc, ◌-◌, ◌^◌, Bool, true, false, cond, nat_lt, List, [], ◌∷◌, ◌++◌, refl, ap, sym, ◌∙◌, Option, Some, None, Result, Ok, Err, append-nil}
+use Rattle.std.proofs.Common.{◌≡◌, ℕ, ◌-◌, ◌^◌, Bool, true, false, nat_lt, List, [], refl, ap, sym, Option, Some, None}
 use Rattle.st_form.specs.Formula.{Formula}
 use Rattle.st_tokens.specs.declared.limit.LimitKind.TheVariants as limits
 use Rattle.st_reading.specs.Reading.{Label}
-use Rattle.st_program.specs.Tree.{Term, Pieces, Statement, stated, Action, Statements, Process, Processes}
+use Rattle.st_program.specs.Tree.{Term, Statement, Action, Statements, Process, Processes}
 use Rattle.spl_parser.specs.ProgramTree as raw
-use Rattle.expression_typer.specs.declared.fault.TypeFault.{TypeFault}
 use Rattle.expression_typer.specs.declared.fault.TypeFault.TheVariants as faults
 use Rattle.spl_typer.specs.declared.statement.Here.{Here}
 use Rattle.spl_typer.specs.declared.walk.Mark.TheVariants as marks
-use Rattle.expression_typer.specs.Answers.{◌>>=◌}
 use Rattle.expression_typer.specs.Scope.{Known, find}
 use Rattle.expression_typer.specs.Told.{Tells}
 use Rattle.spl_typer.specs.Modest.{StatementModest, ActionModest, BranchModest, RowModest, BodiesModest, BodyModest}
-use Rattle.spl_typer.specs.Walk.{State, Made, is_declared, with_name, declared_as, next_location, next_occurrence, new_location, new_occurrence, with_weight}
+use Rattle.spl_typer.specs.Walk.{State, Made, is_declared, with_name, next_location, next_occurrence, new_location, new_occurrence, with_weight}
 use Rattle.spl_typer.specs.Statements.{tested, target, counter, right_side, assigned, pieces_inside}
 use Rattle.spl_typer.specs.Groups.{grouped}
 use Rattle.spl_typer.specs.Shapes.{something, some_statement, two_statements, two_bodies}
 use Rattle.spl_typer.specs.Walking.{fresh, beneath, location, labelled, no_loop, walked, acting, branched, along, inside, bodied}
-use Rattle.spl_typer.specs.StatementRules.{Faults, unless, where_true, test_faults, weight_behind, limit_faults, inside_faults, twice, behind_label, own_location, behind_location, location_faults, occurrence_faults, begins, behind, behind_act, behind_branch, behind_row, behind_bodies, behind_body, statement_faults, action_faults, branch_faults, row_faults, bodies_faults, body_faults}
+use Rattle.spl_typer.specs.StatementRules.{where_true, weight_behind, limit_faults, twice, behind_label, own_location, behind_location, location_faults, occurrence_faults, begins, behind, behind_act, behind_branch, behind_row, behind_bodies, behind_body, statement_faults, action_faults, branch_faults, row_faults, bodies_faults, body_faults}
 use Rattle.spl_typer.proofs.PartTells.{Any, then, finally, tells_unless, tells_where, tested_tells, target_tells, counter_tells, side_tells, assigned_tells, some_tells, group_tells}
 
 -- the state that is left

@@ -1,20 +1,14 @@
 -- Names as texts, and lists that aren't empty.
-use Rattle.std.proofs.Common.{◌≡◌, ℕ, zero, suc, ◌<◌, Bool, true, false, not, ◌==◌, nat_lt, ◌&&◌, List, [], ◌∷◌, ◌++◌, length, map, refl, ap, sym, ◌∙◌, arith, Option, Result, Ok, Err, Global}
+use Rattle.std.proofs.Common.{◌≡◌, ℕ, suc, Bool, true, false, not, ◌==◌, nat_lt, List, [], ◌∷◌, ◌++◌, length, map, refl, ap, ◌∙◌, arith, Option, Ok, Global}
 use Rattle.std.specs.declared.string.String.{String}
 use Rattle.std.specs.String.{string_bytes}
-use Rattle.std.specs.Str.{IsUtf8, IsAscii}
-use Rattle.std.proofs.lemmas.Str.{IsUtf8-from_ascii}
-use Rattle.std.proofs.lemmas.Str.Ascii.{IsAscii-nil}
-use Rattle.std.proofs.lemmas.Bool.{and_parts}
 use Rattle.std.proofs.lemmas.Bool.Decides.{nat_tests}
 use Rattle.st_program.specs.Names.{AreApart, names_in}
 use Rattle.spl_parser.specs.declared.raw.RawStatement.{RawStatement}
 use Rattle.spl_parser.specs.declared.raw.RawBody.{RawBody}
 use Rattle.spl_parser.specs.ProgramTree.{statements, statement_views, bodies, body_views}
-use Rattle.expression_typer.specs.declared.fault.TypeFault.{TypeFault}
 use Rattle.spl_typer.specs.Walk.{Entry}
 use Rattle.spl_typer.specs.Shapes.{some_statement, two_statements, two_bodies}
-use Rattle.expression_typer.specs.Naming.{is_text}
 use Rattle.spl_typer.specs.Programs.{Apart, variables_of, labels_of}
 use Rattle.spl_typer.proofs.Apart.{names_apart}
 

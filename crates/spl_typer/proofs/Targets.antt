@@ -1,21 +1,19 @@
 -- Assignments change distinct variables, each by a right side of its type.
-use Rattle.std.proofs.Common.{◌≡◌, ◌≢◌, ℕ, Bool, true, false, cond, nat_eq, List, [], ◌∷◌, ◌++◌, length, refl, ap, sym, ◌∙◌, arith, Result, Ok, Err}
+use Rattle.std.proofs.Common.{◌≡◌, ◌≢◌, ℕ, Bool, true, false, cond, nat_eq, List, [], ◌∷◌, ◌++◌, length, refl, sym, ◌∙◌, arith, Err}
 use Rattle.std.proofs.lemmas.Bool.Decides.{nat_tests}
 use Rattle.st_form.specs.declared.variables.Variable.{Variable}
 use Rattle.st_reading.specs.Reading.{Label}
-use Rattle.st_program.specs.Tree.{Term, Piece, Pieces, piece_skip, piece_assign, piece_await, piece_if, no_piece, piece}
-use Rattle.st_program.specs.Types.{MayChange, IsNoTarget, TargetsFit, TestFits, PieceFits, PiecesFit, is_truth}
+use Rattle.st_program.specs.Tree.{Term, Pieces, no_piece, piece}
+use Rattle.st_program.specs.Types.{IsNoTarget, TargetsFit, TestFits, PiecesFit}
 use Rattle.expression_parser.specs.ExpressionTree.{Expr}
 use Rattle.spl_parser.specs.ProgramTree as raw
-use Rattle.expression_typer.specs.declared.fault.TypeFault.{TypeFault}
 use Rattle.expression_typer.specs.declared.fault.TypeFault.TheVariants as faults
-use Rattle.expression_typer.specs.Answers.{◌>>=◌}
 use Rattle.expression_typer.specs.Scope.{Known}
 use Rattle.spl_typer.specs.Statements.{tested, target, right_side, is_target, targets, changes, assigned, pieces_of, pieces_in, other_pieces, pieces_inside, pieces_along, pieces_behind}
 use Rattle.spl_typer.specs.Shapes.{something, some_statement}
 use Rattle.expression_typer.proofs.Holding.{Holds, bound, anyway}
 use Rattle.expression_typer.proofs.Terms.{Scoped}
-use Rattle.spl_typer.proofs.Terms.{IsTarget, IsSide, target_fits, tested_fits, side_fits, may_be, one_target}
+use Rattle.spl_typer.proofs.Terms.{IsTarget, IsSide, target_fits, tested_fits, side_fits, one_target}
 
 -- none of these is the variable
 abbrev Other : ℕ → List Known → Type 0

@@ -1,30 +1,18 @@
 -- Tests, targets and right sides use each variable by its type, and have small numbers.
-use Rattle.std.proofs.Common.{◌≡◌, ◌≢◌, ℕ, suc, ◌^◌, Bool, true, false, cond, nat_eq, List, [], ◌∷◌, ◌++◌, refl, ap, sym, ◌∙◌, arith, pos, negsuc, slice_get, Option, Some, None, Result, Ok, Err}
-use Rattle.std.specs.Option.{option_map}
-use Rattle.std.specs.Str.{bytes_eq}
-use Rattle.std.proofs.lemmas.Bool.Decides.{nat_tests}
-use Rattle.st_linear.specs.Linear.{Linear}
-use Rattle.st_linear.specs.Linear as linear
-use Rattle.st_linear.specs.Simple.{negated}
-use Rattle.st_form.specs.Formula.{Formula, Formulas, truth_value, bool_var, negation, every, some, none, more}
+use Rattle.std.proofs.Common.{◌≡◌, ℕ, Bool, true, false, cond, List, [], ◌∷◌, refl, ap, sym, ◌∙◌, slice_get, Option, Some, None, Result, Ok, Err}
 use Rattle.st_form.specs.declared.variables.Variable.{Variable}
 use Rattle.st_reading.specs.Reading.{Label}
 use Rattle.st_program.specs.Tree.{Term, number, truth}
-use Rattle.st_program.specs.Types.{type_of, FormulaFits, FormulasFit, TestFits, TermFits, MayChange, IsNoTarget, TargetsFit, is_truth}
-use Rattle.expression_parser.specs.declared.raw.Operator.{Operator}
-use Rattle.expression_parser.specs.declared.raw.Operator.TheVariants as operators
-use Rattle.expression_parser.specs.ExpressionTree.{Expr, Kind, Exprs, start_of}
-use Rattle.expression_parser.specs.ExpressionTree as raw
+use Rattle.st_program.specs.Types.{TestFits, TermFits, MayChange, TargetsFit, is_truth}
+use Rattle.expression_parser.specs.ExpressionTree.{Expr, start_of}
 use Rattle.expression_typer.specs.declared.fault.TypeFault.{TypeFault}
 use Rattle.expression_typer.specs.declared.fault.TypeFault.TheVariants as faults
 use Rattle.expression_typer.specs.Answers.{◌>>=◌}
 use Rattle.expression_typer.specs.Scope.{Known, find}
-use Rattle.expression_typer.specs.Written.{is_writable, limited, difference, lowered, product}
-use Rattle.expression_typer.specs.Typing.{typed, typed_kind, all_typed, as_number, as_truth, combine, implied, is_implication, named_by, variable_term}
-use Rattle.spl_typer.specs.Statements.{tested, writable, target, counting, counter, wanted, right_side, is_target, targets, changes, assigned}
-use Rattle.expression_typer.proofs.Holding.{Holds, bound, anyway}
-use Rattle.expression_typer.proofs.Fits.{Compared, IsOf, IsWord, of_number, fits_word, sum_word, less_word, negative_word, product_word, difference_fits, lowered_fits}
-use Rattle.expression_typer.proofs.Numerals.{numeral_word, variable_word}
+use Rattle.expression_typer.specs.Typing.{typed, as_truth}
+use Rattle.spl_typer.specs.Statements.{tested, writable, target, counting, counter, wanted, right_side}
+use Rattle.expression_typer.proofs.Holding.{Holds, bound}
+use Rattle.expression_typer.proofs.Fits.{fits_word}
 use Rattle.expression_typer.proofs.Terms.{IsKnown, Scoped, IfKnown, found, Good, typed_good}
 
 pub tested_fits : (vs : List Variable) (s : List Known) (e : Expr) → Scoped vs s → Holds (TestFits vs) (tested s e)

@@ -1,5 +1,5 @@
 -- A program that the walk gives is a typed program within the limits.
-use Rattle.std.proofs.Common.{◌≡◌, ℕ, zero, suc, ◌+◌, ◌-◌, ◌<◌, ◌≤◌, ◌^◌, Bool, true, false, cond, nat_lt, nat_le, List, [], ◌∷◌, ◌++◌, length, take, slice_get, Option, Some, None, Result, Ok, Err, refl, ap, sym, ◌∙◌, arith, append-nil, append_assoc}
+use Rattle.std.proofs.Common.{◌≡◌, ℕ, zero, suc, ◌+◌, ◌-◌, ◌<◌, ◌≤◌, ◌^◌, Bool, true, false, cond, nat_lt, nat_le, List, [], ◌∷◌, ◌++◌, length, take, slice_get, Option, Some, None, Result, Ok, Err, refl, ap, sym, ◌∙◌, arith, append_assoc}
 use Rattle.std.proofs.lemmas.Bool.{and_parts}
 use Rattle.std.proofs.lemmas.Bool.Decides.{nat_tests}
 use Rattle.std.proofs.lemmas.List.{length-append}
@@ -7,25 +7,24 @@ use Rattle.st_form.specs.Formula.{Formula, formulas, every}
 use Rattle.st_form.specs.declared.variables.Variable.{Variable}
 use Rattle.st_tokens.specs.declared.limit.LimitKind.TheVariants as limits
 use Rattle.st_reading.specs.Reading.{Label}
-use Rattle.st_program.specs.Tree.{Statements, Process, process, Processes, no_process, beside, occurrence, action}
+use Rattle.st_program.specs.Tree.{Process, process, no_process, beside, occurrence, action}
 use Rattle.st_program.specs.Member.{Member, here, there}
-use Rattle.st_program.specs.Spots.{Spot, bodies_in, spots_along, spots_inside, all_spots, spot, IsNumbered}
-use Rattle.st_program.specs.Locations.{SomeProcess, InsidePlaced, inside_end, along_end, HeadsFit, BodiesFit, ShapeFits}
-use Rattle.st_program.specs.Types.{TestFits, FormulasFit, ActionFits}
-use Rattle.st_program.specs.Programs.{WellFormed, IsProgram, process_count}
+use Rattle.st_program.specs.Spots.{Spot, bodies_in, spots_along, spots_inside, all_spots}
+use Rattle.st_program.specs.Locations.{SomeProcess, inside_end, BodiesFit}
+use Rattle.st_program.specs.Types.{TestFits, FormulasFit}
+use Rattle.st_program.specs.Programs.{IsProgram, process_count}
 use Rattle.expression_parser.specs.ExpressionTree.{Expr}
 use Rattle.spl_parser.specs.ProgramTree as raw
 use Rattle.expression_typer.specs.declared.fault.TypeFault.{TypeFault}
 use Rattle.expression_typer.specs.declared.fault.TypeFault.TheVariants as faults
-use Rattle.spl_typer.specs.declared.walk.Mark.{Mark}
 use Rattle.spl_typer.specs.declared.walk.Mark.TheVariants as marks
 use Rattle.expression_typer.specs.Answers.{◌>>=◌}
 use Rattle.expression_typer.specs.Scope.{Known}
-use Rattle.spl_typer.specs.Walk.{Entry, State, Made, is_declared, with_name, declared_as, new_location, new_occurrence, next_location, next_occurrence, with_weight}
+use Rattle.spl_typer.specs.Walk.{State, Made, declared_as, next_location, next_occurrence}
 use Rattle.spl_typer.specs.Statements.{tested}
 use Rattle.spl_typer.specs.Walking.{bodied}
-use Rattle.spl_typer.specs.Programs.{Heading, knows, named_in, names_in, with_initial, initial_in, declaration_in, declarations_in, with_state, with_process, process_in, processes_in, nothing_met, some_process, few_processes, heading_of, side_by_side, Apart}
-use Rattle.expression_typer.proofs.Holding.{Holds, bound, anyway, weaker, unless_err, if_ok}
+use Rattle.spl_typer.specs.Programs.{Heading, knows, named_in, names_in, initial_in, declaration_in, declarations_in, with_state, process_in, processes_in, nothing_met, some_process, few_processes, heading_of, side_by_side, Apart}
+use Rattle.expression_typer.proofs.Holding.{Holds, bound, anyway, weaker, if_ok}
 use Rattle.spl_typer.proofs.Holding.{Goes, declares}
 use Rattle.spl_typer.proofs.Keeping.{Steps, body_keeps}
 use Rattle.spl_typer.proofs.Apart.{declares_apart}

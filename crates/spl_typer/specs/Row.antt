@@ -1,5 +1,5 @@
 -- Lists that the code has put together, in front of what the rules still give.
-use Rattle.std.specs.Prelude.{List, [], ◌∷◌, Result, Ok, Err}
+use Rattle.std.specs.Prelude.{List, [], ◌∷◌, Result, Ok}
 use Rattle.st_program.specs.declared.trees.Stmt.{Stmt}
 use Rattle.st_program.specs.declared.trees.Child.{Child}
 use Rattle.st_program.specs.declared.trees.Inner.{Inner}

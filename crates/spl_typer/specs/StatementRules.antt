@@ -2,7 +2,7 @@
 --
 -- What stands before a place in the text is the state there: `behind` counts and names on, whatever is broken. The
 -- limits on numbers stand among the rules, though no program that was read breaks them.
-use Rattle.std.specs.Prelude.{ℕ, suc, ◌-◌, ◌^◌, Bool, true, false, nat_lt, nat_eq, if◌then◌else◌, length, List, [], ◌∷◌, ◌++◌, Option, Some, None, Result, Ok, Err}
+use Rattle.std.specs.Prelude.{ℕ, ◌-◌, ◌^◌, Bool, true, nat_lt, nat_eq, if◌then◌else◌, length, List, [], ◌∷◌, ◌++◌, Option, Some, None, Result, Ok, Err}
 use Rattle.st_tokens.specs.declared.limit.LimitKind.TheVariants as limits
 use Rattle.st_reading.specs.Reading.{Label}
 use Rattle.st_program.specs.Tree.{Term, Pieces}
@@ -10,7 +10,6 @@ use Rattle.expression_parser.specs.ExpressionTree.{Expr, start_of}
 use Rattle.spl_parser.specs.ProgramTree as raw
 use Rattle.expression_typer.specs.declared.fault.TypeFault.{TypeFault}
 use Rattle.expression_typer.specs.declared.fault.TypeFault.TheVariants as faults
-use Rattle.spl_typer.specs.declared.walk.Mark.{Mark}
 use Rattle.spl_typer.specs.declared.walk.Mark.TheVariants as marks
 use Rattle.spl_typer.specs.declared.statement.Here.{Here}
 use Rattle.expression_typer.specs.Answers.{◌>>=◌}

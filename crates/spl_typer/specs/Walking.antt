@@ -1,7 +1,6 @@
 -- The typing of statements, in text order, with the first fault that is met.
 use Rattle.std.specs.Prelude.{ℕ, Bool, true, false, if◌then◌else◌, List, [], ◌∷◌, Option, Some, None, Result, Ok, Err}
 use Rattle.st_form.specs.Formula.{Formula, truth_value}
-use Rattle.st_tokens.specs.declared.limit.LimitKind.TheVariants as limits
 use Rattle.st_reading.specs.Reading.{Label}
 use Rattle.st_program.specs.Tree.{Statement, stated, Action, Statements, no_statement, statement, Process, process, Processes, no_process, beside}
 use Rattle.st_program.specs.Tree as tree

@@ -1,6 +1,6 @@
 use Rattle.std.proofs.Common.{◌≡◌, drop}
 use Rattle.spl_parser.specs.ProgramTree.{declaration_views}
-use Rattle.spl_typer.specs.Programs.{heading, names_in, declarations_in, processes_in}
+use Rattle.spl_typer.specs.Programs.{heading, declarations_in}
 use Rattle.spl_typer.proofs.program.declarations.Given as goal
 
 abbrev pub invariant-loop-raw : goal.invariant-loop-raw

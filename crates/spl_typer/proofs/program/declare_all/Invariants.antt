@@ -1,6 +1,6 @@
 use Rattle.std.proofs.Common.{◌≡◌, drop, map}
 use Rattle.st_reading.specs.Faults.{name_view}
-use Rattle.spl_typer.specs.Programs.{heading, names_in, declarations_in, processes_in}
+use Rattle.spl_typer.specs.Programs.{heading, names_in}
 use Rattle.spl_typer.proofs.program.declare_all.Given as goal
 
 abbrev pub invariant-loop-name : goal.invariant-loop-name

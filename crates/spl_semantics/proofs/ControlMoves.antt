@@ -12,11 +12,11 @@ use Rattle.st_program.specs.Programs.{WellFormed}
 use Rattle.st_program.specs.Residuals.{Rests}
 use Rattle.spl_semantics.specs.Stores.{Store}
 use Rattle.spl_semantics.specs.Steps.{Act, begin, steps_of}
-use Rattle.spl_semantics.specs.Moves.{Move, starts, ends, spot_moves, all_moves}
-use Rattle.spl_semantics.specs.Control.{fronts}
+use Rattle.spl_semantics.specs.Control.{starts, ends, fronts}
+use Rattle.spl_semantics.proofs.TextMoves.{Move, spot_moves, all_moves}
 use Rattle.spl_semantics.specs.Names.{all_names}
 use Rattle.spl_semantics.specs.Runs.{State, behind_act, Leads, Reached, first, next, control}
-use Rattle.spl_semantics.specs.Moving.{Moves, NamedMove, StepsAreMoves, MovesAreSteps, ControlMoves}
+use Rattle.spl_semantics.proofs.Moving.{Moves, NamedMove, StepsAreMoves, MovesAreSteps, ControlMoves}
 use Rattle.spl_semantics.proofs.Members.{member_left, member_right, member_cases}
 use Rattle.spl_semantics.proofs.Texts.{either, Has, same_number}
 use Rattle.spl_semantics.proofs.Fits.{fronts_to, Layout, FitsAll}

@@ -2,6 +2,8 @@ pub mod Members
 pub mod Texts
 pub mod Fits
 pub mod Bodies
+pub mod TextMoves
+pub mod Moving
 pub mod Follows
 pub mod Enabled
 pub mod Ended
@@ -28,6 +30,7 @@ pub mod Pieces
 pub mod Acting
 pub mod Placing
 pub mod Lengths
+pub mod FewBodies
 pub mod OneOfAll
 pub mod ByName
 pub mod KeepsFit

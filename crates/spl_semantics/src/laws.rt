@@ -1,6 +1,5 @@
 //! The laws of programs' steps and runs, each the contract of a function that does nothing.
 ghost use Rattle.std.specs.Prelude.{◌≡◌, ◌↔◌, ℕ, List, length, true};
-ghost use Rattle.st_form.specs.Formula.{Formula};
 ghost use Rattle.st_form.specs.Plain.{plain};
 ghost use Rattle.st_form.specs.declared.conditions.TransName.{TransName};
 ghost use Rattle.st_program.specs.Member.{Member};
@@ -12,7 +11,6 @@ ghost use Rattle.st_program.specs.Tree.{Processes};
 ghost use Rattle.spl_semantics.specs.Cases.{Steps};
 ghost use Rattle.spl_semantics.specs.Facts.{MeetsControl, GoesOn};
 ghost use Rattle.spl_semantics.specs.Fitting.{FitsProgram};
-ghost use Rattle.spl_semantics.specs.Moving.{ControlMoves};
 ghost use Rattle.spl_semantics.specs.Runs.{State, IsFirst, Reached, Follows, Leads, is_enabled};
 ghost use Rattle.spl_semantics.specs.Steps.{Act, begin, steps_of};
 ghost use Rattle.spl_semantics.specs.Stores.{Store};
@@ -37,11 +35,6 @@ pub fn steps_fit()
     ensures first { (p : Processes) → WellFormed p → FitsProgram p (begin p (length (all_spots p))) }
     ensures next { (p : Processes) → WellFormed p → (rs : Rests) (store : Store) (a : Act Rests) →
         FitsProgram p rs → Member a (steps_of rs p store) → FitsProgram p a.left }
-{}
-
-/// In every state of every run of a well-formed program its steps are the moves of its statements along the text.
-pub fn steps_are_moves()
-    ensures { (p : Processes) (initial : Formula) → WellFormed p → ControlMoves p initial }
 {}
 
 /// Every state of every run of the program meets the control facts: each active component is at exactly one of its

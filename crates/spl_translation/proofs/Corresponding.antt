@@ -24,8 +24,9 @@ use Rattle.spl_semantics.specs.Stores.{Store, situation}
 use Rattle.st_program.specs.Residuals.{Rests}
 use Rattle.spl_semantics.specs.Steps.{Act, steps_of}
 use Rattle.spl_semantics.specs.Names.{own_names}
-use Rattle.spl_semantics.specs.Moves.{Move, starts}
-use Rattle.spl_semantics.specs.Moving.{Moves}
+use Rattle.spl_semantics.specs.Control.{starts}
+use Rattle.spl_semantics.proofs.TextMoves.{Move}
+use Rattle.spl_semantics.proofs.Moving.{Moves}
 use Rattle.spl_semantics.specs.Runs.{State, behind_act, IsFirst, Reached, control, image}
 use Rattle.spl_semantics.proofs.Members.{member_none, member_left, member_right, member_cases, member_at, at_member}
 use Rattle.spl_semantics.proofs.Texts.{either}

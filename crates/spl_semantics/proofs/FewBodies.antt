@@ -1,10 +1,10 @@
 -- A program has at most as many components as statements, since each has one; so all its bodies have numbers of 32 bits.
-use Rattle.std.proofs.Common.{◌≡◌, ℕ, suc, ◌+◌, ◌<◌, ◌≤◌, ◌^◌, List, length, length-append, refl, arith}
+use Rattle.std.proofs.Common.{ℕ, suc, ◌+◌, ◌<◌, ◌≤◌, ◌^◌, List, length, length-append, refl, arith}
 use Rattle.st_form.specs.Formula.{Formula}
 use Rattle.st_form.specs.declared.variables.Variable.{Variable}
 use Rattle.st_program.specs.Tree.{Statement, stated, Action, skip, if_then, if_else, while_do, block, select, cooperate, Statements, no_statement, statement, process, Processes, no_process, beside, action}
 use Rattle.st_program.specs.Member.{Member, here, there}
-use Rattle.st_program.specs.Spots.{entry, bodies, bodies_inside, bodies_in, bodies_of, Spot, spots, spots_within, spots_along, spots_among, spots_inside, all_spots}
+use Rattle.st_program.specs.Spots.{entry, bodies, bodies_inside, bodies_in, bodies_of, Spot, spots, spots_within, spots_along, spots_among, spots_inside}
 use Rattle.st_program.specs.Locations.{SomeStatement, BodiesFit, ShapeFits}
 use Rattle.st_program.specs.Programs.{IsProgram}
 use Rattle.spl_semantics.proofs.Members.{member_left, member_right}

@@ -12,6 +12,7 @@ pub mod Fronts
 pub mod Origins
 pub mod ControlMoves
 pub mod CasesAgree
+pub mod ByCases
 pub mod Tables
 pub mod Strands
 pub mod ControlMet

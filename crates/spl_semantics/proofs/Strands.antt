@@ -9,7 +9,7 @@ use Rattle.st_program.specs.Locations.{location_end, IsPlaced, HeadPlaced, Along
 use Rattle.control_states.specs.declared.alternative.Alternative.{Alternative}
 use Rattle.control_states.specs.declared.alternative.Alternative.TheVariants.{Location, Inside as Held}
 use Rattle.control_states.specs.Control.{ComponentFacts, IsOneOf}
-use Rattle.control_facts.specs.Alternatives.{own, own_within, own_among, once, inside_at, alternatives_at, alternatives_of, strands, strands_within, strands_among, strands_inside, owners, owners_within, owners_head, owners_along, owners_among, owners_inside}
+use Rattle.control_facts.specs.Alternatives.{own, own_within, own_among, once, inside_at, alternatives_at, alternatives_of, strands, strands_within, strands_among, strands_inside, owners, owners_head, owners_along, owners_among, owners_inside}
 use Rattle.control_facts.proofs.Owners.{owned}
 use Rattle.spl_semantics.proofs.Members.{member_none, member_left, member_right, member_cases, map_member}
 use Rattle.spl_semantics.proofs.Texts.{either, near, near_within, near_along, near_among}

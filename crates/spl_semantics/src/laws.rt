@@ -17,15 +17,15 @@ ghost use Rattle.spl_semantics.specs.Stores.{Store};
 
 use st_program::Program;
 
-/// The list of steps and the relation by cases say the same, of whatever is left to run and in every store.
+/// The list of steps and the relation by cases, on which runs stand, say the same, of whatever is left to run and in every store.
 pub fn steps_by_cases()
     ensures { (p : Processes) → WellFormed p → (rs : Rests) (store : Store) (a : Act Rests) →
         Member a (steps_of rs p store) ↔ Steps p rs store a.name a.mode a.left a.store }
 {}
 
-/// Whether a name is enabled, as it is computed, is whether some step has the name.
+/// Whether a name is enabled, as it is computed from the list of steps, is whether some step has the name.
 pub fn enabled_where_a_step_is()
-    ensures { (p : Processes) (s : State) (name : TransName) →
+    ensures { (p : Processes) → WellFormed p → (s : State) (name : TransName) →
         is_enabled p s name ≡ true ↔ (t : State) × Leads p s name t }
 {}
 

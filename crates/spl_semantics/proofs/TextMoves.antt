@@ -2,15 +2,16 @@
 --
 -- A move leads from locations to others where the store allows it. The moves of a program are read on the text alone,
 -- statement by statement, as Manna and Pnueli give the transitions of SPL (*Temporal Verification of Reactive Systems:
--- Safety*, section 0.3); that its steps are exactly these moves is a law.
+-- Safety*, section 0.3); its steps are exactly these moves.
 use Rattle.std.specs.Prelude.{ℕ, suc, Bool, true, not, List, [], ◌∷◌, ◌++◌, is_some, unwrap_or}
 use Rattle.st_form.specs.Formula.{Formula, row}
 use Rattle.st_form.specs.declared.conditions.Part.TheVariants.{Whole, Entry, Exit}
 use Rattle.st_form.specs.declared.conditions.TransName.{TransName}
 use Rattle.st_form.specs.declared.conditions.TransName.TheVariants.{Step}
-use Rattle.st_program.specs.Tree.{number, Action, skip, critical, noncritical, assign, await, request, release, if_then, if_else, while_do, block, select, cooperate, group, process, Processes, no_process, beside, occurrence, location, action}
-use Rattle.st_program.specs.Spots.{entry, Spot}
+use Rattle.st_program.specs.Tree.{number, Action, skip, critical, noncritical, assign, await, request, release, if_then, if_else, while_do, block, select, cooperate, group, occurrence, location, action}
+use Rattle.st_program.specs.Spots.{Spot}
 use Rattle.st_program.specs.Groups.{Link, paths_along}
+use Rattle.spl_semantics.specs.Control.{starts, ends}
 use Rattle.spl_semantics.specs.Stores.{Store, holds, assigned, one_less, one_more, walked}
 
 -- the name and the mode, the locations that are left and entered, whether the store allows it, and the store behind it
@@ -41,15 +42,6 @@ abbrev pub path_moves : ℕ → ℕ → ℕ → List (List Link) → ℕ → Lis
 path_moves o l k [] next = []
 path_moves o l k (path ∷ paths) next =
     move o k l next (λ s. is_some (walked path s)) (λ s. unwrap_or (walked path s) s) ∷ path_moves o l (suc k) paths next
-
--- the first locations of the children, and their end locations
-abbrev pub starts : Processes → List ℕ
-starts no_process = []
-starts (beside (process ss end) ps) = entry ss end ∷ starts ps
-
-abbrev pub ends : Processes → List ℕ
-ends no_process = []
-ends (beside (process ss end) ps) = end ∷ ends ps
 
 -- the moves of the statement with occurrence o and location l, which is followed by the location next
 abbrev pub own_moves : Action → ℕ → ℕ → ℕ → List Move

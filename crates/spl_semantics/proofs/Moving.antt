@@ -1,4 +1,4 @@
--- The law of control: the steps of a program are the moves of its statements.
+-- What it is that the steps of a program are the moves of its statements.
 use Rattle.std.specs.Prelude.{◌≡◌, ℕ, ◌⊎◌, true, List}
 use Rattle.st_form.specs.Formula.{Formula}
 use Rattle.st_form.specs.declared.conditions.TransName.{TransName}
@@ -8,8 +8,9 @@ use Rattle.st_program.specs.Spots.{all_spots}
 use Rattle.st_program.specs.Residuals.{Rests}
 use Rattle.spl_semantics.specs.Stores.{Store}
 use Rattle.spl_semantics.specs.Steps.{Act, steps_of}
-use Rattle.spl_semantics.specs.Moves.{Move, all_moves}
-use Rattle.spl_semantics.specs.Runs.{State, behind_act, Reached, control}
+use Rattle.spl_semantics.proofs.TextMoves.{Move, all_moves}
+use Rattle.spl_semantics.specs.Runs.{State, Reached, control}
+use Rattle.spl_semantics.proofs.ByCases.{behind_act}
 
 -- a move leads from one set of locations with a store to another: it leaves its own, enters others, and keeps the rest
 pub record Moves (m : Move) (at : List ℕ) (store : Store) (at' : List ℕ) (store' : Store) : Type 0 where

@@ -28,7 +28,7 @@ use Rattle.spl_semantics.specs.Control.{starts}
 use Rattle.spl_semantics.proofs.TextMoves.{Move}
 use Rattle.spl_semantics.proofs.Moving.{Moves}
 use Rattle.spl_semantics.specs.Runs.{State, LeadsBy, IsFirst, Reached, control, image}
-use Rattle.spl_semantics.proofs.ByCases.{behind_act, listed, by_cases}
+use Rattle.spl_semantics.proofs.ByCases.{behind_act, listed as as_listed, by_cases}
 use Rattle.spl_semantics.proofs.Members.{member_none, member_left, member_right, member_cases, member_at, at_member}
 use Rattle.spl_semantics.proofs.Texts.{either}
 use Rattle.spl_semantics.proofs.Follows.{move_in}
@@ -239,7 +239,7 @@ module _ (vs : List Variable) (initial : Formula) (p : Processes) (locations : â
     moded = sym l.1;
   }
   follows s t (Step o part) mode r l =
-      let taken = listed p well.numbered s t o part mode l in
+      let taken = as_listed p well.numbered s t o part mode l in
       let a = taken.0 in
       let m = (control_moves p initial well).steps s r a taken.1 in
       let x = move_of m.0.move (all_spots p) m.0.is_in in

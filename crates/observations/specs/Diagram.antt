@@ -1,7 +1,7 @@
 -- Chain and rank diagrams: what their conditions say of a state and of a step.
 --
 -- They are the verification diagrams of Manna and Pnueli, *Temporal Verification Diagrams* (1994), with ranks that are
--- whole numbers: an edge leads to a lower rank, and each node has a helpful just transition.
+-- whole numbers: each step to another node lowers the rank, and each node has a helpful just transition.
 use Rattle.std.specs.Prelude.{◌≡◌, ◌≢◌, ℕ, suc, ◌≤◌, ◌⊎◌, List, slice_get, Bool, true, IsTrue, ℤ, pos, ◌+ℤ◌, ◌≤ℤ◌}
 use Rattle.std.specs.declared.option.Option.TheVariants.{Some}
 use Rattle.observations.specs.Observation.{Observation, moment_at, state_at, last, IsTaken, IsJust}
@@ -25,7 +25,7 @@ pub record StartsBelowDrawn {S : Type 0} (nodes : List (DrawnNode S)) (s : S) (e
   pub is_on : IsOnDrawn nodes s node
   pub below : (node.rank s +ℤ pos 1) ≤ℤ e
 
--- a step of the name from a node stays where the name isn't the helper, ends, or goes along an edge
+-- a step of the name from a node stays where the name isn't the helper, ends, or comes to a node of a lower rank
 pub data DrawnMove {S : Type 0} (nodes : List (DrawnNode S)) (terminal : S → Bool) (name : ℕ) (n : DrawnNode S) (s t : S) : Type 0 where
   Stays : IsOnDrawn nodes t n → n.helper ≢ name → n.rank t ≤ℤ n.rank s → DrawnMove nodes terminal name n s t
   Ends : IsTrue (terminal t) → DrawnMove nodes terminal name n s t

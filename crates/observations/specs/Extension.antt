@@ -17,7 +17,7 @@ pub record IsObserved {S : Type 0} (names : List Fairness) (enabled : S → List
   pub first : o.first.enabled ≡ enabled o.first.state
   pub follow : FollowsBy enabled Can o.first.state o.later
 
--- idling is always a step and leads nowhere else, and each enabled name leads to the state that `next` gives
+-- idling is always a step that leads back to its state, and each enabled name leads to the state that `next` gives
 pub record MayGoOn {S : Type 0} (enabled : S → List Bool) (Can : S → ℕ → S → Type 0) (next : S → ℕ → S) (idle : ℕ) : Type 0 where
   pub idles : (s : S) → Can s idle s
   pub goes : (s : S) (name : ℕ) → slice_get (enabled s) name ≡ Some true → Can s name (next s name)

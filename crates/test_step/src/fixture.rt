@@ -57,19 +57,3 @@ pub fn sink(
 pub fn check_words(rt: &HostRuntime) -> Result<Vec<String>, Fail> {
     words(rt, &["step", "check", "p", "q", "c"])
 }
-
-/// A text with a part that stands several times in it.
-pub fn repeated(
-    rt: &HostRuntime,
-    first: &str,
-    part: &str,
-    count: u32,
-    last: &str,
-) -> Result<String, Fail> {
-    let mut text = String::from_str(rt.alloc(), first)?;
-    for _ in 0..count {
-        text.push_str(part)?;
-    }
-    text.push_str(last)?;
-    Ok(text)
-}

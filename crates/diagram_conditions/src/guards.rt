@@ -50,7 +50,8 @@ fn is_just(transitions: &[Transition], number: u32) -> bool
 {
     match transitions.get(number as usize) {
         Some(transition) => match transition.fairness {
-            Fairness::Just | Fairness::Compassionate => true,
+            Fairness::Just => true,
+            Fairness::Compassionate => true,
             Fairness::Unfair => false,
         },
         None => false,

@@ -8,10 +8,10 @@ use Rattle.st_program.specs.Tree.{Term, number, truth}
 use Rattle.st_reading.specs.Reading.{Read}
 use Rattle.st_reading.specs.Faults.{Passed}
 use Rattle.st_tokens.specs.Stream.{Stream}
-use Rattle.spl_parser.specs.declared.raw.Operator.{Operator}
-use Rattle.spl_parser.specs.declared.raw.Operator.TheVariants as operators
-use Rattle.spl_parser.specs.ExpressionTree.{Expr, Kind, Exprs, start_of}
-use Rattle.spl_parser.specs.ExpressionTree as raw
+use Rattle.expression_parser.specs.declared.raw.Operator.{Operator}
+use Rattle.expression_parser.specs.declared.raw.Operator.TheVariants as operators
+use Rattle.expression_parser.specs.ExpressionTree.{Expr, Kind, Exprs, start_of}
+use Rattle.expression_parser.specs.ExpressionTree as raw
 use Rattle.spl_typer.specs.declared.fault.TypeFault.{TypeFault}
 use Rattle.spl_typer.specs.declared.fault.TypeFault.TheVariants as rules
 use Rattle.spl_typer.specs.Answers.{◌>>=◌}

@@ -9,7 +9,7 @@ use Rattle.st_reading.specs.Reading.{Label}
 use Rattle.st_program.specs.Types.{type_of}
 use Rattle.st_program.specs.Names.{named}
 use Rattle.st_program.specs.Names as tables
-use Rattle.spl_parser.specs.ExpressionTree.{Expr}
+use Rattle.expression_parser.specs.ExpressionTree.{Expr}
 use Rattle.spl_parser.specs.ProgramTree as raw
 use Rattle.spl_typer.specs.declared.fault.TypeFault.TheVariants as faults
 use Rattle.spl_typer.specs.declared.walk.Mark.{Mark}

@@ -6,8 +6,8 @@ use Rattle.st_reading.specs.Reading.{Read}
 use Rattle.st_reading.specs.Faults.{Passed}
 use Rattle.st_linear.specs.Linear.{Linear}
 use Rattle.st_form.specs.Formula.{Formula}
-use Rattle.spl_parser.specs.ExpressionTree.{Expr, start_of}
-use Rattle.spl_parser.specs.Reading.{below, expression_of, sum_of}
+use Rattle.expression_parser.specs.ExpressionTree.{Expr, start_of}
+use Rattle.expression_parser.specs.Reading.{below, expression_of, sum_of}
 use Rattle.spl_typer.specs.declared.fault.TypeFault.{TypeFault}
 use Rattle.spl_typer.specs.Answers.{◌>>=◌}
 use Rattle.spl_typer.specs.Scope.{Names}

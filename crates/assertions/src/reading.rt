@@ -22,7 +22,7 @@ use std::alloc::Global;
 /// are those of the whole program, and `at` stands before a label.
 ///
 /// That it is the longest, and that a fault of the grammar is the first, are `formulas_are_longest` and
-/// `formulas_first_fault` of `spl_parser::laws`; that it is typed to its meaning, or refused for the lowest rule that is
+/// `formulas_first_fault` of `expression_parser::laws`; that it is typed to its meaning, or refused for the lowest rule that is
 /// broken at the first place, are `first_is_told_by_names` and `least_is_told_by_names` of `spl_typer::laws`.
 #[tactic(auto, unfolding(crate::specs::Reading::form_of))]
 pub fn read_form(

@@ -3,3 +3,4 @@ pub mod Onces
 pub mod Own
 pub mod Strands
 pub mod Walked
+pub mod Owners

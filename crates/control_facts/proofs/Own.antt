@@ -2,18 +2,18 @@
 --
 -- The own locations of a part of the text are an interval, but for the one that it takes over. So two parts side by side
 -- have at most that one in common, and what is read at each location, once, is read part by part.
-use Rattle.std.proofs.Common.{◌≡◌, ◌≢◌, ℕ, suc, ◌+◌, ◌<◌, ◌≤◌, Bool, true, false, List, [], ◌∷◌, ◌++◌, map, refl, sym, ap, ◌∙◌, subst, ◌⊎◌, inl, inr, append_assoc, arith}
+use Rattle.std.proofs.Common.{◌≡◌, ◌≢◌, ℕ, suc, ◌<◌, ◌≤◌, true, false, List, [], ◌∷◌, ◌++◌, map, refl, sym, ap, ◌∙◌, subst, ◌⊎◌, inl, inr, arith}
 use Rattle.std.specs.Prelude.{◌==◌, if◌then◌else◌, flat_map}
 use Rattle.std.proofs.lemmas.Bool.Decides.{nat_tests}
 use Rattle.std.proofs.lemmas.List.{append-nil}
 use Rattle.st_program.specs.Tree.{Statement, stated, Action, skip, if_then, if_else, while_do, block, select, cooperate, Statements, no_statement, statement, process, Processes, no_process, beside, location}
 use Rattle.st_program.specs.Member.{Member, here, there}
-use Rattle.st_program.specs.Locations.{location_end, within_end, head_end, along_end, among_end, inside_end, IsPlaced, WithinPlaced, HeadPlaced, AlongPlaced, AmongPlaced, InsidePlaced}
+use Rattle.st_program.specs.Locations.{location_end, within_end, head_end, along_end, among_end, inside_end, IsPlaced, WithinPlaced, HeadPlaced, AlongPlaced, AmongPlaced}
 use Rattle.control_states.specs.declared.alternative.Alternative.{Alternative}
 use Rattle.control_states.specs.declared.alternative.Alternative.TheVariants.{Location, Inside}
 use Rattle.control_facts.specs.Alternatives.{own, own_within, own_among, once, inside_at, alternatives_at, alternatives_of}
 use Rattle.control_facts.specs.Walk.{heads, heads_first, heads_among, choices, further, choices_along, choices_among, choices_of}
-use Rattle.control_facts.proofs.Onces.{nowhere, in_left, in_right, in_either, but, but_same, but_other, of_but, of_once, but_absent, but_twice, once_append, flat_append, flat_same, flat_none, map_append, in_map}
+use Rattle.control_facts.proofs.Onces.{nowhere, in_either, but, but_same, of_but, of_once, but_absent, but_twice, once_append, flat_append, flat_same, flat_none, map_append, in_map}
 
 mutual
   pub grow : (s : Statement) (f : ℕ) → f ≤ location_end s f

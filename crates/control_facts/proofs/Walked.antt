@@ -1,12 +1,11 @@
 -- What the walk over a component has made.
-use Rattle.std.proofs.Common.{◌≡◌, ℕ, true, List, [], ◌∷◌, ◌++◌, length, Option, refl, sym, ap, ◌∙◌}
+use Rattle.std.proofs.Common.{◌≡◌, ℕ, true, List, [], ◌∷◌, ◌++◌, length, Option, sym, ap, ◌∙◌}
 use Rattle.st_program.specs.declared.trees.Child as GChild
 use Rattle.st_program.specs.declared.trees.Stmt as GStmt
-use Rattle.st_program.specs.Tree.{process}
 use Rattle.st_program.specs.Plain.{plain_stmts, plain_child}
 use Rattle.st_program.proofs.Rows.{child_is}
 use Rattle.control_states.specs.declared.alternative.Alternative.{Alternative}
-use Rattle.control_states.specs.Control.{ComponentFacts, ControlFacts}
+use Rattle.control_states.specs.Control.{ComponentFacts}
 use Rattle.control_facts.specs.Walk.{choices_of, with_part, with_owner, walk_along, walk_component, facts_of}
 
 pub component_walked : (x : GChild.Child) (around : Option (ℕ × ℕ)) (parts parts1 parts2 : List ComponentFacts) (owners owners1 owners2 : List ℕ) (n : ℕ) (alts : List Alternative) (body1 body2 : List GStmt.Stmt)

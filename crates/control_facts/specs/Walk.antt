@@ -3,7 +3,7 @@
 -- A statement with a location of its own gives that location, then the insides of the cooperations that it can begin
 -- with, then what stands further in it. What it can begin with is read on the shape of the text alone. Theorems in
 -- `proofs/` say that in a program this gives what `Alternatives` says.
-use Rattle.std.specs.Prelude.{ℕ, Bool, true, false, List, [], ◌∷◌, ◌++◌, length, Option, Some, None}
+use Rattle.std.specs.Prelude.{ℕ, Bool, true, false, List, [], ◌∷◌, ◌++◌, length, Option, Some}
 use Rattle.st_program.specs.Tree.{Statement, stated, Action, skip, if_then, if_else, while_do, block, select, cooperate, Statements, no_statement, statement, Process, process, Processes, no_process, beside}
 use Rattle.control_states.specs.declared.alternative.Alternative.{Alternative}
 use Rattle.control_states.specs.declared.alternative.Alternative.TheVariants.{Location, Inside}

@@ -4,7 +4,7 @@
 //! stand before it. Each location is owned by the component that the walk is in where it meets the location; the first
 //! statement of a block and the branches of a selection take over a location that was met before.
 
-ghost use Rattle.std.specs.Prelude.{◌≡◌, OnOk, IfOk};
+ghost use Rattle.std.specs.Prelude.{◌≡◌, ◌<◌, All, OnOk, IfOk, length};
 ghost use Rattle.st_program.specs.Plain.{plain_stmt, plain_stmts, plain_kind, plain_child, plain_children};
 ghost use Rattle.control_facts.specs.Alternatives.{control_of};
 ghost use Rattle.control_facts.specs.Walk.{walk, walk_within, walk_along, walk_among, walk_inside, walk_component, facts_of};
@@ -15,9 +15,11 @@ use st_memory::Memory;
 use st_program::{Child, Kind, Program, Stmt};
 use std::alloc::Global;
 
-/// The components of a program in text order, and of each location the component whose own it is.
+/// The components of a program in text order, and of each location the component whose own it is, by its number.
 pub fn components(alloc: Global, program: &Program) -> Result<Components, Memory>
-    ensures { IfOk result (λ facts. facts ≡ control_of (plain_children program.now.processes)) }
+    ensures facts { IfOk result (λ facts. facts ≡ control_of (plain_children program.now.processes)) }
+    ensures each { IfOk result (λ facts. length facts.owners ≡ program.now.locations) }
+    ensures named { IfOk result (λ facts. All (λ c. c < length facts.components) facts.owners) }
 {
     let mut parts = Vec::new(alloc);
     let mut owners = Vec::with_capacity(alloc, program.locations as usize)?;

@@ -6,11 +6,11 @@ use Rattle.st_reading.specs.declared.sign.Sign.{Sign}
 use Rattle.st_reading.specs.Reading.{Read, gives, goes, chain, size}
 use Rattle.st_reading.proofs.Soundness.{Shrinks}
 use Rattle.st_reading.proofs.Shrinking.{shrinks_gives, shrinks_bind, shrinks_map, shrinks_chain}
-use Rattle.spl_parser.specs.declared.raw.Operator.{Operator}
-use Rattle.spl_parser.specs.Signs.{product_sign, sum_sign}
-use Rattle.spl_parser.specs.ExpressionTree.{Expr}
-use Rattle.spl_parser.specs.Reading.{Reader, below, joined, grouping, grouped, unary_of, product_of, sum_of, expression_of}
-use Rattle.spl_parser.proofs.ExpressionShrinking.{unary_shrinks, expression_shrinks, below_shrinks}
+use Rattle.expression_parser.specs.declared.raw.Operator.{Operator}
+use Rattle.expression_parser.specs.Signs.{product_sign, sum_sign}
+use Rattle.expression_parser.specs.ExpressionTree.{Expr, joined}
+use Rattle.expression_parser.specs.Reading.{Reader, below, grouping, grouped, unary_of, product_of, sum_of, expression_of}
+use Rattle.expression_parser.proofs.ExpressionShrinking.{unary_shrinks, expression_shrinks, below_shrinks}
 use Rattle.spl_typer.specs.declared.fault.TypeFault.{TypeFault}
 use Rattle.spl_typer.specs.Scope.{Names}
 use Rattle.st_linear.specs.Linear.{Linear}

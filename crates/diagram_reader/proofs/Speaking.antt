@@ -8,7 +8,7 @@ use Rattle.st_linear.specs.Linear.{Linear}
 use Rattle.st_form.specs.Formula.{Formula}
 use Rattle.st_form.specs.declared.variables.Variable.{Variable}
 use Rattle.st_program.specs.Types.{LinearFits}
-use Rattle.spl_parser.specs.Reading.{below, expression_of, sum_of as plain_sum_of}
+use Rattle.expression_parser.specs.Reading.{below, expression_of, sum_of as plain_sum_of}
 use Rattle.transition_system.specs.Systems.{System}
 use Rattle.temporal_goals.specs.Texts.{PlainDrawnNode, PlainDiagram}
 use Rattle.temporal_goals.specs.declared.diagrams.DiagramKind.{DiagramKind}

@@ -11,14 +11,14 @@ use Rattle.st_reading.specs.Reading.{Label, label_of, leaves, goes, expected, is
 use Rattle.st_reading.specs.Steady.{Viable, Within, calmer, wider, moves, anything}
 use Rattle.st_reading.proofs.Lawful.{Lawful, lawful_bind, lawful_gives, lawful_map, lawful_chain, lawful_weak}
 use Rattle.st_reading.proofs.Branches.{completes_gives, lawful_fork, fork_completes}
-use Rattle.spl_parser.specs.ExpressionTree.{Expr}
+use Rattle.expression_parser.specs.ExpressionTree.{Expr}
 use Rattle.spl_parser.specs.ProgramTree.{Statement, statements, Body, body}
 use Rattle.spl_parser.specs.Item.{Item, last, item}
 use Rattle.spl_parser.specs.Begun.{Begun, fresh, after_name, after_label}
-use Rattle.spl_parser.specs.Calm.{calm, calm_but, calm_but2}
-use Rattle.spl_parser.specs.Reading.{Reader}
+use Rattle.expression_parser.specs.Calm.{calm, calm_but, calm_but2}
+use Rattle.expression_parser.specs.Reading.{Reader}
 use Rattle.spl_parser.specs.Statements.{Lower, an_item, labelled_item, named_item, item_of, turned_by, continuing, closed_body, rest_of_body, body_of, child_of, children_of}
-use Rattle.spl_parser.proofs.Quiet.{but_calm, but_none, but2_but, but2_other, but2_none, name_token}
+use Rattle.expression_parser.proofs.Quiet.{but_calm, but_none, but2_but, but2_other, but2_none, name_token}
 use Rattle.spl_parser.proofs.Witnesses.{witness_is, witness_in, lawful_mark, close_block_mark, open_block_mark, colon_mark, bars_mark}
 use Rattle.spl_parser.proofs.ListLaw.{any_of, same}
 

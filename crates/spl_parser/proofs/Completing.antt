@@ -14,13 +14,13 @@ use Rattle.st_reading.proofs.Chains.{chain_none}
 use Rattle.st_reading.proofs.Branches.{completes_calmer, completes_gives, completes_bind, completes_map}
 use Rattle.spl_parser.specs.declared.sign.Start.{Start}
 use Rattle.spl_parser.specs.declared.sign.Start.TheVariants as starts
-use Rattle.spl_parser.specs.ExpressionTree.{Expr}
+use Rattle.expression_parser.specs.ExpressionTree.{Expr}
 use Rattle.spl_parser.specs.ProgramTree.{Statement, statements, no_branch, conditional, Action, skip, critical, noncritical, assign, assign_all, await, request, release, while_do, forever, block, select, cooperate, group, Body, body, bodies}
 use Rattle.spl_parser.specs.Begun.{Begun, fresh}
-use Rattle.spl_parser.specs.Calm.{calm, calm_but, calm_but2}
-use Rattle.spl_parser.specs.Reading.{Reader}
+use Rattle.expression_parser.specs.Calm.{calm, calm_but, calm_but2}
+use Rattle.expression_parser.specs.Reading.{Reader}
 use Rattle.spl_parser.specs.Statements.{Lower, listed_of, right_side_of, all_assigned_of, sequence_of, selection_of, continuing, closed_body, rest_of_body, body_of, child_of, children_of, branch_of, conditional_of, doing, enclosed, action_of}
-use Rattle.spl_parser.proofs.Quiet.{but_calm, but_none, but_false, but2_other, but2_none, name_token}
+use Rattle.expression_parser.proofs.Quiet.{but_calm, but_none, but_false, but2_other, but2_none, name_token}
 use Rattle.spl_parser.proofs.Witnesses.{Witness, completes_mark, becomes_mark, comma_mark, open_mark, close_mark, close_block_mark, close_group_mark, open_block_mark, then_mark, fi_mark, do_mark, forever_mark, either_mark, bars_mark, coend_mark}
 use Rattle.spl_parser.proofs.ListLaw.{any_of, same}
 use Rattle.spl_parser.proofs.BodyLaw.{in_body, apart, name_is, name_calm}

@@ -7,10 +7,10 @@ use Rattle.st_reading.specs.Faults.{Passed}
 use Rattle.st_reading.specs.Reading.{Stop, Read, Label, ahead, size, goes, expected, IsStop, only, Counted}
 use Rattle.st_reading.proofs.Chains.{Running, running_next, running_leaves, running_ends, running_fails}
 use Rattle.st_reading.proofs.Loops.{stop_as, only_some, only_none, mapped, map_fails}
-use Rattle.spl_parser.specs.ExpressionTree.{Expr}
+use Rattle.expression_parser.specs.ExpressionTree.{Expr}
 use Rattle.spl_parser.specs.ProgramTree.{Statement, Body, body, statements}
 use Rattle.spl_parser.specs.Item.{last, item}
-use Rattle.spl_parser.specs.Reading.{Reader}
+use Rattle.expression_parser.specs.Reading.{Reader}
 use Rattle.spl_parser.specs.Statements.{Lower, item_of, turned_by, continuing, closed_body}
 
 -- the items of a body

@@ -11,11 +11,11 @@ use Rattle.st_reading.proofs.Branches.{completes_map, completes_behind, complete
 use Rattle.spl_parser.specs.declared.sign.Start.{Start}
 use Rattle.spl_parser.specs.declared.sign.Start.TheVariants as starts
 use Rattle.spl_parser.specs.Signs.{start, begins}
-use Rattle.spl_parser.specs.ExpressionTree.{Expr}
+use Rattle.expression_parser.specs.ExpressionTree.{Expr}
 use Rattle.spl_parser.specs.ProgramTree.{stated, Action, skip, assign}
 use Rattle.spl_parser.specs.Begun.{Begun, fresh, after_name, after_label}
-use Rattle.spl_parser.specs.Calm.{calm}
-use Rattle.spl_parser.specs.Reading.{Reader}
+use Rattle.expression_parser.specs.Calm.{calm}
+use Rattle.expression_parser.specs.Reading.{Reader}
 use Rattle.spl_parser.specs.Statements.{Lower, goes_on, right_side_of, action_of, standing, bare_of, named_of, assigned_of, statement_of, inside}
 use Rattle.spl_parser.proofs.Witnesses.{witness_is, witness_in, becomes_mark, colon_mark, skip_mark}
 use Rattle.spl_parser.proofs.ListLaw.{same}

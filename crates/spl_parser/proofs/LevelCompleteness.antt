@@ -13,11 +13,11 @@ use Rattle.st_reading.proofs.ListCompleteness.{Complete, Counts}
 use Rattle.spl_parser.specs.declared.sign.Start.{Start}
 use Rattle.spl_parser.specs.declared.sign.Start.TheVariants as starts
 use Rattle.spl_parser.specs.Signs.{start, basic_start, nested_start, begins, is_inner}
-use Rattle.spl_parser.specs.ExpressionTree.{Expr}
+use Rattle.expression_parser.specs.ExpressionTree.{Expr}
 use Rattle.spl_parser.specs.ProgramTree.{Statement, stated, Action, assign}
 use Rattle.spl_parser.specs.Begun.{Begun, fresh, after_name, after_label}
-use Rattle.spl_parser.specs.Calm.{calm}
-use Rattle.spl_parser.specs.Reading.{Reader}
+use Rattle.expression_parser.specs.Calm.{calm}
+use Rattle.expression_parser.specs.Reading.{Reader}
 use Rattle.spl_parser.specs.Statements.{Lower, right_side_of, assigned_of, action_of, standing, bare_of, named_of, statement_of, inside}
 use Rattle.spl_parser.specs.Grammar.{IsRightSide, right_side, IsBare, s_assign, s_assign_all, s_skip, s_critical, s_noncritical, s_await, s_request, s_release, s_if, s_while, s_loop, s_block, s_select, s_cooperate, s_group, IsStatement, unlabelled, labelled, Low}
 use Rattle.spl_parser.proofs.Tally.{statement_after, action_after, Range, Fits, admitted_there, fits_inside}

@@ -13,10 +13,10 @@ use Rattle.st_reading.proofs.Streams.{token_is}
 use Rattle.st_reading.proofs.Steadiness.{at_stuck, at_over}
 use Rattle.st_reading.proofs.Soundness.{sound_shrinks}
 use Rattle.st_reading.proofs.Lawful.{Lawful, at_head, viable_of}
-use Rattle.spl_parser.specs.ExpressionTree.{Expr}
+use Rattle.expression_parser.specs.ExpressionTree.{Expr}
 use Rattle.spl_parser.specs.Begun.{Begun, fresh, after_name, after_label}
-use Rattle.spl_parser.specs.Calm.{calm}
-use Rattle.spl_parser.specs.Reading.{Reader}
+use Rattle.expression_parser.specs.Calm.{calm}
+use Rattle.expression_parser.specs.Reading.{Reader}
 use Rattle.spl_parser.specs.Statements.{Lower, goes_on, front_place, statement_of, inside}
 use Rattle.spl_parser.proofs.ListLaw.{same}
 use Rattle.spl_parser.proofs.BodyLaw.{quiet}

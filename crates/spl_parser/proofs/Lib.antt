@@ -1,15 +1,6 @@
-pub mod Rows
 pub mod StatementRows
-pub mod Views
-pub mod Levels
-pub mod Loops
 pub mod CountedLoops
-pub mod Quiet
-pub mod ExpressionShrinking
-pub mod ExpressionLaw
 pub mod Witnesses
-pub mod ExpressionSoundness
-pub mod ExpressionCompleteness
 pub mod StatementSoundness
 pub mod ProgramSoundness
 pub mod Tally
@@ -26,8 +17,6 @@ pub mod LevelLaw
 pub mod ProgramLaw
 pub mod ProgramCompleteness
 pub mod ProgramTally
-pub mod ExpressionLifting
 pub mod StatementLifting
 pub mod ProgramLifting
-pub mod FormulaTheorems
 pub mod ProgramTheorems

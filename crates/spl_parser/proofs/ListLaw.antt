@@ -8,12 +8,12 @@ use Rattle.st_reading.specs.Faults.{Passed}
 use Rattle.st_reading.specs.Reading.{Label, goes, expected, named, gives, then_reads, chain, syntax, only, listing, further}
 use Rattle.st_reading.specs.Steady.{Within, calmer, takes, wider, moves, anything}
 use Rattle.st_reading.proofs.Lawful.{Lawful, lawful_bind, lawful_gives, lawful_map, lawful_named, lawful_chain, lawful_weak}
-use Rattle.spl_parser.specs.ExpressionTree.{Expr}
+use Rattle.expression_parser.specs.ExpressionTree.{Expr}
 use Rattle.spl_parser.specs.ProgramTree.{Action, assign_all}
-use Rattle.spl_parser.specs.Calm.{calm, calm_but}
-use Rattle.spl_parser.specs.Reading.{Reader}
+use Rattle.expression_parser.specs.Calm.{calm, calm_but}
+use Rattle.expression_parser.specs.Reading.{Reader}
 use Rattle.spl_parser.specs.Statements.{listed_of, right_side_of, all_assigned_of}
-use Rattle.spl_parser.proofs.Quiet.{but_calm, but_none, name_token}
+use Rattle.expression_parser.proofs.Quiet.{but_calm, but_none, name_token}
 use Rattle.spl_parser.proofs.Witnesses.{lawful_mark, becomes_mark, comma_mark, close_mark, open_mark}
 
 pub any_of : (f : Sign → Bool) → Within f anything

@@ -17,14 +17,15 @@ use Rattle.st_reading.proofs.Soundness.{sound_shrinks}
 use Rattle.st_reading.proofs.ListSoundness.{Steps, no_steps, a_step}
 use Rattle.st_reading.proofs.ListCompleteness.{Complete, Counts, all_after, AllFit, expected_is, steps_complete, row_counts}
 use Rattle.spl_parser.specs.Signs.{start, begins, mode, kind}
-use Rattle.spl_parser.specs.ExpressionTree.{Expr}
+use Rattle.expression_parser.specs.ExpressionTree.{Expr}
 use Rattle.spl_parser.specs.ProgramTree.{Statement, Body, Declaration, Process, Program}
-use Rattle.spl_parser.specs.Calm.{calm, calm_but}
+use Rattle.expression_parser.specs.Calm.{calm, calm_but}
 use Rattle.spl_parser.specs.Statements.{body_of}
 use Rattle.spl_parser.specs.Programs.{Limits, value_of, lower_of, variable_of, names_of, type_of, initial_of, declaration_of, declarations_of, Totals, totals, process_name, process, process_of, processes_of, spelled_of, program_of}
-use Rattle.spl_parser.specs.Grammar.{SpellsWithin, Low, IsBody, unnamed, ended, IsInitial, free, given, declaration, Declarations, no_declarations, declaration_more, IsProcess, process as a_process, IsProgram, program}
-use Rattle.spl_parser.proofs.Quiet.{but_none}
-use Rattle.spl_parser.proofs.ExpressionCompleteness.{formula_complete}
+use Rattle.expression_parser.specs.Grammar.{SpellsWithin}
+use Rattle.spl_parser.specs.Grammar.{Low, IsBody, unnamed, ended, IsInitial, free, given, declaration, Declarations, no_declarations, declaration_more, IsProcess, process as a_process, IsProgram, program}
+use Rattle.expression_parser.proofs.Quiet.{but_none}
+use Rattle.expression_parser.proofs.ExpressionCompleteness.{formula_complete}
 use Rattle.spl_parser.proofs.Tally.{body_after, BodyFits}
 use Rattle.spl_parser.proofs.StatementCompleteness.{known, unlike, body_complete}
 use Rattle.spl_parser.proofs.LevelCompleteness.{statement_goes, inside_complete}

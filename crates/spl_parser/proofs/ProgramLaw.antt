@@ -19,15 +19,15 @@ use Rattle.st_reading.proofs.Shrinking.{left}
 use Rattle.st_reading.proofs.Lawful.{Lawful, at_head, lawful_bind, lawful_gives, lawful_map, lawful_chain, lawful_weak, lawful_if, viable_of}
 use Rattle.st_reading.proofs.Branches.{lawful_calmer, completes_gives, completes_behind, completes_over, lawful_pick}
 use Rattle.spl_parser.specs.Signs.{mode, kind}
-use Rattle.spl_parser.specs.ExpressionTree.{Expr}
+use Rattle.expression_parser.specs.ExpressionTree.{Expr}
 use Rattle.spl_parser.specs.ProgramTree.{Statement, Body, Declaration, Process, Program}
 use Rattle.spl_parser.specs.Begun.{Begun, fresh}
-use Rattle.spl_parser.specs.Calm.{calm, calm_but, calm_but2}
-use Rattle.spl_parser.specs.Reading.{Reader, expression_of, disjunction_of, conjunction_of, negation_of, comparison_of, sum_of, product_of, unary_of, atom_of}
+use Rattle.expression_parser.specs.Calm.{calm, calm_but, calm_but2}
+use Rattle.expression_parser.specs.Reading.{Reader, expression_of, disjunction_of, conjunction_of, negation_of, comparison_of, sum_of, product_of, unary_of, atom_of}
 use Rattle.spl_parser.specs.Statements.{rest_of_body, body_of}
 use Rattle.spl_parser.specs.Programs.{Limits, Totals, totals, limited_name, value_of, lower_of, variable_of, names_of, type_of, initial_of, declaration_of, declarations_of, process_name, process, process_of, processes_of, spelled_of}
-use Rattle.spl_parser.proofs.Quiet.{and_parts, but_calm, but_none, but_false, but2_other, but2_none, name_token}
-use Rattle.spl_parser.proofs.ExpressionLaw.{larger, lawful_formula}
+use Rattle.expression_parser.proofs.Quiet.{and_parts, but_calm, but_none, but_false, but2_other, but2_none, name_token}
+use Rattle.expression_parser.proofs.ExpressionLaw.{larger, lawful_formula}
 use Rattle.spl_parser.proofs.Witnesses.{witness_in, lawful_mark, colon_mark, colons_mark, semicolon_mark, open_block_mark, integer_mark, skip_mark}
 use Rattle.spl_parser.proofs.ListLaw.{any_of, same}
 use Rattle.spl_parser.proofs.BodyLaw.{in_body, apart, quiet, name_is, name_calm, lawful_rest_of_body}

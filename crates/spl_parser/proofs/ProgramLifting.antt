@@ -9,12 +9,12 @@ use Rattle.st_reading.specs.Faults.{Passed, passed}
 use Rattle.st_reading.specs.Reading.{other, Label, ahead, place_of, name_of, is_name, refusal, expected, gives, then_reads, size, Counted, Carried, linked}
 use Rattle.st_reading.proofs.Lifting.{Lifts, lifts_same, lifts_bind, lifts_behind, lifts_map, lifted_cond, lifts_counting, lifts_linked}
 use Rattle.spl_parser.specs.Signs.{mode}
-use Rattle.spl_parser.specs.ExpressionTree.{Expr}
+use Rattle.expression_parser.specs.ExpressionTree.{Expr}
 use Rattle.spl_parser.specs.ProgramTree.{Declaration, Process, Program}
-use Rattle.spl_parser.specs.Reading.{Reader, below}
+use Rattle.expression_parser.specs.Reading.{Reader, below}
 use Rattle.spl_parser.specs.Statements.{body_of}
 use Rattle.spl_parser.specs.Programs.{Limits, limited_name, value_of, lower_of, variable_of, names_of, type_of, initial_of, declaration_of, declarations_of, Totals, totals, process_name, process, process_of, processes_of, spelled_of}
-use Rattle.spl_parser.proofs.ExpressionLifting.{AsDeep, expression_lifts, below_lifts}
+use Rattle.expression_parser.proofs.ExpressionLifting.{AsDeep, expression_lifts, below_lifts}
 use Rattle.spl_parser.proofs.StatementLifting.{AsMany, lifted_test, body_lifts, inside_lifts}
 
 -- limits that are as large, or larger where passing one isn't kept

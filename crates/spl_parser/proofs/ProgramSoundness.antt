@@ -10,14 +10,15 @@ use Rattle.st_reading.specs.Spelling.{Cut, Sound, Both, behind_it, Is, OneName, 
 use Rattle.st_reading.proofs.Soundness.{taken, sound_bind}
 use Rattle.st_reading.proofs.ListSoundness.{OneMark, one_mark, Given, given, sound_as, sound_gives, sound_expected, Steps, no_steps, a_step, counting_sound, row_sound}
 use Rattle.spl_parser.specs.Signs.{mode, kind}
-use Rattle.spl_parser.specs.ExpressionTree.{Expr}
+use Rattle.expression_parser.specs.ExpressionTree.{Expr}
 use Rattle.spl_parser.specs.ProgramTree.{Statement, Body, Declaration, Process, Program}
 use Rattle.spl_parser.specs.Begun.{Begun, fresh}
-use Rattle.spl_parser.specs.Reading.{Reader, below}
+use Rattle.expression_parser.specs.Reading.{Reader, below}
 use Rattle.spl_parser.specs.Statements.{Lower, goes_on, statement_of, limited, body_of, inside}
 use Rattle.spl_parser.specs.Programs.{Limits, value_of, lower_of, variable_of, names_of, type_of, initial_of, declaration_of, declarations_of, Totals, totals, process_name, process, process_of, processes_of, spelled_of}
-use Rattle.spl_parser.specs.Grammar.{Inside, SpellsWithin, Low, IsBody, IsInitial, free, given as an_initial, IsDeclaration, declaration, Declarations, no_declarations, declaration_more, IsProcess, process as a_process, IsProgram, program}
-use Rattle.spl_parser.proofs.ExpressionSoundness.{expression_sound, below_sound}
+use Rattle.expression_parser.specs.Grammar.{Inside, SpellsWithin}
+use Rattle.spl_parser.specs.Grammar.{Low, IsBody, IsInitial, free, given as an_initial, IsDeclaration, declaration, Declarations, no_declarations, declaration_more, IsProcess, process as a_process, IsProgram, program}
+use Rattle.expression_parser.proofs.ExpressionSoundness.{expression_sound, below_sound}
 use Rattle.spl_parser.proofs.StatementSoundness.{Inner, Rest, assigned_from, labelled_from, statement_sound, body_sound}
 
 -- STATEMENTS WITH ANY NUMBER OF LEVELS

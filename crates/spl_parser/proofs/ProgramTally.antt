@@ -10,9 +10,9 @@ use Rattle.st_reading.proofs.Soundness.{split, values}
 use Rattle.st_reading.proofs.ListCompleteness.{all_after, AllFit}
 use Rattle.st_reading.proofs.ListTally.{Tallies, chain_tallies, row_tallies, all_told}
 use Rattle.spl_parser.specs.Signs.{mode}
-use Rattle.spl_parser.specs.ExpressionTree.{Expr}
+use Rattle.expression_parser.specs.ExpressionTree.{Expr}
 use Rattle.spl_parser.specs.ProgramTree.{Declaration, Process, Program}
-use Rattle.spl_parser.specs.Reading.{Reader}
+use Rattle.expression_parser.specs.Reading.{Reader}
 use Rattle.spl_parser.specs.Statements.{body_of}
 use Rattle.spl_parser.specs.Programs.{Limits, limited_name, value_of, lower_of, variable_of, names_of, type_of, initial_of, declaration_of, declarations_of, Totals, totals, process_name, process, process_of, processes_of, spelled_of}
 use Rattle.spl_parser.proofs.StatementTally.{body_told, inside_tallies}

@@ -14,13 +14,14 @@ use Rattle.st_reading.proofs.ListCompleteness.{all_after, AllFit}
 use Rattle.st_reading.proofs.Lifting.{Lifted}
 use Rattle.st_reading.proofs.Theorems.{whole_first, first_as, met_as, further_tokens, spelled_unstuck, limit_met}
 use Rattle.spl_parser.specs.ProgramTree.{Declaration, Process, Program}
-use Rattle.spl_parser.specs.Calm.{calm, calm_but}
+use Rattle.expression_parser.specs.Calm.{calm, calm_but}
 use Rattle.spl_parser.specs.Programs.{Limits, Totals, totals, spelled_of, program_of, usual}
-use Rattle.spl_parser.specs.Grammar.{SpellsWithin, Low, IsProgram, SpellsProgram}
+use Rattle.expression_parser.specs.Grammar.{SpellsWithin}
+use Rattle.spl_parser.specs.Grammar.{Low, IsProgram, SpellsProgram}
 use Rattle.spl_parser.specs.Numbers.{declared, declared_inside, in_processes, IsWithin}
 use Rattle.spl_parser.specs.Parsing.{alone, parsed, Parses}
 use Rattle.spl_parser.specs.Theorems.{SpellsWithinLimits, ReadOnce, SpelledIsRead, ReadIsSpelled, FirstFault, LimitsRefuse, IsWithinOne, LimitsAreMet, IsRefused, IsReading}
-use Rattle.spl_parser.proofs.ExpressionLaw.{larger}
+use Rattle.expression_parser.proofs.ExpressionLaw.{larger}
 use Rattle.spl_parser.proofs.InsideLaw.{unlimited, deeper}
 use Rattle.spl_parser.proofs.BodyLaw.{apart}
 use Rattle.spl_parser.proofs.Tally.{body_after, body_raises, body_rises, Range, first_part, last_part, joined_parts, nothing_begins, one_begins, all_begin, all_fit}

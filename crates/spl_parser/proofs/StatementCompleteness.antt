@@ -22,15 +22,15 @@ use Rattle.st_reading.proofs.ListCompleteness.{Complete, Counts, all_after, AllF
 use Rattle.spl_parser.specs.declared.sign.Start.{Start}
 use Rattle.spl_parser.specs.declared.sign.Start.TheVariants as starts
 use Rattle.spl_parser.specs.Signs.{start, begins}
-use Rattle.spl_parser.specs.ExpressionTree.{Expr}
+use Rattle.expression_parser.specs.ExpressionTree.{Expr}
 use Rattle.spl_parser.specs.ProgramTree.{Statement, stated, statements, Branch, branch, conditional, Action, skip, critical, noncritical, assign, assign_all, await, request, release, while_do, forever, block, select, cooperate, group, Body, body, bodies}
 use Rattle.spl_parser.specs.Item.{last, item}
 use Rattle.spl_parser.specs.Begun.{Begun, fresh, after_name, after_label}
-use Rattle.spl_parser.specs.Calm.{calm, calm_but}
-use Rattle.spl_parser.specs.Reading.{Reader}
+use Rattle.expression_parser.specs.Calm.{calm, calm_but}
+use Rattle.expression_parser.specs.Reading.{Reader}
 use Rattle.spl_parser.specs.Statements.{Lower, listed_of, right_side_of, all_assigned_of, sequence_of, selection_of, an_item, item_of, turned_by, continuing, closed_body, rest_of_body, body_of, child_of, children_of, branch_of, conditional_of, doing, enclosed, action_of, bare_of}
 use Rattle.spl_parser.specs.Grammar.{IsRightSide, right_side, IsBranch, without, with_else, IsBody, unnamed, ended, IsChild, child, IsBare, s_assign, s_assign_all, s_skip, s_critical, s_noncritical, s_await, s_request, s_release, s_if, s_while, s_loop, s_block, s_select, s_cooperate, s_group}
-use Rattle.spl_parser.proofs.Quiet.{but_calm, but_none}
+use Rattle.expression_parser.proofs.Quiet.{but_calm, but_none}
 use Rattle.spl_parser.proofs.BodyLaw.{in_body}
 use Rattle.spl_parser.proofs.Tally.{statement_after, action_after, branch_after, statements_after, body_after, bodies_after, Range, Fits, BodyFits, first_part, last_part, statement_rises, branch_rises, statements_all, bodies_all, statements_fit, bodies_fit}
 use Rattle.spl_parser.proofs.StatementSoundness.{Inner, IsItem, item_sound, child_sound}

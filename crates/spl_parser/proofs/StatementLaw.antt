@@ -11,13 +11,13 @@ use Rattle.st_reading.specs.Faults.{Passed}
 use Rattle.st_reading.specs.Reading.{goes, expected, gives, then_reads, syntax, only, Counted, counting, linked}
 use Rattle.st_reading.specs.Steady.{Within, calmer, takes, wider, moves, anything}
 use Rattle.st_reading.proofs.Lawful.{Lawful, lawful_bind, lawful_gives, lawful_map, lawful_chain, lawful_weak, lawful_if}
-use Rattle.spl_parser.specs.ExpressionTree.{Expr}
+use Rattle.expression_parser.specs.ExpressionTree.{Expr}
 use Rattle.spl_parser.specs.ProgramTree.{Branch, no_branch, branch, conditional, Statement, Action}
 use Rattle.spl_parser.specs.Begun.{Begun, fresh}
-use Rattle.spl_parser.specs.Calm.{calm, calm_but}
-use Rattle.spl_parser.specs.Reading.{Reader}
+use Rattle.expression_parser.specs.Calm.{calm, calm_but}
+use Rattle.expression_parser.specs.Reading.{Reader}
 use Rattle.spl_parser.specs.Statements.{Lower, sequence_of, selection_of, branch_of, conditional_of}
-use Rattle.spl_parser.proofs.Quiet.{but_calm, but_none, but_false}
+use Rattle.expression_parser.proofs.Quiet.{but_calm, but_none, but_false}
 use Rattle.spl_parser.proofs.Witnesses.{Witness, lawful_mark, then_mark, fi_mark, either_mark}
 use Rattle.spl_parser.proofs.ListLaw.{any_of, same}
 

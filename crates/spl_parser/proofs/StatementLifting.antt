@@ -12,13 +12,13 @@ use Rattle.st_reading.proofs.Lifting.{Lifted, Lifts, lifted_same, lifts_same, li
 use Rattle.spl_parser.specs.declared.sign.Start.{Start}
 use Rattle.spl_parser.specs.declared.sign.Start.TheVariants as starts
 use Rattle.spl_parser.specs.Signs.{start}
-use Rattle.spl_parser.specs.ExpressionTree.{Expr}
+use Rattle.expression_parser.specs.ExpressionTree.{Expr}
 use Rattle.spl_parser.specs.ProgramTree.{Statement, stated, statements, branch, no_branch, conditional, Action, assign, assign_all, await, while_do, forever, block, select, cooperate, group, bodies}
 use Rattle.spl_parser.specs.Item.{last}
 use Rattle.spl_parser.specs.Begun.{Begun, fresh, after_name, after_label}
-use Rattle.spl_parser.specs.Reading.{Reader}
+use Rattle.expression_parser.specs.Reading.{Reader}
 use Rattle.spl_parser.specs.Statements.{Lower, goes_on, front_place, limited, listed_of, right_side_of, all_assigned_of, assigned_of, sequence_of, selection_of, an_item, labelled_item, named_item, item_of, turned_by, continuing, closed_body, rest_of_body, body_of, child_of, children_of, branch_of, conditional_of, doing, enclosed, action_of, standing, bare_of, named_of, statement_of, inside}
-use Rattle.spl_parser.proofs.ExpressionLifting.{AsDeep, one_less}
+use Rattle.expression_parser.proofs.ExpressionLifting.{AsDeep, one_less}
 
 module _ (Keep : Passed → Type 0) where
   listed_lifts : {A : Type 0} (r q : Reader A) → Lifts Keep r q → Lifts Keep (listed_of r) (listed_of q)

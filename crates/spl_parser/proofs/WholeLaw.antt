@@ -15,13 +15,13 @@ use Rattle.st_reading.proofs.Branches.{lawful_calmer, completes_gives, completes
 use Rattle.spl_parser.specs.declared.sign.Start.{Start}
 use Rattle.spl_parser.specs.declared.sign.Start.TheVariants as starts
 use Rattle.spl_parser.specs.Signs.{start}
-use Rattle.spl_parser.specs.ExpressionTree.{Expr}
+use Rattle.expression_parser.specs.ExpressionTree.{Expr}
 use Rattle.spl_parser.specs.ProgramTree.{Statement, stated, statements, Action, skip, critical, noncritical, assign, await, request, release, while_do, forever, block, select, cooperate, group, Body, bodies}
 use Rattle.spl_parser.specs.Begun.{Begun, fresh, after_name, after_label}
-use Rattle.spl_parser.specs.Calm.{calm, calm_but, calm_but2}
-use Rattle.spl_parser.specs.Reading.{Reader}
+use Rattle.expression_parser.specs.Calm.{calm, calm_but, calm_but2}
+use Rattle.expression_parser.specs.Reading.{Reader}
 use Rattle.spl_parser.specs.Statements.{Lower, right_side_of, all_assigned_of, assigned_of, sequence_of, selection_of, children_of, conditional_of, doing, enclosed, action_of, standing, bare_of, named_of, statement_of}
-use Rattle.spl_parser.proofs.Quiet.{but_calm, name_token}
+use Rattle.expression_parser.proofs.Quiet.{but_calm, name_token}
 use Rattle.spl_parser.proofs.Witnesses.{Witness, witness_is, witness_in, lawful_mark, close_block_mark, close_group_mark, open_block_mark, colon_mark, do_mark, forever_mark, coend_mark, skip_mark}
 use Rattle.spl_parser.proofs.ListLaw.{any_of, same, lawful_name, lawful_right_side, lawful_all_assigned}
 use Rattle.spl_parser.proofs.StatementLaw.{lawful_sequence, lawful_selection, lawful_enclosed, lawful_conditional}

@@ -1,8 +1,5 @@
-pub mod ExpressionTree
 pub mod ProgramTree
 pub mod Signs
-pub mod Calm
-pub mod Reading
 pub mod Item
 pub mod Begun
 pub mod Statements

@@ -2,7 +2,7 @@
 use Rattle.std.specs.Prelude.{ℕ, Bool, List, [], ◌∷◌, map, Option, Some, None, Box}
 use Rattle.std.specs.declared.alloc.Global.{Global}
 use Rattle.std.specs.Option.{option_map}
-use Rattle.spl_parser.specs.declared.raw.RawExpr.{RawExpr}
+use Rattle.expression_parser.specs.declared.raw.RawExpr.{RawExpr}
 use Rattle.spl_parser.specs.declared.raw.RawBody.{RawBody, RawBody'}
 use Rattle.spl_parser.specs.declared.raw.RawStatement.{RawStatement}
 use Rattle.spl_parser.specs.declared.raw.RawKind.{RawKind}
@@ -14,7 +14,7 @@ use Rattle.spl_parser.specs.declared.raw.RawProgram.{RawProgram}
 use Rattle.st_reading.specs.declared.looking.RawName.{RawName}
 use Rattle.st_reading.specs.Reading.{Label}
 use Rattle.st_reading.specs.Faults.{name_view}
-use Rattle.spl_parser.specs.ExpressionTree.{Expr, expr_view}
+use Rattle.expression_parser.specs.ExpressionTree.{Expr, expr_view}
 
 mutual
   -- the label, the place of the first token behind it, and what it is

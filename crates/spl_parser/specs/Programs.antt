@@ -8,9 +8,9 @@ use Rattle.st_reading.specs.Sign.{is}
 use Rattle.st_reading.specs.Faults.{passed}
 use Rattle.st_reading.specs.Reading.{other, Label, ahead, place_of, name_of, is_name, refusal, expected, gives, then_reads, on_operator, chain, size, Counted, counting, linked, Carried, whole}
 use Rattle.spl_parser.specs.Signs.{mode, kind}
-use Rattle.spl_parser.specs.ExpressionTree.{Expr}
+use Rattle.expression_parser.specs.ExpressionTree.{Expr}
 use Rattle.spl_parser.specs.ProgramTree.{Body, Declaration, Process, Program}
-use Rattle.spl_parser.specs.Reading.{Reader, expression_of, below}
+use Rattle.expression_parser.specs.Reading.{Reader, expression_of, below}
 use Rattle.spl_parser.specs.Statements.{Lower, body_of, inside}
 
 -- how much a program may have: whether one more may begin when there are n

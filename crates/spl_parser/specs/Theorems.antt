@@ -1,16 +1,15 @@
 -- What is promised of the texts of programs.
-use Rattle.std.specs.Prelude.{◌≡◌, ℕ, ◌+◌, ◌≤◌, false, List, length, Option, Some, None, Result, Ok, Err, ◌⊎◌, Bool, [], ◌∷◌, ◌++◌}
+use Rattle.std.specs.Prelude.{◌≡◌, ℕ, ◌+◌, ◌≤◌, false, List, length, Option, Some, None, Result, Ok, Err, ◌⊎◌}
 use Rattle.st_tokens.specs.declared.limit.LimitKind.{LimitKind}
 use Rattle.st_tokens.specs.declared.limit.LimitKind.TheVariants as limits
-use Rattle.st_tokens.specs.Stream.{◌++>◌, Lexeme, ends, text_stream, more, Stream}
+use Rattle.st_tokens.specs.Stream.{◌++>◌, Lexeme, ends, text_stream}
 use Rattle.st_reading.specs.declared.fault.ParseFault.{ParseFault}
 use Rattle.st_reading.specs.Reading.{Stop, other}
 use Rattle.st_reading.specs.Faults.{Passed, passed, see}
-use Rattle.st_reading.specs.Theorem.{Begins, IsFirst, IsMet}
-use Rattle.spl_parser.specs.ExpressionTree.{Expr}
+use Rattle.st_reading.specs.Theorem.{IsFirst, IsMet}
 use Rattle.spl_parser.specs.ProgramTree.{Program}
-use Rattle.spl_parser.specs.Reading.{below, expression_of}
-use Rattle.spl_parser.specs.Grammar.{SpellsWithin, Low, IsProgram, SpellsProgram, Formula}
+use Rattle.expression_parser.specs.Grammar.{SpellsWithin}
+use Rattle.spl_parser.specs.Grammar.{Low, IsProgram, SpellsProgram}
 use Rattle.spl_parser.specs.Numbers.{declared, declared_inside, in_processes, IsWithin}
 use Rattle.spl_parser.specs.Parsing.{parsed}
 
@@ -67,21 +66,3 @@ IsRefused text (Some f) = ((x : Program) → Spells text x → ⊥) × IsFirst S
 abbrev pub IsReading : {V : Type 0} → (V → Program) → Result V ParseFault → List ℕ → Type 0
 IsReading view (Ok x) text = Spells text (view x)
 IsReading view (Err e) text = IsRefused text (see e)
-
--- FORMULAS, of programs or, where `places` are asked for, of proofs. They are parts of texts: what stands behind is not read.
--- No tokens stand for two formulas.
-abbrev pub FormulasReadOnce : Type 0
-FormulasReadOnce = (places : Bool) (ts : List Lexeme) (x y : Expr) → Formula places ts x → Formula places ts y → x ≡ y
-
--- the longest formula at the front of s, before rest
-pub record IsLongest (places : Bool) (s : Stream) (x : Expr) (rest : Stream) : Type 0 where
-  pub text : List Lexeme
-  pub is : s ≡ text ++> rest
-  pub spells : Formula places text x
-  pub longest : (t : Lexeme) (after : Stream) → rest ≡ more t after → Begins (Formula places) (text ++ t ∷ []) → ⊥
-
-abbrev pub FormulasAreLongest : Type 0
-FormulasAreLongest = (places : Bool) (room : ℕ) (s : Stream) (x : Expr) (rest : Stream) → expression_of places (below places room) s ≡ Ok (x, rest) → IsLongest places s x rest
-
-abbrev pub FormulasFirstFault : Type 0
-FormulasFirstFault = (places : Bool) (room : ℕ) (s : Stream) (f : Stop Passed) → expression_of places (below places room) s ≡ Err f → IsFirst (Formula places) s f

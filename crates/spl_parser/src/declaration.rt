@@ -10,8 +10,9 @@ ghost use Rattle.spl_parser.specs.Programs.{variable_of, names_of, type_of, init
 
 use crate::limits::VARIABLES;
 use crate::lists::value;
-use crate::raw::{RawDeclaration, RawExpr};
+use crate::raw::RawDeclaration;
 use crate::sign::{kind, mode};
+use expression_parser::RawExpr;
 use st_reading::{
     Mark, ParseFault, RawName, advance, ahead, expect, is, is_name, name_ahead, place_of, refusal,
 };

@@ -1,6 +1,6 @@
-//! Laws of the grammar of programs and formulas. Each is a function that does nothing; its contract is the law.
+//! Laws of the grammar of programs. Each is a function that does nothing; its contract is the law.
 
-ghost use Rattle.spl_parser.specs.Theorems.{ReadOnce, SpelledIsRead, ReadIsSpelled, FirstFault, LimitsRefuse, LimitsAreMet, FormulasReadOnce, FormulasAreLongest, FormulasFirstFault};
+ghost use Rattle.spl_parser.specs.Theorems.{ReadOnce, SpelledIsRead, ReadIsSpelled, FirstFault, LimitsRefuse, LimitsAreMet};
 
 /// No list of tokens stands for two programs.
 pub fn programs_read_once()
@@ -30,19 +30,4 @@ pub fn limits_refuse()
 /// A limit is named only at a token over which programs go on, but none within that limit.
 pub fn limits_are_met()
     ensures { LimitsAreMet }
-{}
-
-/// No list of tokens stands for two formulas, with or without the places that proofs name.
-pub fn formulas_read_once()
-    ensures { FormulasReadOnce }
-{}
-
-/// A formula that is read is the longest that stands there: none goes on over the token behind it.
-pub fn formulas_are_longest()
-    ensures { FormulasAreLongest }
-{}
-
-/// Where no formula is read, the fault is the first: the tokens before it begin some formula, and none goes on there.
-pub fn formulas_first_fault()
-    ensures { FormulasFirstFault }
 {}

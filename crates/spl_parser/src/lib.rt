@@ -1,9 +1,8 @@
-//! The grammar of programs and formulas, as raw trees.
+//! The grammar of programs, as raw trees.
 #![tactic(auto)]
 
 mod begun;
 mod declaration;
-mod expr;
 mod item;
 pub mod laws;
 mod limits;
@@ -13,11 +12,7 @@ mod raw;
 mod sign;
 mod statement;
 
-pub use expr::{expression, sum};
-pub use limits::LEVELS;
+pub use expression_parser::{LEVELS, Operator, RawExpr, RawExprKind, RawTerm, expression, sum};
 pub use program::parse_program;
-pub use raw::{
-    Operator, RawBody, RawDeclaration, RawExpr, RawExprKind, RawKind, RawProcess, RawProgram,
-    RawStatement,
-};
+pub use raw::{RawBody, RawDeclaration, RawKind, RawProcess, RawProgram, RawStatement};
 pub use st_reading::{ParseFault, RawName};

@@ -7,8 +7,5 @@ pub const PROCESSES: usize = 16;
 /// How many statements a program may have, those inside groups included.
 pub const STATEMENTS: u32 = 400;
 
-/// How many parentheses, `~`, unary `-` and `->` may be open at a token of a formula.
-pub const LEVELS: u32 = 32;
-
 /// How many statements may stand round a statement.
 pub const ROUND: u32 = 32;

@@ -5,14 +5,13 @@ ghost use Rattle.st_tokens.specs.Stream.{stream};
 ghost use Rattle.st_reading.specs.declared.mark.Mark.TheVariants as marks;
 ghost use Rattle.st_reading.specs.Reading.{Reads, named, size, further};
 ghost use Rattle.st_reading.specs.Faults.{see, name_view};
-ghost use Rattle.spl_parser.specs.ExpressionTree.{expr_view, views};
+ghost use Rattle.expression_parser.specs.ExpressionTree.{expr_view, views};
 ghost use Rattle.spl_parser.specs.ProgramTree.{action_view};
 ghost use Rattle.spl_parser.specs.Statements.{right_side_of, listed_of, all_assigned_of};
 ghost use Rattle.spl_parser.specs.Programs.{value_of, usual};
 
-use crate::expr::expression;
-use crate::limits::LEVELS;
-use crate::raw::{RawExpr, RawKind};
+use crate::raw::RawKind;
+use expression_parser::{LEVELS, RawExpr, expression};
 use st_reading::{Mark, ParseFault, RawName, advance, ahead, expect, is, name};
 use st_tokens::Tokens;
 use std::alloc::Global;

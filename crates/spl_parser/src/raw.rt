@@ -1,56 +1,8 @@
-//! The trees of the grammar, with names as slices of the text and with the places that the typing rules name. Places
-//! are byte offsets from 0. `local` and `out` are not told apart, nor are an expression and the same one in
-//! parentheses, but for its place.
+//! The trees of statements and programs, with names as slices of the text and with the places that the typing rules name.
+//! Places are byte offsets from 0. `local` and `out` are not told apart.
 
+use expression_parser::RawExpr;
 use st_reading::RawName;
-
-/// The operators between two expressions.
-#[derive(Clone, Copy, Debug, PartialEq, Eq)]
-pub enum Operator {
-    Implies,
-    Equal,
-    Unequal,
-    Less,
-    AtMost,
-    Greater,
-    AtLeast,
-    Plus,
-    Minus,
-    Times,
-}
-
-/// An expression. The place is that of its first token, a parenthesis included.
-#[derive(Drop)]
-#[cycle(raw)]
-pub struct RawExpr<'a> {
-    pub place: u64,
-    pub kind: RawExprKind<'a>,
-}
-
-/// What an expression is. `at` is the place of an operator. `All` and `Any` are one chain of `/\` or `\/` each, of two
-/// items at least; chains of `+` and `-`, and of `*`, are grouped from the left.
-#[derive(Drop)]
-#[cycle(raw)]
-pub enum RawExprKind<'a> {
-    Numeral(u32),
-    Truth(bool),
-    Name(RawName<'a>),
-    /// `at` and a label, which stands in proofs alone and in no program.
-    At(RawName<'a>),
-    Not(Box<RawExpr<'a>>),
-    Negate {
-        at: u64,
-        of: Box<RawExpr<'a>>,
-    },
-    All(Vec<RawExpr<'a>>),
-    Any(Vec<RawExpr<'a>>),
-    Pair {
-        operator: Operator,
-        at: u64,
-        left: Box<RawExpr<'a>>,
-        right: Box<RawExpr<'a>>,
-    },
-}
 
 /// Statements behind one another, and the label of their end.
 #[derive(Drop)]

@@ -6,8 +6,8 @@ use Rattle.st_form.specs.Formula.{Formula, Formulas, none, more}
 use Rattle.st_form.specs.Plain.{plain, plain_list}
 use Rattle.spl_typer.specs.Row.{onto}
 use Rattle.st_form.specs.declared.formulas.Form.{Form}
-use Rattle.spl_parser.specs.ExpressionTree.{Expr, Exprs, one_more, expr_view, exprs_view, start_of}
-use Rattle.spl_parser.specs.declared.raw.RawExpr.{RawExpr}
+use Rattle.expression_parser.specs.ExpressionTree.{Expr, Exprs, one_more, expr_view, exprs_view, start_of}
+use Rattle.expression_parser.specs.declared.raw.RawExpr.{RawExpr}
 use Rattle.spl_typer.specs.declared.fault.TypeFault.{TypeFault}
 use Rattle.spl_typer.specs.Answers.{◌>>=◌}
 use Rattle.spl_typer.specs.Scope.{Names}

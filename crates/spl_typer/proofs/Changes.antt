@@ -5,8 +5,8 @@ use Rattle.std.proofs.Math.ListN.{drop_of_length-le}
 use Rattle.st_program.specs.Tree.{Term}
 use Rattle.st_program.specs.declared.trees.Value.{Value}
 use Rattle.st_program.specs.Plain.{plain_target, plain_targets}
-use Rattle.spl_parser.specs.declared.raw.RawExpr.{RawExpr}
-use Rattle.spl_parser.specs.ExpressionTree.{Expr, expr_view}
+use Rattle.expression_parser.specs.declared.raw.RawExpr.{RawExpr}
+use Rattle.expression_parser.specs.ExpressionTree.{Expr, expr_view}
 use Rattle.spl_typer.specs.declared.scope.Known as declared
 use Rattle.spl_typer.specs.declared.fault.TypeFault.{TypeFault}
 use Rattle.spl_typer.specs.Answers.{◌>>=◌}

@@ -5,7 +5,7 @@ use Rattle.st_form.specs.Formula.{Formula}
 use Rattle.st_tokens.specs.declared.limit.LimitKind.TheVariants as limits
 use Rattle.st_reading.specs.Reading.{Label}
 use Rattle.st_program.specs.Tree.{Term, number, truth, Pieces}
-use Rattle.spl_parser.specs.ExpressionTree.{Expr, start_of}
+use Rattle.expression_parser.specs.ExpressionTree.{Expr, start_of}
 use Rattle.spl_parser.specs.ProgramTree as raw
 use Rattle.spl_typer.specs.declared.fault.TypeFault.{TypeFault}
 use Rattle.spl_typer.specs.declared.fault.TypeFault.TheVariants as faults

@@ -5,7 +5,7 @@ use Rattle.st_form.specs.declared.variables.Variable.{Variable}
 use Rattle.st_reading.specs.Reading.{Label}
 use Rattle.st_program.specs.Tree.{Term, Piece, Pieces, piece_skip, piece_assign, piece_await, piece_if, no_piece, piece}
 use Rattle.st_program.specs.Types.{MayChange, IsNoTarget, TargetsFit, TestFits, PieceFits, PiecesFit, is_truth}
-use Rattle.spl_parser.specs.ExpressionTree.{Expr}
+use Rattle.expression_parser.specs.ExpressionTree.{Expr}
 use Rattle.spl_parser.specs.ProgramTree as raw
 use Rattle.spl_typer.specs.declared.fault.TypeFault.{TypeFault}
 use Rattle.spl_typer.specs.declared.fault.TypeFault.TheVariants as faults

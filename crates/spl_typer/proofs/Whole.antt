@@ -12,7 +12,7 @@ use Rattle.st_program.specs.Spots.{Spot, bodies_in, spots_along, spots_inside, a
 use Rattle.st_program.specs.Locations.{SomeProcess, InsidePlaced, inside_end, along_end, HeadsFit}
 use Rattle.st_program.specs.Types.{TestFits, FormulasFit, ActionFits}
 use Rattle.st_program.specs.Programs.{WellFormed, IsProgram}
-use Rattle.spl_parser.specs.ExpressionTree.{Expr}
+use Rattle.expression_parser.specs.ExpressionTree.{Expr}
 use Rattle.spl_parser.specs.ProgramTree as raw
 use Rattle.spl_typer.specs.declared.fault.TypeFault.{TypeFault}
 use Rattle.spl_typer.specs.declared.fault.TypeFault.TheVariants as faults

@@ -1,8 +1,8 @@
 -- Places in text order.
 use Rattle.std.specs.Prelude.{◌≡◌, ℕ, suc, ◌<◌, ◌≤◌, ◌⊎◌, List, [], ◌∷◌, Result, Ok, Err}
 use Rattle.st_reading.specs.Reading.{Label}
-use Rattle.spl_parser.specs.ExpressionTree.{Expr, Kind, Exprs, start_of}
-use Rattle.spl_parser.specs.ExpressionTree as raw
+use Rattle.expression_parser.specs.ExpressionTree.{Expr, Kind, Exprs, start_of}
+use Rattle.expression_parser.specs.ExpressionTree as raw
 use Rattle.spl_typer.specs.declared.fault.TypeFault.{TypeFault}
 use Rattle.spl_typer.specs.declared.fault.TypeFault.TheVariants as faults
 

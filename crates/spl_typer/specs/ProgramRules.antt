@@ -4,7 +4,7 @@ use Rattle.std.specs.Prelude.{ℕ, Bool, nat_lt, List, [], ◌∷◌, ◌++◌, 
 use Rattle.st_form.specs.declared.variables.Variable.{Variable}
 use Rattle.st_tokens.specs.declared.limit.LimitKind.TheVariants as limits
 use Rattle.st_reading.specs.Reading.{Label}
-use Rattle.spl_parser.specs.ExpressionTree.{Expr}
+use Rattle.expression_parser.specs.ExpressionTree.{Expr}
 use Rattle.spl_parser.specs.ProgramTree as raw
 use Rattle.spl_typer.specs.declared.fault.TypeFault.TheVariants as faults
 use Rattle.spl_typer.specs.declared.walk.Mark.{Mark}

@@ -10,7 +10,7 @@ use Rattle.st_program.specs.Plain.{plain_child, plain_children}
 use Rattle.st_program.specs.Names.{Names, AreApart}
 use Rattle.st_program.specs.declared.programs.Program.{Program}
 use Rattle.st_program.specs.declared.names.NameTable.{NameTable}
-use Rattle.spl_parser.specs.ExpressionTree.{Expr}
+use Rattle.expression_parser.specs.ExpressionTree.{Expr}
 use Rattle.spl_parser.specs.ProgramTree as raw
 use Rattle.spl_typer.specs.declared.fault.TypeFault.{TypeFault}
 use Rattle.spl_typer.specs.declared.fault.TypeFault.TheVariants as faults

@@ -6,11 +6,11 @@ use Rattle.st_linear.specs.Linear as linear
 use Rattle.st_linear.specs.Simple.{negated}
 use Rattle.st_form.specs.Formula as forms
 use Rattle.st_form.specs.Formula.{Formula, Formulas, truth_value, row, equal, bool_var, negation, every, some, none, more}
-use Rattle.spl_parser.specs.declared.raw.Operator.{Operator}
-use Rattle.spl_parser.specs.declared.raw.Operator.TheVariants as operators
+use Rattle.expression_parser.specs.declared.raw.Operator.{Operator}
+use Rattle.expression_parser.specs.declared.raw.Operator.TheVariants as operators
 use Rattle.st_reading.specs.Reading.{Label}
-use Rattle.spl_parser.specs.ExpressionTree.{Expr, Kind, Exprs, start_of}
-use Rattle.spl_parser.specs.ExpressionTree as raw
+use Rattle.expression_parser.specs.ExpressionTree.{Expr, Kind, Exprs, start_of}
+use Rattle.expression_parser.specs.ExpressionTree as raw
 use Rattle.spl_typer.specs.declared.fault.TypeFault.{TypeFault}
 use Rattle.spl_typer.specs.declared.fault.TypeFault.TheVariants as faults
 use Rattle.st_program.specs.Tree.{Term, number, truth}

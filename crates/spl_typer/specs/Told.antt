@@ -2,8 +2,8 @@
 use Rattle.std.specs.Prelude.{◌≡◌, ℕ, ◌≤◌, ◌^◌, Bool, true, List, [], ◌∷◌, Option, Some, None, Result, Ok, Err}
 use Rattle.st_linear.specs.Linear.{Linear}
 use Rattle.st_program.specs.Tree.{Term, number, truth}
-use Rattle.spl_parser.specs.ExpressionTree.{Expr, Kind, Exprs}
-use Rattle.spl_parser.specs.ExpressionTree as raw
+use Rattle.expression_parser.specs.ExpressionTree.{Expr, Kind, Exprs}
+use Rattle.expression_parser.specs.ExpressionTree as raw
 use Rattle.spl_typer.specs.declared.fault.TypeFault.{TypeFault}
 use Rattle.spl_typer.specs.Written.{is_writable}
 

@@ -3,7 +3,7 @@
 ghost use Rattle.std.specs.Prelude.{◌≡◌, IfOk, false, true, map, Ok};
 ghost use Rattle.st_form.specs.Formula.{formulas, truth_value, negation, equal};
 ghost use Rattle.st_form.specs.Plain.{plain, plain_list};
-ghost use Rattle.spl_parser.specs.ExpressionTree.{expr_view, exprs_view};
+ghost use Rattle.expression_parser.specs.ExpressionTree.{expr_view, exprs_view};
 ghost use Rattle.st_reading.specs.Faults.{name_view};
 ghost use Rattle.spl_typer.specs.Answers.{Gives};
 ghost use Rattle.spl_typer.specs.Scope.{scope_view};
@@ -111,7 +111,7 @@ fn combine(alloc: Global, operator: Operator, at: u64, f: &Lin, g: &Lin) -> Resu
 
 /// The meaning of an expression, or the first rule that is broken in it.
 #[cycle(typed)]
-#[tactic(auto, using(st_form::proofs::Nodes::nodes, spl_parser::proofs::Rows::kinds))]
+#[tactic(auto, using(st_form::proofs::Nodes::nodes, expression_parser::proofs::Rows::kinds))]
 pub fn typed_by<N: Naming>(alloc: Global, names: &N, e: &RawExpr<'_>) -> Result<Value, TypeFault>
     ensures { Gives plain_term result (typed_by (N.told names.now) (expr_view e.now)) }
 {

@@ -4,7 +4,7 @@
 //! faults, each rule adding the places at which it is broken, with the meaning of what breaks none. The laws tie both.
 
 ghost use Rattle.std.specs.Prelude.{List, ◌≡◌, ℕ, Err, ⊤};
-ghost use Rattle.spl_parser.specs.ExpressionTree.{Expr};
+ghost use Rattle.expression_parser.specs.ExpressionTree.{Expr};
 ghost use Rattle.spl_parser.specs.ProgramTree.{Program};
 ghost use Rattle.spl_typer.specs.declared.fault.TypeFault.{TypeFault};
 ghost use Rattle.spl_typer.specs.Scope.{Known, Names};

@@ -4,7 +4,7 @@ ghost use Rattle.std.specs.Prelude.{◌≡◌, [], map};
 ghost use Rattle.st_form.specs.Plain.{plain};
 ghost use Rattle.st_program.specs.Plain.{plain_term, plain_target, plain_targets};
 ghost use Rattle.st_reading.specs.Faults.{name_view};
-ghost use Rattle.spl_parser.specs.ExpressionTree.{expr_view};
+ghost use Rattle.expression_parser.specs.ExpressionTree.{expr_view};
 ghost use Rattle.spl_typer.specs.Answers.{Gives};
 ghost use Rattle.spl_typer.specs.Scope.{scope_view, known_view};
 ghost use Rattle.spl_typer.specs.Statements.{tested, target, counter, wanted, right_side, is_target, targets, changes, assigned};

@@ -1,9 +1,9 @@
--- Locations in text order, and the heads of selections.
+-- Locations in text order, the heads of selections, and how many statements there are in what.
 --
 -- The first statement of a block has the block's location and each branch of a selection the selection's; every other
 -- statement has one of its own, and so has the end of each component, behind all its statements.
 use Rattle.std.specs.Prelude.{◌≡◌, ℕ, suc, ⊤}
-use Rattle.st_program.specs.Tree.{Statement, stated, skip, if_then, if_else, while_do, block, select, cooperate, Action, Statements, no_statement, statement, process, Processes, no_process, beside}
+use Rattle.st_program.specs.Tree.{Statement, stated, skip, if_then, if_else, while_do, block, select, cooperate, group, Action, Statements, no_statement, statement, Pieces, no_piece, piece, process, Processes, no_process, beside}
 
 -- the next free location behind a statement whose own location is given and below next
 abbrev mutual
@@ -98,3 +98,33 @@ abbrev pub HeadsFit : Action → Type 0
 HeadsFit (select ss) = NoLoops ss
 HeadsFit skip = ⊤
 HeadsFit _ = ⊤
+
+abbrev pub SomeStatement : Statements → Type 0
+SomeStatement no_statement = ⊥
+SomeStatement (statement s ss) = ⊤
+
+abbrev pub TwoStatements : Statements → Type 0
+TwoStatements no_statement = ⊥
+TwoStatements (statement s ss) = SomeStatement ss
+
+abbrev pub TwoProcesses : Processes → Type 0
+TwoProcesses no_process = ⊥
+TwoProcesses (beside x ps) = SomeProcess ps
+
+abbrev pub SomePiece : Pieces → Type 0
+SomePiece no_piece = ⊥
+SomePiece (piece x xs) = ⊤
+
+-- each of these processes has a statement
+abbrev pub BodiesFit : Processes → Type 0
+BodiesFit no_process = ⊤
+BodiesFit (beside (process ss end) ps) = SomeStatement ss × BodiesFit ps
+
+-- a selection has two branches or more, a cooperation two children or more and each of them a statement, and a group a
+-- statement
+abbrev pub ShapeFits : Action → Type 0
+ShapeFits (select ss) = TwoStatements ss
+ShapeFits (cooperate ps) = TwoProcesses ps × BodiesFit ps
+ShapeFits (group xs) = SomePiece xs
+ShapeFits skip = ⊤
+ShapeFits _ = ⊤

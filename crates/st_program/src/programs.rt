@@ -5,11 +5,15 @@ use crate::trees::{Child, Stmt};
 use st_form::{Form, Variable};
 use std::marker::Model;
 
-/// A typed program within the limits: its variables, what holds of them at the beginning (the conjunction of the `where`
-/// formulas, in text order), its processes, and how many locations and statements it has.
+/// A typed program: its variables, what holds of them at the beginning (the conjunction of the `where` formulas, in text
+/// order), its processes, and how many locations and statements it has.
 ///
-/// Occurrences and locations are numbered in text order. Each variable is used by its type, input variables are never
-/// changed, written numbers are within the limits, and no branch of a selection begins with a loop.
+/// Occurrences and locations are numbered in text order. Each variable is used by its type, and input variables are never
+/// changed. No block, process, child or group is empty, a selection has two branches or more and a cooperation two children
+/// or more, and no branch of a selection begins with a loop.
+///
+/// Of the limits it keeps those on variables (64), processes (16), statements outside groups (400), paths of a group (64) and written
+/// numbers (2^30 in right sides, less than 2^32 in comparisons), but not those on nesting, atoms and weight.
 #[derive(Drop)]
 pub struct Program {
     pub variables: Vec<Variable>,

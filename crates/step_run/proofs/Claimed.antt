@@ -5,7 +5,7 @@ use Rattle.st_form.specs.Formula.{Formula, Formulas, truth_value, row, equal, bo
 use Rattle.st_form.specs.declared.variables.Variable.{Variable}
 use Rattle.st_reading.specs.declared.mark.Mark.TheVariants as marks
 use Rattle.st_reading.specs.Reading.{◌>>=◌, expected, named, at_end}
-use Rattle.spl_parser.specs.Reading.{below, expression_of}
+use Rattle.expression_parser.specs.Reading.{below, expression_of}
 use Rattle.spl_typer.specs.Scope.{Names}
 use Rattle.spl_typer.specs.Programs.{Typed}
 use Rattle.transition_system.specs.Bounds.{FormulaWithin, FormulasWithin}

@@ -3,10 +3,10 @@ use Rattle.std.proofs.Common.{ℕ, suc, ◌<◌, ◌≤◌, Bool, true, false, c
 use Rattle.std.specs.Option.{option_map}
 use Rattle.st_linear.specs.Linear.{Linear, scaled}
 use Rattle.st_program.specs.Tree.{Term, number, truth}
-use Rattle.spl_parser.specs.declared.raw.Operator.{Operator}
-use Rattle.spl_parser.specs.declared.raw.Operator.TheVariants as operators
-use Rattle.spl_parser.specs.ExpressionTree.{Expr, Kind, Exprs, start_of}
-use Rattle.spl_parser.specs.ExpressionTree as raw
+use Rattle.expression_parser.specs.declared.raw.Operator.{Operator}
+use Rattle.expression_parser.specs.declared.raw.Operator.TheVariants as operators
+use Rattle.expression_parser.specs.ExpressionTree.{Expr, Kind, Exprs, start_of}
+use Rattle.expression_parser.specs.ExpressionTree as raw
 use Rattle.spl_typer.specs.declared.fault.TypeFault.{TypeFault}
 use Rattle.spl_typer.specs.declared.fault.TypeFault.TheVariants as faults
 use Rattle.spl_typer.specs.Scope.{Known, Names, only}

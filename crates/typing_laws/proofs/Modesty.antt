@@ -1,6 +1,6 @@
 -- What lies in a text has numerals that a text may have.
 use Rattle.std.proofs.Common.{ℕ, suc, Bool, true, false, List, [], ◌∷◌, Option, Some, None}
-use Rattle.spl_parser.specs.ExpressionTree.{Expr}
+use Rattle.expression_parser.specs.ExpressionTree.{Expr}
 use Rattle.spl_parser.specs.ProgramTree as raw
 use Rattle.spl_typer.specs.Modest.{AllModest, StatementModest, ActionModest, BranchModest, RowModest, BodiesModest, BodyModest}
 use Rattle.spl_typer.specs.ProgramRules.{InitialModest, DeclarationsModest, ProcessesModest, ProgramModest}

@@ -9,10 +9,10 @@ use Rattle.st_reading.specs.declared.sign.Sign.{Sign}
 use Rattle.st_reading.specs.declared.sign.Sign.TheVariants as signs
 use Rattle.st_reading.specs.declared.mark.Mark.TheVariants as marks
 use Rattle.st_reading.specs.Sign.{is, kind_sign, sign_of}
-use Rattle.spl_parser.specs.declared.sign.Front.{Front}
-use Rattle.spl_parser.specs.declared.sign.Front.TheVariants as fronts
-use Rattle.spl_parser.specs.Signs.{front, front_mark}
-use Rattle.spl_parser.specs.Grammar.{Fronts}
+use Rattle.expression_parser.specs.declared.sign.Front.{Front}
+use Rattle.expression_parser.specs.declared.sign.Front.TheVariants as fronts
+use Rattle.expression_parser.specs.Signs.{front, front_mark}
+use Rattle.expression_parser.specs.Grammar.{Fronts}
 use Rattle.typing_laws.proofs.Signs as of_signs
 
 abbrev SignFits : Sign → Type 0

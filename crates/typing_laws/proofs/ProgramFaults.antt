@@ -2,7 +2,7 @@
 use Rattle.std.proofs.Common.{◌≡◌, ℕ, suc, ◌+◌, ◌≤◌, Bool, true, nat_lt, nat_le, List, [], ◌∷◌, ◌++◌, length, refl, ◌∙◌, arith, length-append, Option, Some, None, Ok, append-nil}
 use Rattle.std.proofs.lemmas.Bool.Decides.{nat_tests}
 use Rattle.st_reading.specs.Reading.{Label}
-use Rattle.spl_parser.specs.ExpressionTree.{Expr}
+use Rattle.expression_parser.specs.ExpressionTree.{Expr}
 use Rattle.spl_parser.specs.ProgramTree as raw
 use Rattle.spl_parser.specs.Numbers.{in_body, in_processes, declared, declared_inside, IsWithin}
 use Rattle.spl_typer.specs.declared.fault.TypeFault.TheVariants as faults

@@ -3,9 +3,10 @@ use Rattle.std.proofs.Common.{ℕ, suc, Bool, false, List, [], ◌∷◌, ◌++�
 use Rattle.st_tokens.specs.Stream.{Lexeme}
 use Rattle.st_reading.specs.declared.mark.Mark.TheVariants as marks
 use Rattle.st_reading.specs.Spelling.{OneName, Row, row}
-use Rattle.spl_parser.specs.ExpressionTree.{Expr}
+use Rattle.expression_parser.specs.ExpressionTree.{Expr}
 use Rattle.spl_parser.specs.ProgramTree.{Statement, Process, Program}
-use Rattle.spl_parser.specs.Grammar.{SpellsWithin, Low, IsInitial, free, given, IsDeclaration, declaration, Declarations, no_declarations, declaration_more, IsProcess, process, IsProgram, program}
+use Rattle.expression_parser.specs.Grammar.{SpellsWithin}
+use Rattle.spl_parser.specs.Grammar.{Low, IsInitial, free, given, IsDeclaration, declaration, Declarations, no_declarations, declaration_more, IsProcess, process, IsProgram, program}
 use Rattle.spl_parser.specs.Theorems.{Spells}
 use Rattle.typing_laws.proofs.Standing.{Stand, meet, stand_to, first_to, text_stands}
 use Rattle.typing_laws.proofs.Laying.{LabelLaid, InRow, InitialLaid, DeclarationLaid, ProcessLaid, SomeProcesses, ProgramLaid}

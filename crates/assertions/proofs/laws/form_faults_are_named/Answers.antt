@@ -1,4 +1,4 @@
-use Rattle.spl_parser.specs.Reading.{below, expression_of}
+use Rattle.expression_parser.specs.Reading.{below, expression_of}
 use Rattle.std.proofs.Common.{true}
 use Rattle.assertions.specs.Reading.{form_of}
 use Rattle.assertions.proofs.Named.{truths_named}

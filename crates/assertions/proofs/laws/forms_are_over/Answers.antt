@@ -1,5 +1,5 @@
 use Rattle.std.proofs.Common.{true}
-use Rattle.spl_parser.specs.Reading.{below, expression_of}
+use Rattle.expression_parser.specs.Reading.{below, expression_of}
 use Rattle.assertions.specs.Reading.{form_of}
 use Rattle.assertions.proofs.Over.{form_over}
 use Rattle.assertions.proofs.laws.forms_are_over.Goals as goal

@@ -1,5 +1,5 @@
 use Rattle.std.proofs.Common.{true}
-use Rattle.spl_parser.specs.Reading.{below, sum_of}
+use Rattle.expression_parser.specs.Reading.{below, sum_of}
 use Rattle.assertions.specs.Reading.{linear_of}
 use Rattle.assertions.proofs.Over.{linear_over}
 use Rattle.assertions.proofs.laws.linears_are_over.Goals as goal

@@ -1,4 +1,4 @@
-use Rattle.std.proofs.Common.{◌≡◌, ℕ, ◌<◌, ◌≤◌, ◌+◌, List, [], length, None, ap, sym, ◌∙◌, arith}
+use Rattle.std.proofs.Common.{◌≡◌, ℕ, ◌<◌, ◌≤◌, List, [], All, length, None, ap, sym, ◌∙◌, subst, arith}
 use Rattle.st_program.specs.Tree.{Processes}
 use Rattle.st_program.specs.Plain.{plain_children}
 use Rattle.st_program.specs.declared.trees.Child.{Child}
@@ -6,8 +6,9 @@ use Rattle.st_program.specs.Spots.{bodies_of}
 use Rattle.st_program.specs.Locations.{InsidePlaced, inside_end}
 use Rattle.control_states.specs.Control.{ComponentFacts, ControlFacts}
 use Rattle.control_facts.specs.Alternatives.{control_of}
-use Rattle.control_facts.specs.Walk.{walk_inside, facts_of, nothing_walked}
+use Rattle.control_facts.specs.Walk.{walk_inside, facts_of}
 use Rattle.control_facts.proofs.Strands.{walked_all, how_many_inside, fewer_inside}
+use Rattle.control_facts.proofs.Owners.{owners_count, owners_named}
 use Rattle.control_facts.proofs.walking.components.Goals as goal
 
 found : (parts none_parts : List ComponentFacts) (owners none_owners : List ℕ) (xs ys : List Child)
@@ -34,9 +35,27 @@ new-requires c =
     let q = c.program.invariant.location_count in
     omega arith
 
-pub returns : goal.returns
-returns c =
+abbrev Owners : ControlFacts → ℕ → Type 0
+Owners k n = (length k.owners ≡ n) × All (λ c. c < length k.components) k.owners
+
+owned : (k : ControlFacts) (ps : Processes) → k ≡ control_of ps → Owners k (inside_end ps 0)
+owned k ps e = subst (λ z. Owners z (inside_end ps 0)) (sym e) (owners_count ps, owners_named ps)
+
+pub returns-clause-facts : goal.returns-clause-facts
+returns-clause-facts c =
     let v = c.program.inside in
     c.new.ensures
     ∙ found c.walk_children.new.parts.items c.new-parts.result.items c.walk_children.new.owners.items c.in_ok-owners.owners.items c.deref.result.now v.processes.items c.in_ok-walk_children.ensures c.new-parts.ensures.items c.in_ok-owners.ensures.items c.deref.ensures.value c.program.invariant.well.placed
     ∙ ap (λ z. control_of (plain_children z.processes)) c.program.view_is
+
+pub returns-clause-each : goal.returns-clause-each
+returns-clause-each c =
+    let v = c.program.inside in
+    let e = c.new.ensures ∙ found c.walk_children.new.parts.items c.new-parts.result.items c.walk_children.new.owners.items c.in_ok-owners.owners.items c.deref.result.now v.processes.items c.in_ok-walk_children.ensures c.new-parts.ensures.items c.in_ok-owners.ensures.items c.deref.ensures.value c.program.invariant.well.placed in
+    (owned c.new.result (plain_children v.processes.items) e).0 ∙ sym c.program.invariant.location_count ∙ ap (λ z. z.locations) c.program.view_is
+
+pub returns-clause-named : goal.returns-clause-named
+returns-clause-named c =
+    let v = c.program.inside in
+    let e = c.new.ensures ∙ found c.walk_children.new.parts.items c.new-parts.result.items c.walk_children.new.owners.items c.in_ok-owners.owners.items c.deref.result.now v.processes.items c.in_ok-walk_children.ensures c.new-parts.ensures.items c.in_ok-owners.ensures.items c.deref.ensures.value c.program.invariant.well.placed in
+    (owned c.new.result (plain_children v.processes.items) e).1

@@ -4,7 +4,7 @@ use Rattle.std.proofs.lemmas.List.{map_push}
 use Rattle.st_reading.specs.declared.mark.Mark.TheVariants as marks
 use Rattle.st_reading.specs.Sign.{is}
 use Rattle.st_reading.proofs.Loops.{listing_next, listing_ends, listing_fails}
-use Rattle.spl_parser.specs.ExpressionTree.{expr_view, views}
+use Rattle.expression_parser.specs.ExpressionTree.{expr_view, views}
 use Rattle.spl_parser.proofs.lists.further_values.Goals as goal
 
 pub returns-in_err-next-clause-reads : goal.returns-in_err-next-clause-reads

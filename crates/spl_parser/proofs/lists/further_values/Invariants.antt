@@ -1,7 +1,7 @@
 use Rattle.st_tokens.specs.Stream.{stream}
 use Rattle.st_reading.specs.declared.mark.Mark.TheVariants as marks
 use Rattle.st_reading.specs.Reading.{size, gives, only, listing, further}
-use Rattle.spl_parser.specs.ExpressionTree.{views}
+use Rattle.expression_parser.specs.ExpressionTree.{views}
 use Rattle.spl_parser.specs.Programs.{value_of, usual}
 use Rattle.st_reading.proofs.Chains.{Running}
 use Rattle.spl_parser.proofs.lists.further_values.Given as goal

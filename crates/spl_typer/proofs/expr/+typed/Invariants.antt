@@ -1,5 +1,5 @@
 use Rattle.std.proofs.Common.{◌≡◌, drop}
-use Rattle.spl_parser.specs.ExpressionTree.{exprs_view}
+use Rattle.expression_parser.specs.ExpressionTree.{exprs_view}
 use Rattle.spl_typer.specs.Typing.{all_typed_by}
 use Rattle.spl_typer.specs.Row.{onto_all}
 use Rattle.spl_typer.proofs.expr.+typed.Given as goal

@@ -1,0 +1,11 @@
+pub mod Rows
+pub mod Views
+pub mod Levels
+pub mod Loops
+pub mod Quiet
+pub mod ExpressionShrinking
+pub mod ExpressionLaw
+pub mod ExpressionSoundness
+pub mod ExpressionCompleteness
+pub mod ExpressionLifting
+pub mod FormulaTheorems

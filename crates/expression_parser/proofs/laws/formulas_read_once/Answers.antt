@@ -1,0 +1,5 @@
+use Rattle.expression_parser.proofs.FormulaTheorems as proved
+use Rattle.expression_parser.proofs.laws.formulas_read_once.Goals as goal
+
+pub returns : goal.returns
+returns c = proved.formulas_read_once

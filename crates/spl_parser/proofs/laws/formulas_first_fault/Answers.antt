@@ -1,5 +1,0 @@
-use Rattle.spl_parser.proofs.FormulaTheorems as proved
-use Rattle.spl_parser.proofs.laws.formulas_first_fault.Goals as goal
-
-pub returns : goal.returns
-returns c = proved.formulas_first_fault

@@ -1,4 +1,2 @@
 pub mod Named
 pub mod Over
-pub mod Kept
-pub mod Tabled

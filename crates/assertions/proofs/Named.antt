@@ -12,12 +12,12 @@ use Rattle.expression_parser.specs.declared.raw.Operator.{Operator}
 use Rattle.expression_parser.specs.declared.raw.Operator.TheVariants as operators
 use Rattle.expression_parser.specs.ExpressionTree.{Expr, Kind, Exprs, start_of}
 use Rattle.expression_parser.specs.ExpressionTree as raw
-use Rattle.spl_typer.specs.declared.fault.TypeFault.{TypeFault}
-use Rattle.spl_typer.specs.declared.fault.TypeFault.TheVariants as rules
-use Rattle.spl_typer.specs.Answers.{◌>>=◌}
-use Rattle.spl_typer.specs.Scope.{Names}
-use Rattle.spl_typer.specs.Written.{is_writable, is_constant, limited, fitted, fitted_to, difference, lowered, product}
-use Rattle.spl_typer.specs.Typing.{typed_by, kind_typed_by, all_typed_by, as_number, as_truth, combine, is_implication, named_by, placed_by}
+use Rattle.expression_typer.specs.declared.fault.TypeFault.{TypeFault}
+use Rattle.expression_typer.specs.declared.fault.TypeFault.TheVariants as rules
+use Rattle.expression_typer.specs.Answers.{◌>>=◌}
+use Rattle.expression_typer.specs.Scope.{Names}
+use Rattle.expression_typer.specs.Written.{is_writable, is_constant, limited, fitted, fitted_to, difference, lowered, product}
+use Rattle.expression_typer.specs.Typing.{typed_by, kind_typed_by, all_typed_by, as_number, as_truth, combine, is_implication, named_by, placed_by}
 use Rattle.assertions.specs.declared.fault.FormFault.{FormFault}
 use Rattle.assertions.specs.declared.fault.FormFault.TheVariants as faults
 use Rattle.assertions.specs.Faults.{of_rule}

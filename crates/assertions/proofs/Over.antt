@@ -14,15 +14,16 @@ use Rattle.expression_parser.specs.declared.raw.Operator.{Operator}
 use Rattle.expression_parser.specs.declared.raw.Operator.TheVariants as operators
 use Rattle.expression_parser.specs.ExpressionTree.{Expr, Kind, Exprs, start_of}
 use Rattle.expression_parser.specs.ExpressionTree as raw
-use Rattle.spl_typer.specs.declared.fault.TypeFault.{TypeFault}
-use Rattle.spl_typer.specs.Answers.{◌>>=◌}
-use Rattle.spl_typer.specs.Scope.{Names}
-use Rattle.spl_typer.specs.Written.{limited, difference, lowered, product}
-use Rattle.spl_typer.specs.Typing.{typed_by, kind_typed_by, all_typed_by, as_number, as_truth, combine, is_implication, named_by, placed_by, variable_term}
-use Rattle.spl_typer.proofs.Holding.{Holds, bound}
-use Rattle.spl_typer.proofs.Fits.{Compared, IsWord, fits_word, sum_word, less_word, negative_word, product_word, difference_fits, lowered_fits}
-use Rattle.spl_typer.proofs.Numerals.{numeral_word, variable_word}
-use Rattle.assertions.specs.Over.{FormulaOver, FormulasOver, NamesOver}
+use Rattle.expression_typer.specs.declared.fault.TypeFault.{TypeFault}
+use Rattle.expression_typer.specs.Answers.{◌>>=◌}
+use Rattle.expression_typer.specs.Scope.{Names}
+use Rattle.expression_typer.specs.Written.{limited, difference, lowered, product}
+use Rattle.expression_typer.specs.Typing.{typed_by, kind_typed_by, all_typed_by, as_number, as_truth, combine, is_implication, named_by, placed_by, variable_term}
+use Rattle.expression_typer.proofs.Holding.{Holds, bound}
+use Rattle.expression_typer.proofs.Fits.{Compared, IsWord, fits_word, sum_word, less_word, negative_word, product_word, difference_fits, lowered_fits}
+use Rattle.expression_typer.proofs.Numerals.{numeral_word, variable_word}
+use Rattle.expression_typer.specs.Naming.{NamesOver}
+use Rattle.assertions.specs.Over.{FormulaOver, FormulasOver}
 use Rattle.assertions.specs.Reading.{Answer, truth_of, number_of, before, typed_behind}
 
 either : {A : Type 0} (P : A → Type 0) (b : Bool) (x y : Result A TypeFault) → Holds P x → Holds P y → Holds P (cond b x y)

@@ -4,8 +4,8 @@ use Rattle.st_reading.specs.Reading.{Stop, syntax, broken, other}
 use Rattle.st_reading.specs.Faults.{Passed, passed}
 use Rattle.st_reading.specs.declared.fault.ParseFault.{ParseFault}
 use Rattle.st_reading.specs.declared.fault.ParseFault.TheVariants as parsing
-use Rattle.spl_typer.specs.declared.fault.TypeFault.{TypeFault}
-use Rattle.spl_typer.specs.declared.fault.TypeFault.TheVariants as typing
+use Rattle.expression_typer.specs.declared.fault.TypeFault.{TypeFault}
+use Rattle.expression_typer.specs.declared.fault.TypeFault.TheVariants as typing
 use Rattle.assertions.specs.declared.fault.FormFault.{FormFault}
 use Rattle.assertions.specs.declared.fault.FormFault.TheVariants as faults
 

@@ -1,4 +1,3 @@
-pub mod Naming
 pub mod Faults
 pub mod Reading
 pub mod Named

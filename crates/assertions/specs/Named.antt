@@ -1,7 +1,7 @@
 -- Each fault of a formula has a name: an expression breaks only rules that FormFault has.
 use Rattle.std.specs.Prelude.{◌≡◌, None, Err}
 use Rattle.st_tokens.specs.Stream.{Stream}
-use Rattle.spl_typer.specs.Scope.{Names}
+use Rattle.expression_typer.specs.Scope.{Names}
 use Rattle.assertions.specs.Reading.{form_of, linear_of}
 
 abbrev pub FormFaultsAreNamed : Type 0

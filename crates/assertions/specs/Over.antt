@@ -1,15 +1,13 @@
 -- What a formula of a proof speaks of: a program's variables, each by its type, and locations below the program's, with
 -- numbers that are small.
-use Rattle.std.specs.Prelude.{◌≡◌, ℕ, suc, ◌^◌, ◌<◌, Bool, true, List, Some, Ok, ⊤}
+use Rattle.std.specs.Prelude.{◌≡◌, ℕ, suc, ◌^◌, ◌<◌, true, List, Some, Ok, ⊤}
 use Rattle.st_tokens.specs.Stream.{Stream}
 use Rattle.st_linear.specs.Linear.{Linear}
 use Rattle.st_form.specs.Formula.{Formula, Formulas, truth_value, row, equal, bool_var, at, negation, every, some, none, more}
 use Rattle.st_form.specs.declared.variables.Variable.{Variable}
 use Rattle.st_program.specs.Types.{type_of, LinearFits}
-use Rattle.spl_typer.specs.Scope.{Names}
-use Rattle.spl_parser.specs.ProgramTree.{Program}
-use Rattle.spl_typer.specs.Programs.{Typed, typing}
-use Rattle.assertions.specs.Naming.{names_of}
+use Rattle.expression_typer.specs.Scope.{Names}
+use Rattle.expression_typer.specs.Naming.{NamesOver}
 use Rattle.assertions.specs.Reading.{form_of, linear_of}
 
 abbrev mutual
@@ -27,11 +25,6 @@ abbrev mutual
   FormulasOver vs locations none = ⊤
   FormulasOver vs locations (more f fs) = FormulaOver vs locations f × FormulasOver vs locations fs
 
--- the names stand for these variables and for locations below the bound
-pub record NamesOver (vs : List Variable) (locations : ℕ) (names : Names) : Type 0 where
-  pub variables : (name : List ℕ) (v : ℕ) (b : Bool) → names.variable name ≡ Some (v, b) → type_of vs v ≡ Some b
-  pub places : (name : List ℕ) (l : ℕ) → names.place name ≡ Some l → l < locations
-
 -- What is read with such names speaks of no others.
 abbrev pub FormsAreOver : Type 0
 FormsAreOver =
@@ -43,7 +36,3 @@ abbrev pub LinearsAreOver : Type 0
 LinearsAreOver =
     (vs : List Variable) (locations : ℕ) (names : Names) → NamesOver vs locations names
     → (s : Stream) (f : Linear) (rest : Stream) → linear_of names s ≡ Ok (f, rest) → LinearFits vs (suc (2 ^ 30)) f
-
--- The names of a typed program stand for its variables and its locations.
-abbrev pub NamesStand : Type 0
-NamesStand = (p : Program) (t : Typed) → typing p ≡ Ok t → NamesOver t.variables t.locations (names_of t.names)

@@ -8,10 +8,10 @@ use Rattle.st_linear.specs.Linear.{Linear}
 use Rattle.st_form.specs.Formula.{Formula}
 use Rattle.expression_parser.specs.ExpressionTree.{Expr, start_of}
 use Rattle.expression_parser.specs.Reading.{below, expression_of, sum_of}
-use Rattle.spl_typer.specs.declared.fault.TypeFault.{TypeFault}
-use Rattle.spl_typer.specs.Answers.{◌>>=◌}
-use Rattle.spl_typer.specs.Scope.{Names}
-use Rattle.spl_typer.specs.Typing.{typed_by, as_truth, as_number}
+use Rattle.expression_typer.specs.declared.fault.TypeFault.{TypeFault}
+use Rattle.expression_typer.specs.Answers.{◌>>=◌}
+use Rattle.expression_typer.specs.Scope.{Names}
+use Rattle.expression_typer.specs.Typing.{typed_by, as_truth, as_number}
 use Rattle.assertions.specs.declared.fault.FormFault.{FormFault}
 use Rattle.assertions.specs.declared.fault.FormFault.TheVariants as faults
 use Rattle.assertions.specs.Faults.{of_stop, of_rule}

@@ -3,8 +3,8 @@
 
 ghost use Rattle.std.specs.Prelude.{◌≡◌};
 
-use spl_parser::ParseFault;
-use spl_typer::TypeFault;
+use expression_parser::ParseFault;
+use expression_typer::TypeFault;
 use st_tokens::TokenFault;
 use thiserror::Error;
 

@@ -1,7 +1,7 @@
 //! Laws of the reading of formulas. Each is a function that does nothing; its contract is the law.
 
 ghost use Rattle.assertions.specs.Named.{FormFaultsAreNamed, LinearFaultsAreNamed};
-ghost use Rattle.assertions.specs.Over.{FormsAreOver, LinearsAreOver, NamesStand};
+ghost use Rattle.assertions.specs.Over.{FormsAreOver, LinearsAreOver};
 
 /// An expression breaks none of the rules of declarations and statements: each fault of a formula is one of `FormFault`.
 pub fn form_faults_are_named()
@@ -22,10 +22,4 @@ pub fn forms_are_over()
 /// The same of integer expressions, whose numbers are at most 2^30.
 pub fn linears_are_over()
     ensures { LinearsAreOver }
-{}
-
-/// The names of a typed program stand for its variables, each by its number and type, and for locations below its number of
-/// locations.
-pub fn names_stand()
-    ensures { NamesStand }
 {}

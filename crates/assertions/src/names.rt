@@ -2,10 +2,10 @@
 
 ghost use Rattle.std.specs.Prelude.{◌≡◌};
 ghost use Rattle.std.specs.Option.{option_map};
-ghost use Rattle.spl_typer.specs.Programs.{is_text};
-ghost use Rattle.assertions.specs.Naming.{text_of};
+ghost use Rattle.expression_typer.specs.Naming.{is_text};
+ghost use Rattle.expression_typer.specs.Naming.{text_of};
 
-use spl_typer::Naming;
+use expression_typer::Naming;
 use st_program::NameTable;
 
 fn is_text(name: &[u8]) -> bool
@@ -39,7 +39,7 @@ pub struct Table<'n> {
 }
 
 impl Naming for Table<'_> {
-    ghost use Rattle.assertions.specs.Naming.{names_of};
+    ghost use Rattle.expression_typer.specs.Naming.{names_of};
 
     ghost told = { λ t. names_of t.names.now };
 

@@ -6,13 +6,13 @@
 
 ghost use Rattle.st_form.specs.Plain.{plain};
 ghost use Rattle.st_tokens.specs.Stream.{stream};
-ghost use Rattle.assertions.specs.Naming.{names_of};
+ghost use Rattle.expression_typer.specs.Naming.{names_of};
 ghost use Rattle.assertions.specs.Reading.{Answers, form_of, linear_of};
 
 use crate::fault::FormFault;
 use crate::names::Table;
-use spl_parser::{LEVELS, expression, sum};
-use spl_typer::{as_number, as_truth, typed_by};
+use expression_parser::{LEVELS, expression, sum};
+use expression_typer::{as_number, as_truth, typed_by};
 use st_form::{Form, Lin};
 use st_program::NameTable;
 use st_tokens::Tokens;
@@ -23,7 +23,8 @@ use std::alloc::Global;
 ///
 /// That it is the longest, and that a fault of the grammar is the first, are `formulas_are_longest` and
 /// `formulas_first_fault` of `expression_parser::laws`; that it is typed to its meaning, or refused for the lowest rule that is
-/// broken at the first place, are `first_is_told_by_names` and `least_is_told_by_names` of `spl_typer::laws`.
+/// broken at the first place, are `first_is_told_by_names` and `least_is_told_by_names` of
+/// `expression_typer::laws`.
 #[tactic(auto, unfolding(crate::specs::Reading::form_of))]
 pub fn read_form(
     alloc: Global,

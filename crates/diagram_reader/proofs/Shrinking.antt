@@ -11,8 +11,8 @@ use Rattle.expression_parser.specs.Signs.{product_sign, sum_sign}
 use Rattle.expression_parser.specs.ExpressionTree.{Expr, joined}
 use Rattle.expression_parser.specs.Reading.{Reader, below, grouping, grouped, unary_of, product_of, sum_of, expression_of}
 use Rattle.expression_parser.proofs.ExpressionShrinking.{unary_shrinks, expression_shrinks, below_shrinks}
-use Rattle.spl_typer.specs.declared.fault.TypeFault.{TypeFault}
-use Rattle.spl_typer.specs.Scope.{Names}
+use Rattle.expression_typer.specs.declared.fault.TypeFault.{TypeFault}
+use Rattle.expression_typer.specs.Scope.{Names}
 use Rattle.st_linear.specs.Linear.{Linear}
 use Rattle.st_form.specs.Formula.{Formula}
 use Rattle.assertions.specs.Reading.{before, typed_behind, truth_of, number_of, form_of, linear_of}

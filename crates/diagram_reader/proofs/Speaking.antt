@@ -14,8 +14,9 @@ use Rattle.temporal_goals.specs.Texts.{PlainDrawnNode, PlainDiagram}
 use Rattle.temporal_goals.specs.declared.diagrams.DiagramKind.{DiagramKind}
 use Rattle.temporal_goals.specs.declared.diagrams.DiagramKind.TheVariants.{Wait, Chain, Rank}
 use Rattle.rule_laws.specs.Fitting.{DrawnFits, DrawnNodesFit, LevelsExist}
-use Rattle.assertions.specs.Naming.{names_of}
-use Rattle.assertions.specs.Over.{FormulaOver, NamesOver}
+use Rattle.expression_typer.specs.Naming.{names_of}
+use Rattle.expression_typer.specs.Naming.{NamesOver}
+use Rattle.assertions.specs.Over.{FormulaOver}
 use Rattle.assertions.specs.Reading.{Answer, form_of, linear_of}
 use Rattle.assertions.proofs.Over.{form_over, linear_over}
 use Rattle.diagram_reader.specs.declared.item.Item.{Item}

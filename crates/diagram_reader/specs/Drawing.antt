@@ -14,7 +14,7 @@ use Rattle.st_program.specs.Names.{Names}
 use Rattle.transition_system.specs.Systems.{System}
 use Rattle.temporal_goals.specs.Texts.{PlainDrawnNode, PlainEdge, PlainDiagram}
 use Rattle.temporal_goals.specs.declared.diagrams.DiagramKind.{DiagramKind}
-use Rattle.assertions.specs.Naming.{names_of}
+use Rattle.expression_typer.specs.Naming.{names_of}
 use Rattle.assertions.specs.Reading.{form_of, linear_of}
 use Rattle.diagram_reader.specs.declared.fault.DiagramFault.{DiagramFault}
 use Rattle.diagram_reader.specs.declared.fault.DiagramFault.TheVariants as faults

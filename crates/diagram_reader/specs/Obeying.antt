@@ -13,8 +13,9 @@ use Rattle.temporal_goals.specs.Texts.{PlainDrawnNode, PlainEdge, PlainDiagram}
 use Rattle.temporal_goals.specs.declared.diagrams.DiagramKind.{DiagramKind}
 use Rattle.temporal_goals.specs.declared.diagrams.DiagramKind.TheVariants.{Wait, Chain, Rank}
 use Rattle.rule_laws.specs.Fitting.{fairness_of, DrawnNodesFit, LevelsExist}
-use Rattle.assertions.specs.Naming.{names_of}
-use Rattle.assertions.specs.Over.{FormulaOver, NamesOver}
+use Rattle.expression_typer.specs.Naming.{names_of}
+use Rattle.expression_typer.specs.Naming.{NamesOver}
+use Rattle.assertions.specs.Over.{FormulaOver}
 use Rattle.diagram_reader.specs.Drawing.{diagram_of}
 
 -- a node's number is above 0, and in a wait diagram a level of the goal

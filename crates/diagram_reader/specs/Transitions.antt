@@ -12,7 +12,7 @@ use Rattle.st_form.specs.declared.conditions.TransName.{TransName}
 use Rattle.st_form.specs.declared.conditions.TransName.TheVariants.{Idle, Step}
 use Rattle.st_program.specs.Names.{Names}
 use Rattle.st_program.specs.Names as tables
-use Rattle.spl_typer.specs.Programs.{is_text}
+use Rattle.expression_typer.specs.Naming.{is_text}
 use Rattle.observations.specs.declared.Fairness.{Fairness}
 use Rattle.observations.specs.declared.Fairness.TheVariants.{Unfair, Just, Compassionate}
 use Rattle.transition_system.specs.Systems.{PlainTransition, System}

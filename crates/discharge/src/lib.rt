@@ -7,16 +7,15 @@
 
 mod checking;
 mod gates;
+mod guards;
 pub mod laws;
 mod searching;
 
 pub use cert_text::Block;
 pub use checking::check_all;
 pub use control_states::Components;
+pub use guards::{are_checkable, are_searchable};
 pub use linear_prover::Verdict;
 pub use searching::decide_all;
 pub use st_form::{Condition, Variable};
 pub use st_outside::Gate;
-
-#[cfg(test)]
-mod tests;

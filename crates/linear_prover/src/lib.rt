@@ -10,6 +10,7 @@ mod deciding;
 mod decisions;
 mod divisions;
 mod entries;
+mod guards;
 mod joining;
 mod literals;
 mod moves;
@@ -21,6 +22,7 @@ mod walk;
 
 pub use control_states::{Alternative, Component, Components};
 pub use deciding::decide;
+pub use guards::{are_below, is_below};
 pub use row_elimination::WideStage;
 pub use st_certificate::Certificate;
 pub use st_form::{Condition, Variable};

@@ -27,7 +27,8 @@ use Rattle.spl_semantics.proofs.Bodies.{HasAt, has_front, has_back, has_all}
 use Rattle.spl_semantics.proofs.Layouts.{layout_of, ends_of, apart_of}
 use Rattle.spl_semantics.proofs.ControlMoves.{reached_good}
 use Rattle.spl_semantics.proofs.Tables.{numbers, Table, Given, NotTwice, before_at, table, tables, all_once, given_numbers, all_inner, all_at, all_from}
-use Rattle.spl_semantics.proofs.Strands.{near_own_along, one_of, at_end, at_statement, at_inside, count, count_among, near_strands_along, owned_along, near_owned_along}
+use Rattle.control_facts.proofs.Owners.{owned_along}
+use Rattle.spl_semantics.proofs.Strands.{near_own_along, one_of, at_end, at_statement, at_inside, count, count_among, near_strands_along, near_owned_along}
 
 -- components with their numbers
 abbrev numbered : List ComponentFacts → ℕ → List (ℕ × ComponentFacts)

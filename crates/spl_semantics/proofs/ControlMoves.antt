@@ -12,11 +12,12 @@ use Rattle.st_program.specs.Programs.{WellFormed}
 use Rattle.st_program.specs.Residuals.{Rests}
 use Rattle.spl_semantics.specs.Stores.{Store}
 use Rattle.spl_semantics.specs.Steps.{Act, begin, steps_of}
-use Rattle.spl_semantics.specs.Moves.{Move, starts, ends, spot_moves, all_moves}
-use Rattle.spl_semantics.specs.Control.{fronts}
+use Rattle.spl_semantics.specs.Control.{starts, ends, fronts}
+use Rattle.spl_semantics.proofs.TextMoves.{Move, spot_moves, all_moves}
 use Rattle.spl_semantics.specs.Names.{all_names}
-use Rattle.spl_semantics.specs.Runs.{State, behind_act, Leads, Reached, first, next, control}
-use Rattle.spl_semantics.specs.Moving.{Moves, NamedMove, StepsAreMoves, MovesAreSteps, ControlMoves}
+use Rattle.spl_semantics.specs.Runs.{State, Leads, Reached, first, next, control}
+use Rattle.spl_semantics.proofs.Moving.{Moves, NamedMove, StepsAreMoves, MovesAreSteps, ControlMoves}
+use Rattle.spl_semantics.proofs.ByCases.{behind_act, listed}
 use Rattle.spl_semantics.proofs.Members.{member_left, member_right, member_cases}
 use Rattle.spl_semantics.proofs.Texts.{either, Has, same_number}
 use Rattle.spl_semantics.proofs.Fits.{fronts_to, Layout, FitsAll}
@@ -85,8 +86,10 @@ module _ (p : Processes) (layout : Layout p) (ends_ok : Ends p) (apart : Apart p
   step_good s a g m = all_leads p layout s.store s.left p 0 (λ y m. m) a g m
 
   leads_good : (s t : State) (name : TransName) → IsGood s → Leads p s name t → IsGood t
-  leads_good s t Idle g e = subst IsGood (sym e) g
-  leads_good s t (Step o part) g l = subst IsGood (sym l.3) (step_good s l.0 g l.1).fits
+  leads_good s t Idle g l = subst IsGood (sym l.1.0) g
+  leads_good s t (Step o part) g l =
+      let a = listed p layout.numbered s t o part l.0 l.1 in
+      subst IsGood (sym a.4) (step_good s a.0 g a.1).fits
 
   pub reached_good : (initial : Formula) {s : State} → Reached p initial s → IsGood s
   reached_good initial (first f) = subst (λ z. FitsAll p z p 0) (sym f.begins) begin_good
@@ -149,9 +152,10 @@ control_moves p initial w =
 pub step_named : (p : Processes) (initial : Formula) → WellFormed p → (s t : State) (name : TransName) → Reached p initial s → Leads p s name t → (n : TransName × Fairness) × Member n (all_names p) × (n.0 ≡ name)
 step_named p initial w s t Idle r l = ((Idle, Unfair), here refl, refl)
 step_named p initial w s t (Step o part) r l =
-    let m = (control_moves p initial w).steps s r l.0 l.1 in
+    let a = listed p w.numbered s t o part l.0 l.1 in
+    let m = (control_moves p initial w).steps s r a.0 a.1 in
     let n = move_named p m.0.move m.0.is_in in
-    (n.0, n.1, n.2 ∙ m.0.name_is ∙ l.2)
+    (n.0, n.1, n.2 ∙ m.0.name_is ∙ a.2)
 
 pub first_control : (p : Processes) → WellFormed p → (s : State) → s.left ≡ begin p (length (all_spots p)) → control p s ≡ starts p
 first_control p w s q = begin_control p (layout_of p w) (ends_of p w) (apart_of p w) s q

@@ -6,10 +6,12 @@ use Rattle.st_form.specs.declared.conditions.TransName.{TransName}
 use Rattle.st_form.specs.declared.conditions.TransName.TheVariants.{Idle, Step}
 use Rattle.st_program.specs.Member.{Member, here, there}
 use Rattle.st_program.specs.Residuals.{Rests}
+use Rattle.st_program.specs.Spots.{IsNumbered}
 use Rattle.st_program.specs.Tree.{Processes}
 use Rattle.spl_semantics.specs.Names.{same_name}
 use Rattle.spl_semantics.specs.Steps.{Act, steps_of}
-use Rattle.spl_semantics.specs.Runs.{State, behind_act, Leads, is_enabled}
+use Rattle.spl_semantics.specs.Runs.{State, Leads, is_enabled}
+use Rattle.spl_semantics.proofs.ByCases.{behind_act, listed, by_cases}
 use Rattle.spl_semantics.proofs.NameOrder.{same_name_is, name_same}
 
 -- some step of a list has the name
@@ -33,10 +35,14 @@ name_has name a (x ∷ xs) (there m) q = at_first (same_name x.name name) (name_
     at_first true h = refl
     at_first false h = h
 
-pub enabled_step : (p : Processes) (s : State) (name : TransName) → is_enabled p s name ≡ true → (t : State) × Leads p s name t
-enabled_step p s Idle h = (s, refl)
-enabled_step p s (Step o part) h = let r = has_name (Step o part) (steps_of s.left p s.store) h in (behind_act r.0, (r.0, r.1, r.2, refl))
+pub enabled_step : (p : Processes) → IsNumbered p → (s : State) (name : TransName) → is_enabled p s name ≡ true → (t : State) × Leads p s name t
+enabled_step p numbered s Idle h = (s, (1, (refl, refl)))
+enabled_step p numbered s (Step o part) h =
+    let r = has_name (Step o part) (steps_of s.left p s.store) h in
+    (behind_act r.0, (r.0.mode, by_cases p numbered s o part r.0 r.1 r.2))
 
-pub step_enabled : (p : Processes) (s : State) (name : TransName) (t : State) → Leads p s name t → is_enabled p s name ≡ true
-step_enabled p s Idle t d = refl
-step_enabled p s (Step o part) t d = name_has (Step o part) d.0 (steps_of s.left p s.store) d.1 d.2
+pub step_enabled : (p : Processes) → IsNumbered p → (s : State) (name : TransName) (t : State) → Leads p s name t → is_enabled p s name ≡ true
+step_enabled p numbered s Idle t d = refl
+step_enabled p numbered s (Step o part) t d =
+    let a = listed p numbered s t o part d.0 d.1 in
+    name_has (Step o part) a.0 (steps_of s.left p s.store) a.1 a.2

@@ -8,8 +8,7 @@ use Rattle.st_program.specs.Member.{Member, here, there}
 use Rattle.st_program.specs.Spots.{entry, bodies, bodies_in, bodies_of, Body, Spot, at_spot, spots, spots_along, spots_among, spots_inside, all_spots}
 use Rattle.st_program.specs.Locations.{location_end, within_end, head_end, along_end, among_end, inside_end, IsPlaced, HeadPlaced, AlongPlaced, AmongPlaced, InsidePlaced, SomeProcess, NoLoop, NoLoopFirst, NoLoops, HeadsFit}
 use Rattle.st_program.specs.Programs.{WellFormed}
-use Rattle.spl_semantics.specs.Control.{children_of}
-use Rattle.spl_semantics.specs.Moves.{ends}
+use Rattle.spl_semantics.specs.Control.{children_of, ends}
 use Rattle.spl_semantics.proofs.Members.{member_none, member_left, member_right, member_cases, at_member}
 use Rattle.spl_semantics.proofs.Texts.{either}
 use Rattle.spl_semantics.proofs.Fits.{IsActing, firsts, firsts_along, firsts_among, Top, AllTop, ProcessTops, TopOk, SameLocs, HeadOk, Layout}

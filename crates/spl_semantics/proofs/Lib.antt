@@ -2,6 +2,8 @@ pub mod Members
 pub mod Texts
 pub mod Fits
 pub mod Bodies
+pub mod TextMoves
+pub mod Moving
 pub mod Follows
 pub mod Enabled
 pub mod Ended
@@ -10,6 +12,7 @@ pub mod Fronts
 pub mod Origins
 pub mod ControlMoves
 pub mod CasesAgree
+pub mod ByCases
 pub mod Tables
 pub mod Strands
 pub mod ControlMet
@@ -28,6 +31,7 @@ pub mod Pieces
 pub mod Acting
 pub mod Placing
 pub mod Lengths
+pub mod FewBodies
 pub mod OneOfAll
 pub mod ByName
 pub mod KeepsFit

@@ -16,8 +16,9 @@ use Rattle.st_program.specs.Spots.{IsNumbered}
 use Rattle.st_program.specs.Residuals.{Rests}
 use Rattle.spl_semantics.specs.Steps.{Act, steps_of}
 use Rattle.spl_semantics.specs.Names.{all_names, same_name}
-use Rattle.spl_semantics.specs.Runs.{State, behind_act, Leads, Follows, image, is_enabled, enabled_names, seen, place_of, observed}
+use Rattle.spl_semantics.specs.Runs.{State, LeadsBy, Leads, Follows, image, is_enabled, enabled_names, seen, place_of, observed}
 use Rattle.spl_semantics.specs.Facts.{GoesOn}
+use Rattle.spl_semantics.proofs.ByCases.{behind_act, by_cases}
 use Rattle.spl_semantics.proofs.NameOrder.{Named, same_name_is, place_at}
 
 -- an observation of other states, with the same names
@@ -94,10 +95,10 @@ module _ (p : Processes) (numbered : IsNumbered p) where
   step_to s (Step o part) = first_act (Step o part) s (steps_of s.left p s.store)
 
   leads_to : (s : State) (name : TransName) → is_enabled p s name ≡ true → Leads p s name (step_to s name)
-  leads_to s Idle e = refl
+  leads_to s Idle e = (1, (refl, refl))
   leads_to s (Step o part) e =
       let r = first_is (Step o part) s (steps_of s.left p s.store) e in
-      (r.0, r.1, r.2, r.3)
+      (r.0.mode, subst (LeadsBy p s (Step o part) r.0.mode) (sym r.3) (by_cases p numbered s o part r.0 r.1 r.2))
 
   -- a step by the place of its name
   abbrev Can : State → ℕ → State → Type 0
@@ -117,7 +118,7 @@ module _ (p : Processes) (numbered : IsNumbered p) where
 
   may_go_on : MayGoOn (enabled_names p) Can next_by 0
   may_go_on = record {
-    idles = λ s. ((Idle, _), refl, refl);
+    idles = λ s. ((Idle, _), refl, (1, (refl, refl)));
     goes = λ s k e.
         let r = flag_of s (all_names p) k e in
         (r.0, r.1, subst (λ z. Leads p s r.0.0 (step_to s (name_or z))) (sym r.1) (leads_to s r.0.0 r.2));

@@ -5,11 +5,12 @@ use Rattle.std.proofs.lemmas.Bool.Decides.{nat_tests}
 use Rattle.st_program.specs.Tree.{Statement, stated, Action, skip, if_then, if_else, while_do, block, select, cooperate, Statements, no_statement, statement, process, Processes, no_process, beside, location, action}
 use Rattle.st_program.specs.Member.{Member, here, there}
 use Rattle.st_program.specs.Spots.{entry, bodies, bodies_inside, bodies_in, bodies_of, Spot, at_spot}
-use Rattle.st_program.specs.Locations.{location_end, within_end, head_end, along_end, among_end, inside_end, IsPlaced, HeadPlaced, AlongPlaced, AmongPlaced, InsidePlaced}
+use Rattle.st_program.specs.Locations.{location_end, IsPlaced, HeadPlaced, AlongPlaced, AmongPlaced, InsidePlaced}
 use Rattle.control_states.specs.declared.alternative.Alternative.{Alternative}
 use Rattle.control_states.specs.declared.alternative.Alternative.TheVariants.{Location, Inside as Held}
 use Rattle.control_states.specs.Control.{ComponentFacts, IsOneOf}
-use Rattle.control_facts.specs.Alternatives.{own, own_within, own_among, once, inside_at, alternatives_at, alternatives_of, strands, strands_within, strands_among, strands_inside, owners, owners_within, owners_head, owners_along, owners_among, owners_inside}
+use Rattle.control_facts.specs.Alternatives.{own, own_within, own_among, once, inside_at, alternatives_at, alternatives_of, strands, strands_within, strands_among, strands_inside, owners, owners_head, owners_along, owners_among, owners_inside}
+use Rattle.control_facts.proofs.Owners.{owned}
 use Rattle.spl_semantics.proofs.Members.{member_none, member_left, member_right, member_cases, map_member}
 use Rattle.spl_semantics.proofs.Texts.{either, near, near_within, near_along, near_among}
 use Rattle.spl_semantics.proofs.Bodies.{HasAt, has_front, has_back}
@@ -155,47 +156,6 @@ module _ (all : List ComponentFacts) (c : ℕ) (y : Spot) where
         either (member_cases (near s e n) m)
         (λ m. near_strands s _ n (has_front all n (strands s c n) _ h) m)
         (λ m. near_strands_among ss e _ (subst (λ k. HasAt all k (strands_among ss c (n + length (bodies s)))) (ap (λ z. n + z) (count s c n)) (has_back all n (strands s c n) _ h)) m)
-
--- a part of the text has as many owners as locations
-mutual
-  pub owned : (s : Statement) (c n f : ℕ) → f + length (owners s c n) ≡ location_end s f
-  owned (stated o l a) c n f = owned_within a c n f
-
-  owned_within : (a : Action) (c n f : ℕ) → f + length (owners_within a c n) ≡ within_end a f
-  owned_within (if_then t s) c n f = let x = owned s c n (suc f) in omega arith
-  owned_within (if_else t s r) c n f =
-      let a = length-append (owners s c n) (c ∷ owners r c (n + length (bodies s))) in
-      let x = owned s c n (suc f) in let y = owned r c (n + length (bodies s)) (suc (location_end s (suc f))) in omega arith
-  owned_within (while_do t s) c n f = let x = owned s c n (suc f) in omega arith
-  owned_within (block ss) c n f = owned_head ss c n f
-  owned_within (select ss) c n f = owned_among ss c n f
-  owned_within (cooperate ps) c n f = owned_inside ps n f
-  owned_within skip c n f = omega arith
-  owned_within _ c n f = omega arith
-
-  owned_head : (ss : Statements) (c n f : ℕ) → f + length (owners_head ss c n) ≡ head_end ss f
-  owned_head no_statement c n f = omega arith
-  owned_head (statement s ss) c n f =
-      let a = length-append (owners s c n) (owners_along ss c (n + length (bodies s))) in
-      let x = owned s c n f in let y = owned_along ss c (n + length (bodies s)) (location_end s f) in omega arith
-
-  pub owned_along : (ss : Statements) (c n f : ℕ) → f + length (owners_along ss c n) ≡ along_end ss f
-  owned_along no_statement c n f = omega arith
-  owned_along (statement s ss) c n f =
-      let a = length-append (owners s c n) (owners_along ss c (n + length (bodies s))) in
-      let x = owned s c n (suc f) in let y = owned_along ss c (n + length (bodies s)) (location_end s (suc f)) in omega arith
-
-  owned_among : (ss : Statements) (c n f : ℕ) → f + length (owners_among ss c n) ≡ among_end ss f
-  owned_among no_statement c n f = omega arith
-  owned_among (statement s ss) c n f =
-      let a = length-append (owners s c n) (owners_among ss c (n + length (bodies s))) in
-      let x = owned s c n f in let y = owned_among ss c (n + length (bodies s)) (location_end s f) in omega arith
-
-  pub owned_inside : (ps : Processes) (n f : ℕ) → f + length (owners_inside ps n) ≡ inside_end ps f
-  owned_inside no_process n f = omega arith
-  owned_inside (beside (process ss end) ps) n f =
-      let a = length-append (owners_along ss n (suc n)) (n ∷ owners_inside ps (suc n + length (bodies_in ss))) in
-      let x = owned_along ss n (suc n) f in let y = owned_inside ps (suc n + length (bodies_in ss)) (suc (along_end ss f)) in omega arith
 
 -- of which component the location of a statement is, and those of the children in it
 module _ (all : List ℕ) (c : ℕ) (y : Spot) where

@@ -2,7 +2,7 @@
 -- and control).
 use Rattle.std.specs.Prelude.{ℕ, List, [], ◌∷◌, ◌++◌, Option, Some, None}
 use Rattle.st_program.specs.Tree.{Action, skip, cooperate, process, Processes, no_process, beside, location, action}
-use Rattle.st_program.specs.Spots.{Spot, spot}
+use Rattle.st_program.specs.Spots.{entry, Spot, spot}
 use Rattle.st_program.specs.Residuals.{Rest, Done, Run, Then, Again, Inside, Rests, no_rest, rests}
 
 -- the children of a cooperation
@@ -32,3 +32,12 @@ abbrev mutual
   fronts no_rest p ps = []
   fronts (rests r rs) p no_process = front r p 0 ++ fronts rs p no_process
   fronts (rests r rs) p (beside (process ss end) ps) = front r p end ++ fronts rs p ps
+
+-- the first locations of the children, and their end locations
+abbrev pub starts : Processes → List ℕ
+starts no_process = []
+starts (beside (process ss end) ps) = entry ss end ∷ starts ps
+
+abbrev pub ends : Processes → List ℕ
+ends no_process = []
+ends (beside (process ss end) ps) = end ∷ ends ps

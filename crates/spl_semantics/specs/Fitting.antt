@@ -1,15 +1,9 @@
--- What a program must be so that its states can be written down, and what a state must be so that it is one of the program.
-use Rattle.std.specs.Prelude.{◌≡◌, ◌+◌, ◌^◌, ◌<◌, length, Some, ⊤}
-use Rattle.st_program.specs.Plain.{plain_children}
-use Rattle.st_program.specs.Programs.{View}
+-- What a state must be so that it is one of the program.
+use Rattle.std.specs.Prelude.{◌≡◌, Some, ⊤}
 use Rattle.st_program.specs.Residuals.{Rest, Done, Run, Then, Again, Inside, Rests, no_rest, rests}
-use Rattle.st_program.specs.Spots.{Body, Spot, bodies_of, spot, body}
+use Rattle.st_program.specs.Spots.{Body, Spot, spot, body}
 use Rattle.st_program.specs.Tree.{Action, skip, while_do, cooperate, Processes, no_process, beside, action}
 use Rattle.spl_semantics.specs.Control.{children_of}
-
--- each body has a number of 32 bits: blocks have their occurrences, components the numbers from the number of statements on
-abbrev pub HasNumbers : View → Type 0
-HasNumbers p = p.statements + length (bodies_of (plain_children p.processes)) < 2 ^ 32
 
 abbrev pub IsLoop : Action → Type 0
 IsLoop (while_do t s) = ⊤

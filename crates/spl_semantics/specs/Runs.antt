@@ -12,11 +12,11 @@ use Rattle.st_form.specs.declared.conditions.TransName.TheVariants.{Idle, Step}
 use Rattle.observations.specs.declared.Fairness.{Fairness}
 use Rattle.observations.specs.Observation.{Moment, Observation}
 use Rattle.st_program.specs.Tree.{Processes}
-use Rattle.st_program.specs.Member.{Member}
 use Rattle.st_program.specs.Spots.{all_spots}
 use Rattle.st_program.specs.Residuals.{Rests}
 use Rattle.spl_semantics.specs.Stores.{Store, situation, holds}
-use Rattle.spl_semantics.specs.Steps.{Act, begin, steps_of}
+use Rattle.spl_semantics.specs.Steps.{begin, steps_of}
+use Rattle.spl_semantics.specs.Cases.{Steps}
 use Rattle.spl_semantics.specs.Control.{fronts}
 use Rattle.spl_semantics.specs.Names.{all_names, same_name}
 
@@ -24,18 +24,19 @@ pub record State : Type 0 where
   pub left : Rests
   pub store : Store
 
--- the state behind a step
-abbrev pub behind_act : Act Rests → State
-behind_act a = record { left = a.left; store = a.store }
-
 -- all processes at the beginning of their bodies
 abbrev pub start : Processes → Store → State
 start p store = record { left = begin p (length (all_spots p)); store = store }
 
--- a step of the name leads from the one state to the other: idling changes nothing, and another step is one of the list
+-- a step of the name and mode leads from the one state to the other: idling, whose mode is 1, changes nothing, and any
+-- other step is one of the cases
+abbrev pub LeadsBy : Processes → State → TransName → ℕ → State → Type 0
+LeadsBy p s Idle mode t = (t ≡ s) × (mode ≡ 1)
+LeadsBy p s (Step o part) mode t = Steps p s.left s.store (Step o part) mode t.left t.store
+
+-- a step of the name
 abbrev pub Leads : Processes → State → TransName → State → Type 0
-Leads p s Idle t = t ≡ s
-Leads p s (Step o part) t = (a : Act Rests) × Member a (steps_of s.left p s.store) × (a.name ≡ Step o part) × (t ≡ behind_act a)
+Leads p s name t = (mode : ℕ) × LeadsBy p s name mode t
 
 -- each step leads to the state behind it
 abbrev pub Follows : Processes → State → List (TransName × State) → Type 0
@@ -60,7 +61,7 @@ control p s = fronts s.left p p
 abbrev pub image : Processes → State → Situation
 image p s = situation s.store (λ l. is_listed l (control p s))
 
--- whether some step has the name; idling is always a step
+-- whether some step has the name, computed from the list of steps; idling is always a step
 abbrev pub is_enabled : Processes → State → TransName → Bool
 is_enabled p s Idle = true
 is_enabled p s (Step o part) = list_any (λ a. same_name a.name (Step o part)) (steps_of s.left p s.store)

@@ -1,6 +1,5 @@
 //! The laws of programs' steps and runs, each the contract of a function that does nothing.
 ghost use Rattle.std.specs.Prelude.{◌≡◌, ◌↔◌, ℕ, List, length, true};
-ghost use Rattle.st_form.specs.Formula.{Formula};
 ghost use Rattle.st_form.specs.Plain.{plain};
 ghost use Rattle.st_form.specs.declared.conditions.TransName.{TransName};
 ghost use Rattle.st_program.specs.Member.{Member};
@@ -12,22 +11,21 @@ ghost use Rattle.st_program.specs.Tree.{Processes};
 ghost use Rattle.spl_semantics.specs.Cases.{Steps};
 ghost use Rattle.spl_semantics.specs.Facts.{MeetsControl, GoesOn};
 ghost use Rattle.spl_semantics.specs.Fitting.{FitsProgram};
-ghost use Rattle.spl_semantics.specs.Moving.{ControlMoves};
 ghost use Rattle.spl_semantics.specs.Runs.{State, IsFirst, Reached, Follows, Leads, is_enabled};
 ghost use Rattle.spl_semantics.specs.Steps.{Act, begin, steps_of};
 ghost use Rattle.spl_semantics.specs.Stores.{Store};
 
 use st_program::Program;
 
-/// The list of steps and the relation by cases say the same, of whatever is left to run and in every store.
+/// The list of steps and the relation by cases, on which runs stand, say the same, of whatever is left to run and in every store.
 pub fn steps_by_cases()
     ensures { (p : Processes) → WellFormed p → (rs : Rests) (store : Store) (a : Act Rests) →
         Member a (steps_of rs p store) ↔ Steps p rs store a.name a.mode a.left a.store }
 {}
 
-/// Whether a name is enabled, as it is computed, is whether some step has the name.
+/// Whether a name is enabled, as it is computed from the list of steps, is whether some step has the name.
 pub fn enabled_where_a_step_is()
-    ensures { (p : Processes) (s : State) (name : TransName) →
+    ensures { (p : Processes) → WellFormed p → (s : State) (name : TransName) →
         is_enabled p s name ≡ true ↔ (t : State) × Leads p s name t }
 {}
 
@@ -37,11 +35,6 @@ pub fn steps_fit()
     ensures first { (p : Processes) → WellFormed p → FitsProgram p (begin p (length (all_spots p))) }
     ensures next { (p : Processes) → WellFormed p → (rs : Rests) (store : Store) (a : Act Rests) →
         FitsProgram p rs → Member a (steps_of rs p store) → FitsProgram p a.left }
-{}
-
-/// In every state of every run of a well-formed program its steps are the moves of its statements along the text.
-pub fn steps_are_moves()
-    ensures { (p : Processes) (initial : Formula) → WellFormed p → ControlMoves p initial }
 {}
 
 /// Every state of every run of the program meets the control facts: each active component is at exactly one of its

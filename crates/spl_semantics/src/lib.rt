@@ -20,6 +20,6 @@ mod walks;
 
 pub use acts::Move;
 pub use faults::MoveFault;
-pub use fitting::{has_numbers, store_fits};
+pub use fitting::store_fits;
 pub use playing::moves;
 pub use starts::start;

@@ -4,7 +4,6 @@ ghost use Rattle.std.specs.Prelude.{◌≡◌, All, IfOk};
 ghost use Rattle.st_program.specs.Plain.{plain_children};
 ghost use Rattle.st_program.specs.Residuals.{plain_residuals};
 ghost use Rattle.spl_semantics.specs.Data.{store_of, StoreFits};
-ghost use Rattle.spl_semantics.specs.Fitting.{HasNumbers};
 ghost use Rattle.spl_semantics.specs.InOrder.{AnswersInOrder, name_place, part_place};
 ghost use Rattle.spl_semantics.specs.Limits.{wide_rests};
 ghost use Rattle.spl_semantics.specs.Steps.{steps_of};
@@ -40,8 +39,8 @@ fn name_place(name: TransName) -> u64
 /// All steps of the state but idling, by occurrence, then by part, an entry before its exit. Steps of one name stand in the
 /// order in which the residuals that act stand in the state.
 ///
-/// The store has a datum of its type for each variable, and the numbers of the program's bodies are numbers of 32 bits. There
-/// is no step where a residual would run a statement, or go on in a body, that the program doesn't have.
+/// The store has a datum of its type for each variable. There is no step where a residual would run a statement, or go on in
+/// a body, that the program doesn't have.
 ///
 /// # Errors
 ///
@@ -49,7 +48,6 @@ fn name_place(name: TransName) -> u64
 /// group, those count that are met on the walk up to its first false `await`.
 pub fn moves(alloc: Global, program: &Program, state: &State) -> Result<Vec<Move>, MoveFault>
     requires store { StoreFits program.now.variables state.now.store.items }
-    requires numbers { HasNumbers program.now }
     ensures moves { AnswersInOrder result
         (wide_rests (plain_residuals state.now.residuals.items) (plain_children program.now.processes) (store_of state.now.store.items))
         (steps_of (plain_residuals state.now.residuals.items) (plain_children program.now.processes) (store_of state.now.store.items)) }

@@ -8,7 +8,6 @@ ghost use Rattle.spl_semantics.specs.Steps as steps;
 ghost use Rattle.spl_semantics.specs.Runs as runs;
 ghost use Rattle.spl_semantics.specs.Data.{store_of, StoreFits};
 ghost use Rattle.spl_semantics.specs.Plain.{plain_state};
-ghost use Rattle.spl_semantics.specs.Fitting.{HasNumbers};
 
 use crate::components::count_along;
 use crate::surgery::join;
@@ -33,10 +32,8 @@ pub fn begin(alloc: Global, children: &[Child], component: u32) -> Result<Vec<Re
 }
 
 /// The state in which all processes are at their beginning, with this store, which has a datum of its type for each variable.
-/// The numbers of the program's bodies are numbers of 32 bits.
 pub fn start(alloc: Global, program: &Program, store: Vec<Datum>) -> Result<State, Memory>
     requires store { StoreFits program.now.variables store.items }
-    requires numbers { HasNumbers program.now }
     ensures state { IfOk result (λ s. plain_state s ≡ runs.start (plain_children program.now.processes) (store_of store.items)) }
     ensures fits { IfOk result (λ s. StoreFits program.now.variables s.store.items) }
 {

@@ -7,7 +7,6 @@ ghost use Rattle.st_program.specs.Plain.{plain_children};
 ghost use Rattle.st_program.specs.Residuals.{Run, plain_residual, plain_residuals};
 ghost use Rattle.spl_semantics.specs.Answers.{Answers};
 ghost use Rattle.spl_semantics.specs.Data.{store_of, types, StoreFits};
-ghost use Rattle.spl_semantics.specs.Fitting.{HasNumbers};
 ghost use Rattle.spl_semantics.specs.Limits.{wide_rest, wide_rests};
 ghost use Rattle.spl_semantics.specs.Plain.{plain_acts, plain_moves, act_stores, move_stores, AllOfTypes};
 ghost use Rattle.spl_semantics.specs.Steps as steps;
@@ -32,7 +31,7 @@ fn acts_of(
     residual: &Residual,
     store: &[Datum],
 ) -> Result<Vec<Act>, MoveFault>
-    ensures steps { StoreFits program.now.variables store.now → HasNumbers program.now
+    ensures steps { StoreFits program.now.variables store.now
         → Answers (λ v. plain_acts v.items) result
         (wide_rest (plain_residual residual.now) (plain_children program.now.processes) (store_of store.now))
         (steps.steps (plain_residual residual.now) (plain_children program.now.processes) (store_of store.now)) }
@@ -70,7 +69,7 @@ fn run_acts(
     occ: u32,
     store: &[Datum],
 ) -> Result<Vec<Act>, MoveFault>
-    ensures steps { StoreFits program.now.variables store.now → HasNumbers program.now
+    ensures steps { StoreFits program.now.variables store.now
         → Answers (λ v. plain_acts v.items) result
         (wide_rest (Run occ) (plain_children program.now.processes) (store_of store.now))
         (steps.steps (Run occ) (plain_children program.now.processes) (store_of store.now)) }
@@ -98,7 +97,7 @@ pub fn moves_of(
     residuals: &[Residual],
     store: &[Datum],
 ) -> Result<Vec<Move>, MoveFault>
-    ensures steps { StoreFits program.now.variables store.now → HasNumbers program.now
+    ensures steps { StoreFits program.now.variables store.now
         → Answers (λ v. plain_moves v.items) result
         (wide_rests (plain_residuals residuals.now) (plain_children program.now.processes) (store_of store.now))
         (steps.steps_of (plain_residuals residuals.now) (plain_children program.now.processes) (store_of store.now)) }

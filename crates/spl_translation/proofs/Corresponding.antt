@@ -24,9 +24,11 @@ use Rattle.spl_semantics.specs.Stores.{Store, situation}
 use Rattle.st_program.specs.Residuals.{Rests}
 use Rattle.spl_semantics.specs.Steps.{Act, steps_of}
 use Rattle.spl_semantics.specs.Names.{own_names}
-use Rattle.spl_semantics.specs.Moves.{Move, starts}
-use Rattle.spl_semantics.specs.Moving.{Moves}
-use Rattle.spl_semantics.specs.Runs.{State, behind_act, IsFirst, Reached, control, image}
+use Rattle.spl_semantics.specs.Control.{starts}
+use Rattle.spl_semantics.proofs.TextMoves.{Move}
+use Rattle.spl_semantics.proofs.Moving.{Moves}
+use Rattle.spl_semantics.specs.Runs.{State, LeadsBy, IsFirst, Reached, control, image}
+use Rattle.spl_semantics.proofs.ByCases.{behind_act, listed, by_cases}
 use Rattle.spl_semantics.proofs.Members.{member_none, member_left, member_right, member_cases, member_at, at_member}
 use Rattle.spl_semantics.proofs.Texts.{either}
 use Rattle.spl_semantics.proofs.Follows.{move_in}
@@ -34,7 +36,7 @@ use Rattle.spl_semantics.proofs.Origins.{move_of, own_name}
 use Rattle.spl_semantics.proofs.ControlMoves.{control_moves, first_control}
 use Rattle.spl_semantics.proofs.ControlMet.{listed, is_member}
 use Rattle.spl_translation.specs.Translation.{passing, always, own_transitions, spot_transitions, idling, translation}
-use Rattle.spl_translation.specs.Correspondence.{GoesBy, LeadsBy, Corresponds}
+use Rattle.spl_translation.specs.Correspondence.{GoesBy, Corresponds}
 use Rattle.spl_translation.proofs.Values.{blind}
 use Rattle.spl_translation.proofs.Pairs.{Matches, paired}
 
@@ -237,8 +239,9 @@ module _ (vs : List Variable) (initial : Formula) (p : Processes) (locations : �
     moded = sym l.1;
   }
   follows s t (Step o part) mode r l =
-      let a = l.0 in
-      let m = (control_moves p initial well).steps s r a l.1 in
+      let taken = listed p well.numbered s t o part mode l in
+      let a = taken.0 in
+      let m = (control_moves p initial well).steps s r a taken.1 in
       let x = move_of m.0.move (all_spots p) m.0.is_in in
       let y = x.0 in
       let d = (paired vs (action y.stmt) (occurrence y.stmt) (location y.stmt) y.next (typed y x.1)).mode_of m.0.move x.2 in
@@ -252,15 +255,16 @@ module _ (vs : List Variable) (initial : Formula) (p : Processes) (locations : �
           place = d.place;
           placed = d.placed;
           goes = goes_of m.0.move d.mode (control p s) (control p (behind_act a)) s.store a.store d.matches m.1;
-          leads = ap (image p) l.4 ∙ image_behind m.0.move d.mode (control p s) (control p (behind_act a)) s.store a.store d.matches m.1;
+          leads = ap (image p) taken.4 ∙ image_behind m.0.move d.mode (control p s) (control p (behind_act a)) s.store a.store d.matches m.1;
         };
-        named = d.name_is ∙ m.0.name_is ∙ l.2;
-        moded = sym d.numbered ∙ m.0.mode_is ∙ l.3;
+        named = d.name_is ∙ m.0.name_is ∙ taken.2;
+        moded = sym d.numbered ∙ m.0.mode_is ∙ taken.3;
       }
 
   -- a step from a state with a name of the program
   leads_by : (s : State) (name : TransName) (mode : ℕ) (a : Act Rests) → Member a (steps_of s.left p s.store) → a.name ≡ name → a.mode ≡ mode → (part : Part) (o : ℕ) → name ≡ Step o part → LeadsBy p s name mode (behind_act a)
-  leads_by s name mode a i e f part o q = subst (λ z. LeadsBy p s z mode (behind_act a)) (sym q) (a, i, e ∙ q, f, refl)
+  leads_by s name mode a i e f part o q =
+      subst (λ z. LeadsBy p s z mode (behind_act a)) (sym q) (subst (λ k. LeadsBy p s (Step o part) k (behind_act a)) f (by_cases p well.numbered s o part a i (e ∙ q)))
 
   follows_back : (s : State) (name : TransName) (mode : ℕ) (t : Situation) → Reached p initial s → GoesBy system (image p s) name mode t → (u : State) × LeadsBy p s name mode u × (image p u ≡ t)
   follows_back s name mode t r g = by_number g.number g.step g.named g.moded

@@ -14,10 +14,11 @@ use Rattle.st_program.specs.Member.{Member, here, there}
 use Rattle.st_program.specs.Spots.{IsNumbered}
 use Rattle.spl_semantics.specs.Steps.{steps_of}
 use Rattle.spl_semantics.specs.Names.{same_name}
-use Rattle.spl_semantics.specs.Runs.{State, behind_act, Leads, Follows, IsFirst, Reached, first, next, image, is_enabled, enabled_names, seen, place_of, observed, IsRunOf}
+use Rattle.spl_semantics.specs.Runs.{State, LeadsBy, Follows, IsFirst, Reached, first, next, image, is_enabled, enabled_names, seen, place_of, observed, IsRunOf}
+use Rattle.spl_semantics.proofs.ByCases.{behind_act, listed, by_cases}
 use Rattle.spl_semantics.proofs.Members.{member_none, at_member}
 use Rattle.spl_semantics.proofs.NameOrder.{Named, name_same, same_name_is, place_at}
-use Rattle.spl_translation.specs.Correspondence.{LeadsBy, Corresponds}
+use Rattle.spl_translation.specs.Correspondence.{Corresponds}
 
 -- a test that some element passes, and the element
 some_passes : {X : Type 0} (test : X → Bool) (xs : List X) → list_any test xs ≡ true → (k : ℕ) × (x : X) × (slice_get xs k ≡ Some x) × (test x ≡ true)
@@ -63,20 +64,17 @@ map-fairness [] = refl
 map-fairness (t ∷ ts) = ap (λ z. t.fairness ∷ z) (map-fairness ts)
 
 module _ (p : Processes) (initial : Formula) (numbered : IsNumbered p) (system : System) (both : Corresponds p initial system) where
-  by_mode : (s t : State) (name : TransName) → Leads p s name t → (mode : ℕ) × LeadsBy p s name mode t
-  by_mode s t Idle l = (1, (l, refl))
-  by_mode s t (Step o part) l = (l.0.mode, (l.0, l.1, l.2, refl, l.3))
-
   enabled_by : (s t : State) (name : TransName) (mode : ℕ) → LeadsBy p s name mode t → is_enabled p s name ≡ true
   enabled_by s t Idle mode l = refl
   enabled_by s t (Step o part) mode l =
-      passes_some (λ a. same_name a.name (Step o part)) (steps_of s.left p s.store) l.0 l.1 (ap (λ z. same_name z (Step o part)) l.2 ∙ name_same (Step o part))
+      let a = listed p numbered s t o part mode l in
+      passes_some (λ a. same_name a.name (Step o part)) (steps_of s.left p s.store) a.0 a.1 (ap (λ z. same_name z (Step o part)) a.2 ∙ name_same (Step o part))
 
   leads_if : (s : State) (name : TransName) → is_enabled p s name ≡ true → (mode : ℕ) × (t : State) × LeadsBy p s name mode t
   leads_if s Idle e = (1, s, (refl, refl))
   leads_if s (Step o part) e =
       let r = some_passes (λ a. same_name a.name (Step o part)) (steps_of s.left p s.store) e in
-      (r.1.mode, behind_act r.1, (r.1, at_member r.1 (steps_of s.left p s.store) r.0 r.2, same_name_is r.1.name (Step o part) r.3, refl, refl))
+      (r.1.mode, behind_act r.1, by_cases p numbered s o part r.1 (at_member r.1 (steps_of s.left p s.store) r.0 r.2) (same_name_is r.1.name (Step o part) r.3))
 
   -- the number of a transition is the place of its name
   number_is : (k : ℕ) (t : PlainTransition) → slice_get system.transitions k ≡ Some t → place_of p t.name ≡ k
@@ -127,7 +125,7 @@ module _ (p : Processes) (initial : Formula) (numbered : IsNumbered p) (system :
   goes_on : (s : State) (later : List (TransName × State)) → Reached p initial s → Follows p s later → FollowsBy (enabled_in system) (Goes system) (image p s) (map (λ step. (place_of p step.0, seen p step.1)) later)
   goes_on s [] r f = tt
   goes_on s (x ∷ later) r f =
-      let l = by_mode s x.1 x.0 f.0 in
+      let l = f.0 in
       let g = both.follows s x.1 x.0 l.0 r l.1 in
       let number : g.number ≡ place_of p x.0 = sym (number_is g.number g.step.transition g.step.numbered) ∙ ap (place_of p) g.named in
       let further = next x.0 r f.0 in

@@ -17,7 +17,8 @@ use Rattle.st_program.specs.Member.{Member, here, there}
 use Rattle.st_program.specs.Groups.{Link, tested, paths, paths_along, Composed, nothing_composed, composed}
 use Rattle.st_program.specs.Types.{TestFits, PieceFits, PiecesFit, ActionFits}
 use Rattle.spl_semantics.specs.Stores.{Store, situation, holds, assigned, walked, one_less, one_more}
-use Rattle.spl_semantics.specs.Moves.{Move, move, always as allowed_always, same, test_moves, path_moves, starts, ends, own_moves}
+use Rattle.spl_semantics.specs.Control.{starts, ends}
+use Rattle.spl_semantics.proofs.TextMoves.{Move, move, always as allowed_always, same, test_moves, path_moves, own_moves}
 use Rattle.spl_semantics.proofs.Members.{member_none, member_left, member_right, member_cases}
 use Rattle.spl_semantics.proofs.Texts.{either}
 use Rattle.spl_translation.specs.Translation.{passing, moving, giving, always, path_mode, path_modes, transition, own_transitions}

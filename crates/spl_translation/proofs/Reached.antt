@@ -6,7 +6,7 @@ use Rattle.st_program.specs.Spots.{entry, bodies, bodies_in, Spot, spots, spots_
 use Rattle.st_program.specs.Locations.{location_end, within_end, head_end, along_end, among_end, inside_end, IsPlaced, WithinPlaced, HeadPlaced, AlongPlaced, AmongPlaced, InsidePlaced}
 use Rattle.control_facts.proofs.Onces.{nowhere, in_either}
 use Rattle.control_facts.proofs.Own.{grow, grow_along, grow_among, grow_inside}
-use Rattle.spl_semantics.specs.Moves.{starts, ends}
+use Rattle.spl_semantics.specs.Control.{starts, ends}
 use Rattle.spl_translation.proofs.Eachs.{Each}
 
 either : {A B C : Type 0} → A ⊎ B → (A → C) → (B → C) → C

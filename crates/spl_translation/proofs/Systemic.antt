@@ -8,7 +8,7 @@ use Rattle.st_program.specs.Tree.{Processes}
 use Rattle.st_program.specs.Member.{Member}
 use Rattle.st_program.specs.Spots.{Spot, all_spots}
 use Rattle.st_program.specs.Programs.{IsProgram}
-use Rattle.spl_semantics.specs.Moves.{starts}
+use Rattle.spl_semantics.specs.Control.{starts}
 use Rattle.spl_translation.specs.Translation.{all_transitions, always, translation}
 use Rattle.spl_translation.proofs.Corresponding.{corresponds}
 use Rattle.spl_translation.proofs.Named.{distinct, few}

@@ -10,7 +10,7 @@ use Rattle.st_program.specs.Plain.{plain_stmts, plain_children}
 use Rattle.st_program.specs.Spots.{entry, bodies, bodies_in, Spot, spots, spots_within, spots_along, spots_among, spots_inside}
 use Rattle.st_program.proofs.Rows.{child_is}
 use Rattle.control_facts.proofs.Onces.{flat_append}
-use Rattle.spl_semantics.specs.Moves.{starts, ends}
+use Rattle.spl_semantics.specs.Control.{starts, ends}
 use Rattle.spl_translation.specs.Translation.{own_transitions, spot_transitions}
 use Rattle.spl_translation.specs.Walk.{walk, walk_within, walk_along, walk_among, walk_inside}
 

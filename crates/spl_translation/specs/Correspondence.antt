@@ -5,15 +5,11 @@ use Rattle.std.specs.Prelude.{◌≡◌, ℕ, suc, map, IsTrue}
 use Rattle.st_form.specs.Formula.{Formula, Situation}
 use Rattle.st_form.specs.Formula as formulas
 use Rattle.st_form.specs.declared.conditions.TransName.{TransName}
-use Rattle.st_form.specs.declared.conditions.TransName.TheVariants.{Idle, Step}
 use Rattle.st_program.specs.Tree.{Processes}
-use Rattle.st_program.specs.Member.{Member}
-use Rattle.st_program.specs.Residuals.{Rests}
 use Rattle.transition_system.specs.Systems.{System}
 use Rattle.transition_system.specs.Meaning.{Goes}
-use Rattle.spl_semantics.specs.Steps.{Act, steps_of}
 use Rattle.spl_semantics.specs.Names.{all_names}
-use Rattle.spl_semantics.specs.Runs.{State, behind_act, IsFirst, Reached, image}
+use Rattle.spl_semantics.specs.Runs.{State, LeadsBy, IsFirst, Reached, image}
 
 -- a step of a transition with this name, by its mode with this number; idling has mode 1
 pub record GoesBy (system : System) (s : Situation) (name : TransName) (mode : ℕ) (t : Situation) : Type 0 where
@@ -21,12 +17,6 @@ pub record GoesBy (system : System) (s : Situation) (name : TransName) (mode : �
   pub step : Goes system s number t
   pub named : step.transition.name ≡ name
   pub moded : suc step.place ≡ mode
-
--- a step of the program with this name and mode
-abbrev pub LeadsBy : Processes → State → TransName → ℕ → State → Type 0
-LeadsBy p s Idle mode t = (t ≡ s) × (mode ≡ 1)
-LeadsBy p s (Step o part) mode t =
-    (a : Act Rests) × Member a (steps_of s.left p s.store) × (a.name ≡ Step o part) × (a.mode ≡ mode) × (t ≡ behind_act a)
 
 pub record Corresponds (p : Processes) (initial : Formula) (system : System) : Type 0 where
   -- the transitions are the program's, in order, each with its fairness

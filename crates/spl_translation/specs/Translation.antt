@@ -17,7 +17,7 @@ use Rattle.st_form.specs.declared.variables.Variable.{Variable}
 use Rattle.st_program.specs.Tree.{Term, number, truth, Action, skip, critical, noncritical, assign, await, request, release, if_then, if_else, while_do, block, select, cooperate, group, Processes, occurrence, location, action}
 use Rattle.st_program.specs.Spots.{Spot, all_spots}
 use Rattle.st_program.specs.Groups.{Link, paths_along, inserted, Composed, nothing_composed, composed}
-use Rattle.spl_semantics.specs.Moves.{starts, ends}
+use Rattle.spl_semantics.specs.Control.{starts, ends}
 use Rattle.spl_semantics.specs.Stores.{one_less, one_more}
 
 -- right sides by rising variable

@@ -5,7 +5,7 @@ ghost use Rattle.st_form.specs.Plain.{plain};
 ghost use Rattle.st_form.specs.Formula.{negation};
 ghost use Rattle.st_program.specs.Plain.{plain_children};
 ghost use Rattle.st_program.specs.Spots.{entry};
-ghost use Rattle.spl_semantics.specs.Moves.{starts, ends};
+ghost use Rattle.spl_semantics.specs.Control.{starts, ends};
 ghost use Rattle.transition_system.specs.Plain.{plain_mode, plain_transition};
 ghost use Rattle.spl_translation.specs.Translation.{moving, passing, transition, whole, always};
 ghost use Rattle.spl_translation.specs.Making.{plain_truths, plain_all};

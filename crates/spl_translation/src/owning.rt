@@ -8,7 +8,7 @@ ghost use Rattle.st_program.specs.Plain.{plain_stmts, plain_kind, plain_children
 ghost use Rattle.st_program.specs.Spots.{entry};
 ghost use Rattle.st_program.specs.Tree.{cooperate};
 ghost use Rattle.observations.specs.declared.Fairness.TheVariants.{Just};
-ghost use Rattle.spl_semantics.specs.Moves.{starts, ends};
+ghost use Rattle.spl_semantics.specs.Control.{starts, ends};
 ghost use Rattle.spl_translation.specs.Translation.{moving, passing, whole, own_transitions};
 ghost use Rattle.spl_translation.specs.Making.{plain_all, plain_truths};
 

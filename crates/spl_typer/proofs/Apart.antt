@@ -5,14 +5,15 @@ use Rattle.std.proofs.lemmas.List.{map-append}
 use Rattle.std.proofs.lemmas.Slice.Eq.{bytes_eq-Decides}
 use Rattle.st_reading.specs.Reading.{Label}
 use Rattle.st_program.specs.Names.{IsNew, AreApart, names_in}
-use Rattle.spl_typer.specs.declared.fault.TypeFault.{TypeFault}
-use Rattle.spl_typer.specs.declared.fault.TypeFault.TheVariants as faults
+use Rattle.expression_typer.specs.declared.fault.TypeFault.{TypeFault}
+use Rattle.expression_typer.specs.declared.fault.TypeFault.TheVariants as faults
 use Rattle.spl_typer.specs.declared.walk.Mark.{Mark}
 use Rattle.spl_typer.specs.declared.walk.Mark.TheVariants as marks
-use Rattle.spl_typer.specs.Answers.{◌>>=◌}
+use Rattle.expression_typer.specs.Answers.{◌>>=◌}
 use Rattle.spl_typer.specs.Walk.{Entry, State, is_declared, with_name, declared_as}
-use Rattle.spl_typer.specs.Programs.{entry_names, Apart, Variables, Labels, is_text, text_of, with_variable, with_label, variables_of, labels_of}
-use Rattle.spl_typer.proofs.Holding.{Holds, bound, unless_err, if_ok}
+use Rattle.expression_typer.specs.Naming.{is_text}
+use Rattle.spl_typer.specs.Programs.{entry_names, Apart, Variables, Labels, text_of, with_variable, with_label, variables_of, labels_of}
+use Rattle.expression_typer.proofs.Holding.{Holds, bound, unless_err, if_ok}
 
 abbrev Texts : Type 0
 Texts = List (List ℕ)

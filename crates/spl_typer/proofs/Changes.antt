@@ -7,10 +7,10 @@ use Rattle.st_program.specs.declared.trees.Value.{Value}
 use Rattle.st_program.specs.Plain.{plain_target, plain_targets}
 use Rattle.expression_parser.specs.declared.raw.RawExpr.{RawExpr}
 use Rattle.expression_parser.specs.ExpressionTree.{Expr, expr_view}
-use Rattle.spl_typer.specs.declared.scope.Known as declared
-use Rattle.spl_typer.specs.declared.fault.TypeFault.{TypeFault}
-use Rattle.spl_typer.specs.Answers.{◌>>=◌}
-use Rattle.spl_typer.specs.Scope.{Known, known_view, scope_view}
+use Rattle.expression_typer.specs.declared.scope.Known as declared
+use Rattle.expression_typer.specs.declared.fault.TypeFault.{TypeFault}
+use Rattle.expression_typer.specs.Answers.{◌>>=◌}
+use Rattle.expression_typer.specs.Scope.{Known, known_view, scope_view}
 use Rattle.spl_typer.specs.Statements.{right_side, changes}
 
 abbrev Answer : Type 0

@@ -6,10 +6,10 @@ use Rattle.st_form.specs.declared.variables.Variable.{Variable}
 use Rattle.st_program.specs.Tree.{Process}
 use Rattle.st_program.specs.Plain.{plain_child}
 use Rattle.st_program.specs.declared.trees.Child.{Child}
-use Rattle.spl_typer.specs.declared.scope.Known as declared
-use Rattle.spl_typer.specs.declared.fault.TypeFault.{TypeFault}
+use Rattle.expression_typer.specs.declared.scope.Known as declared
+use Rattle.expression_typer.specs.declared.fault.TypeFault.{TypeFault}
 use Rattle.spl_typer.specs.declared.walk.Mark.TheVariants as marks
-use Rattle.spl_typer.specs.Scope.{Known, known_view, scope_view}
+use Rattle.expression_typer.specs.Scope.{Known, known_view, scope_view}
 use Rattle.spl_typer.specs.Walk.{State, Made, declared_as}
 use Rattle.spl_parser.specs.ProgramTree.{Declaration}
 use Rattle.spl_parser.specs.ProgramTree as raw

@@ -5,27 +5,33 @@ use Rattle.st_form.specs.declared.variables.Variable.{Variable}
 use Rattle.st_program.specs.Tree.{Term, Pieces, Statement, stated, Action, Statements, no_statement, statement, Process, process, Processes, no_process, beside, action}
 use Rattle.st_program.specs.Tree as tree
 use Rattle.st_program.specs.Spots.{Spot, entry, bodies, bodies_in, spots, spots_within, spots_along, spots_among, spots_inside}
-use Rattle.st_program.specs.Locations.{NoLoop, NoLoopFirst, NoLoops, HeadsFit}
+use Rattle.st_program.specs.Locations.{NoLoop, NoLoopFirst, NoLoops, HeadsFit, ShapeFits}
 use Rattle.st_program.specs.Types.{TestFits, TargetsFit, MayChange, PiecesFit, ActionFits}
 use Rattle.st_program.specs.Groups.{GroupFits}
 use Rattle.spl_parser.specs.ProgramTree as raw
-use Rattle.spl_typer.specs.declared.fault.TypeFault.{TypeFault}
-use Rattle.spl_typer.specs.declared.fault.TypeFault.TheVariants as faults
+use Rattle.expression_typer.specs.declared.fault.TypeFault.{TypeFault}
+use Rattle.expression_typer.specs.declared.fault.TypeFault.TheVariants as faults
 use Rattle.spl_typer.specs.declared.statement.Here.{Here}
-use Rattle.spl_typer.specs.Answers.{◌>>=◌}
-use Rattle.spl_typer.specs.Scope.{Known}
+use Rattle.expression_typer.specs.Answers.{◌>>=◌}
+use Rattle.expression_typer.specs.Scope.{Known}
 use Rattle.spl_typer.specs.Walk.{State, Made, new_location, new_occurrence}
-use Rattle.spl_typer.specs.Statements.{tested, target, counter, right_side, assigned, pieces_along}
+use Rattle.spl_typer.specs.Statements.{tested, target, counter, right_side, assigned, pieces_inside}
 use Rattle.spl_typer.specs.Groups.{grouped}
-use Rattle.spl_typer.specs.Walking.{fresh, beneath, location, labelled, no_loop, something, some_statement, some_body, walked, acting, branched, along, inside, bodied}
-use Rattle.spl_typer.proofs.Holding.{Holds, bound, anyway}
-use Rattle.spl_typer.proofs.Terms.{Scoped, IsTarget, IsSide, tested_fits, target_fits, counter_fits, side_fits, one_target}
-use Rattle.spl_typer.proofs.Targets.{assigned_fit, pieces_fit}
+use Rattle.spl_typer.specs.Shapes.{something, some_statement, two_statements, two_bodies}
+use Rattle.spl_typer.specs.Walking.{fresh, beneath, location, labelled, no_loop, walked, acting, branched, along, inside, bodied}
+use Rattle.expression_typer.proofs.Holding.{Holds, bound, anyway}
+use Rattle.expression_typer.proofs.Terms.{Scoped}
+use Rattle.spl_typer.proofs.Terms.{IsTarget, IsSide, tested_fits, target_fits, counter_fits, side_fits, one_target}
+use Rattle.spl_typer.proofs.Targets.{assigned_fit, inside_fit}
+use Rattle.spl_typer.proofs.Shaping.{both, acting_shaped}
 use Rattle.spl_typer.proofs.Grouping.{group_fits}
 
 -- what a statement itself keeps
+abbrev Own : List Variable → Action → Type 0
+Own vs a = HeadsFit a × ActionFits vs a
+
 abbrev pub Fits : List Variable → Action → Type 0
-Fits vs a = HeadsFit a × ActionFits vs a
+Fits vs a = Own vs a × ShapeFits a
 
 abbrev pub AllFit : List Variable → List Spot → Type 0
 AllFit vs [] = Unit {0}
@@ -41,7 +47,7 @@ record Sound (vs : List Variable) (head : Bool) (x : Statement) : Type 0 where
   no_loop : head ≡ true → NoLoop x
 
 record SoundAct (vs : List Variable) (head : Bool) (a : Action) : Type 0 where
-  own : Fits vs a
+  own : Own vs a
   all : (l next c : ℕ) → AllFit vs (spots_within a l next c)
   no_loop : head ≡ true → (o l : ℕ) → NoLoop (stated o l a)
 
@@ -81,9 +87,9 @@ mutual
       anyway {A = Made ℕ} {B = Made Statement} (λ a. Sound vs here.head a.made) (location here.own place st) _
       (λ l. anyway {A = Made ℕ} {B = Made Statement} (λ a. Sound vs here.head a.made) (new_occurrence place l.after) _
       (λ o. anyway {A = State} {B = Made Statement} (λ a. Sound vs here.head a.made) (labelled label l.made (Some o.made) o.after) _
-      (λ st1. bound {A = Made Action} {B = Made Statement} (λ a. SoundAct vs here.head a.made) (λ a. Sound vs here.head a.made) (acting s l.made here.head place act st1) _
-      (acting_sound vs s l.made here.head place act st1 h)
-      (λ a k. record { all = λ next c. (k.own, k.all l.made next c); no_loop = λ e. k.no_loop e o.made l.made }))))
+      (λ st1. bound {A = Made Action} {B = Made Statement} (λ a. SoundAct vs here.head a.made × ShapeFits a.made) (λ a. Sound vs here.head a.made) (acting s l.made here.head place act st1) _
+      (both (λ a. SoundAct vs here.head a.made) (λ a. ShapeFits a.made) (acting s l.made here.head place act st1) (acting_sound vs s l.made here.head place act st1 h) (acting_shaped s l.made here.head place act st1))
+      (λ a k. record { all = λ next c. ((k.0.own, k.1), k.0.all l.made next c); no_loop = λ e. k.0.no_loop e o.made l.made }))))
 
   acting_sound : (vs : List Variable) (s : List Known) (l : ℕ) (head : Bool) (place : ℕ) (x : raw.Action) (st : State) → Scoped vs s → Holds (λ a. SoundAct vs head a.made) (acting s l head place x st)
   acting_sound vs s l head place raw.skip st h = record { own = (tt, tt); all = λ j n c. tt; no_loop = λ e o j. tt }
@@ -117,13 +123,14 @@ mutual
       (λ u. bound _ _ (along s (beneath l head) fresh ss st) _ (along_sound vs s (beneath l head) fresh ss st h)
       (λ a k. record { own = (tt, tt); all = λ j n c. k.along n c; no_loop = λ e1 o j. k.no_first e1 }))
   acting_sound vs s l head place (raw.select ss) st h =
-      bound _ _ (along s (beneath l true) (beneath l true) ss st) _ (along_sound vs s (beneath l true) (beneath l true) ss st h)
-      (λ a k. record { own = (k.no_loops refl refl, tt); all = λ j n c. k.among n c; no_loop = λ e1 o j. k.no_loops refl refl })
+      anyway _ (something (two_statements ss) place) _
+      (λ u. bound _ _ (along s (beneath l true) (beneath l true) ss st) _ (along_sound vs s (beneath l true) (beneath l true) ss st h)
+      (λ a k. record { own = (k.no_loops refl refl, tt); all = λ j n c. k.among n c; no_loop = λ e1 o j. k.no_loops refl refl }))
   acting_sound vs s l head place (raw.cooperate bs) st h =
-      anyway _ (something (some_body bs) place) _
+      anyway _ (something (two_bodies bs) place) _
       (λ u. bound _ _ (inside s bs st) _ (inside_sound vs s bs st h) (λ a k. record { own = (tt, tt); all = λ j n c. k c; no_loop = λ e1 o j. tt }))
   acting_sound vs s l head place (raw.group ss) st h =
-      bound (PiecesFit vs) _ (pieces_along s ss) _ (pieces_fit vs s ss h)
+      bound (PiecesFit vs) _ (pieces_inside s place ss) _ (inside_fit vs s place ss h)
       (λ xs g. bound (λ w. GroupFits xs) _ (grouped place xs st.weight) _ (group_fits place xs st.weight)
       (λ w k. record { own = (tt, (g, k)); all = λ j n c. tt; no_loop = λ e1 o j. tt }))
 
@@ -147,7 +154,8 @@ mutual
 
   pub body_sound : (vs : List Variable) (s : List Known) (b : raw.Body) (st : State) → Scoped vs s → Holds (λ a. SoundChild vs a.made) (bodied s b st)
   body_sound vs s (raw.body ss end) st h =
-      bound {A = Made Statements} {B = Made Process} (λ a. SoundRow vs false false a.made) (λ a. SoundChild vs a.made) (along s fresh fresh ss st) _ (along_sound vs s fresh fresh ss st h)
+      anyway {A = Unit {0}} {B = Made Process} (λ a. SoundChild vs a.made) (something (some_statement ss) 0) _
+      (λ u. bound {A = Made Statements} {B = Made Process} (λ a. SoundRow vs false false a.made) (λ a. SoundChild vs a.made) (along s fresh fresh ss st) _ (along_sound vs s fresh fresh ss st h)
       (λ a k. anyway {A = Made ℕ} {B = Made Process} (λ b. SoundChild vs b.made) (new_location 0 a.after) _
       (λ l. anyway {A = State} {B = Made Process} (λ b. SoundChild vs b.made) (labelled end l.made None l.after) _
-      (λ st1. λ c. k.along l.made (suc c))))
+      (λ st1. λ c. k.along l.made (suc c)))))

@@ -10,12 +10,12 @@ use Rattle.st_program.specs.Tree.{Term, number, truth, Pieces}
 use Rattle.st_program.specs.Member.{Member, here, there}
 use Rattle.st_program.specs.Groups.{Link, tested, given, paths_along, inserted, is_written, if_written, Composed, nothing_composed, exchange_of, composed_term, put_all, signed, met, composed_link, composed, GroupFits}
 use Rattle.st_program.specs.Groups as plain
-use Rattle.spl_typer.specs.declared.fault.TypeFault.{TypeFault}
-use Rattle.spl_typer.specs.Answers.{◌>>=◌}
-use Rattle.spl_typer.specs.Written.{is_writable, limited}
+use Rattle.expression_typer.specs.declared.fault.TypeFault.{TypeFault}
+use Rattle.expression_typer.specs.Answers.{◌>>=◌}
+use Rattle.expression_typer.specs.Written.{is_writable, limited}
 use Rattle.spl_typer.specs.Groups.{Composition, nothing, large_unless, limit_unless, composed_number, few, composed_formula, term_on, terms_on, guarded, link_on, path_on, with_path, with_paths, all_small, grouped}
 use Rattle.spl_typer.specs.Groups as rules
-use Rattle.spl_typer.proofs.Holding.{Holds, bound, anyway, weaker, if_ok}
+use Rattle.expression_typer.proofs.Holding.{Holds, bound, anyway, weaker, if_ok}
 
 -- the same in the terms of programs
 record Same (w : Composition) (c : Composed) : Type 0 where

@@ -1,36 +1,12 @@
--- What holds of a value that the rules give.
+-- What the next numbers and declared names are.
 use Rattle.std.proofs.Common.{◌≡◌, ℕ, suc, ◌-◌, ◌^◌, Bool, true, false, cond, nat_lt, List, Option, Some, None, Result, Ok, Err, refl}
 use Rattle.st_tokens.specs.declared.limit.LimitKind.{LimitKind}
 use Rattle.st_reading.specs.Reading.{Label}
-use Rattle.spl_typer.specs.declared.fault.TypeFault.{TypeFault}
+use Rattle.expression_typer.specs.declared.fault.TypeFault.{TypeFault}
 use Rattle.spl_typer.specs.declared.walk.Mark.{Mark}
-use Rattle.spl_typer.specs.Answers.{◌>>=◌}
 use Rattle.spl_typer.specs.Walk.{State, Made, give, is_declared, declared_as, with_name, new_location, new_occurrence, next_location, next_occurrence}
 use Rattle.spl_typer.specs.Walking.{location, labelled}
-
-abbrev pub Holds : {A : Type 0} → (A → Type 0) → Result A TypeFault → Type 0
-Holds P (Ok x) = P x
-Holds P (Err f) = Unit {0}
-
-pub bound : {A B : Type 0} (P : A → Type 0) (Q : B → Type 0) (r : Result A TypeFault) (k : A → Result B TypeFault) → Holds P r → ((x : A) → P x → Holds Q (k x)) → Holds Q (r >>= k)
-bound P Q (Ok x) k h go = go x h
-bound P Q (Err f) k h go = tt
-
-pub anyway : {A B : Type 0} (Q : B → Type 0) (r : Result A TypeFault) (k : A → Result B TypeFault) → ((x : A) → Holds Q (k x)) → Holds Q (r >>= k)
-anyway Q (Ok x) k go = go x
-anyway Q (Err f) k go = tt
-
-pub weaker : {A : Type 0} (P Q : A → Type 0) (r : Result A TypeFault) → Holds P r → ((x : A) → P x → Q x) → Holds Q r
-weaker P Q (Ok x) h go = go x h
-weaker P Q (Err f) h go = tt
-
-pub unless_err : {A : Type 0} (P : A → Type 0) (b : Bool) (x : A) (f : TypeFault) → P x → Holds P (cond b (Err f) (Ok x))
-unless_err P true x f h = tt
-unless_err P false x f h = h
-
-pub if_ok : {A : Type 0} (P : A → Type 0) (b : Bool) (x : A) (f : TypeFault) → (b ≡ true → P x) → Holds P (cond b (Ok x) (Err f))
-if_ok P true x f h = h refl
-if_ok P false x f h = tt
+use Rattle.expression_typer.proofs.Holding.{Holds, unless_err, if_ok}
 
 -- numbers go on, names don't matter
 pub record Goes (st st1 : State) : Type 0 where

@@ -4,16 +4,17 @@ use Rattle.st_form.specs.Formula.{Formula}
 use Rattle.st_reading.specs.Reading.{Label}
 use Rattle.st_program.specs.Tree.{Statement, Action, Statements, Process, Processes}
 use Rattle.spl_parser.specs.ProgramTree as raw
-use Rattle.spl_typer.specs.declared.fault.TypeFault.{TypeFault}
+use Rattle.expression_typer.specs.declared.fault.TypeFault.{TypeFault}
 use Rattle.spl_typer.specs.declared.statement.Here.{Here}
 use Rattle.spl_typer.specs.declared.walk.Mark.{Mark}
-use Rattle.spl_typer.specs.Answers.{◌>>=◌}
-use Rattle.spl_typer.specs.Scope.{Known}
+use Rattle.expression_typer.specs.Answers.{◌>>=◌}
+use Rattle.expression_typer.specs.Scope.{Known}
 use Rattle.spl_typer.specs.Walk.{State, Made, declared_as, new_location, new_occurrence, with_weight}
-use Rattle.spl_typer.specs.Statements.{tested, target, counter, right_side, assigned, pieces_along}
+use Rattle.spl_typer.specs.Statements.{tested, target, counter, right_side, assigned, pieces_inside}
 use Rattle.spl_typer.specs.Groups.{grouped}
-use Rattle.spl_typer.specs.Walking.{fresh, beneath, location, labelled, no_loop, something, some_statement, some_body, walked, acting, branched, along, inside, bodied}
-use Rattle.spl_typer.proofs.Holding.{Holds, bound, anyway}
+use Rattle.spl_typer.specs.Shapes.{something, some_statement, two_statements, two_bodies}
+use Rattle.spl_typer.specs.Walking.{fresh, beneath, location, labelled, no_loop, walked, acting, branched, along, inside, bodied}
+use Rattle.expression_typer.proofs.Holding.{Holds, bound, anyway}
 
 abbrev After : {X : Type 0} → (State → Type 0) → Made X → Type 0
 After Q a = Q a.after
@@ -59,11 +60,12 @@ module _ (Q : State → Type 0) (steps : Steps Q) where
     acting_keeps s l head place (raw.block ss) st q =
         anyway (After Q) (something (some_statement ss) place) _ (λ u. bound (After Q) (After Q) (along s (beneath l head) fresh ss st) _ (along_keeps s (beneath l head) fresh ss st q) (λ a h. h))
     acting_keeps s l head place (raw.select ss) st q =
-        bound (After Q) (After Q) (along s (beneath l true) (beneath l true) ss st) _ (along_keeps s (beneath l true) (beneath l true) ss st q) (λ a h. h)
+        anyway (After Q) (something (two_statements ss) place) _
+        (λ u. bound (After Q) (After Q) (along s (beneath l true) (beneath l true) ss st) _ (along_keeps s (beneath l true) (beneath l true) ss st q) (λ a h. h))
     acting_keeps s l head place (raw.cooperate bs) st q =
-        anyway (After Q) (something (some_body bs) place) _ (λ u. bound (After Q) (After Q) (inside s bs st) _ (inside_keeps s bs st q) (λ a h. h))
+        anyway (After Q) (something (two_bodies bs) place) _ (λ u. bound (After Q) (After Q) (inside s bs st) _ (inside_keeps s bs st q) (λ a h. h))
     acting_keeps s l head place (raw.group ss) st q =
-        anyway (After Q) (pieces_along s ss) _ (λ xs. anyway (After Q) (grouped place xs st.weight) _ (λ w. steps.weighs w st q))
+        anyway (After Q) (pieces_inside s place ss) _ (λ xs. anyway (After Q) (grouped place xs st.weight) _ (λ w. steps.weighs w st q))
 
     branched_keeps : (s : List Known) (f : Formula) (y : Statement) (other : raw.Branch) (st : State) → Q st → Holds (After Q) (branched s f y other st)
     branched_keeps s f y raw.no_branch st q = q
@@ -83,6 +85,7 @@ module _ (Q : State → Type 0) (steps : Steps Q) where
 
     pub body_keeps : (s : List Known) (b : raw.Body) (st : State) → Q st → Holds (After Q) (bodied s b st)
     body_keeps s (raw.body ss end) st q =
-        bound {A = Made Statements} {B = Made Process} (After Q) (After Q) (along s fresh fresh ss st) _ (along_keeps s fresh fresh ss st q)
+        anyway {A = Unit {0}} {B = Made Process} (After Q) (something (some_statement ss) 0) _
+        (λ u. bound {A = Made Statements} {B = Made Process} (After Q) (After Q) (along s fresh fresh ss st) _ (along_keeps s fresh fresh ss st q)
         (λ a h. bound {A = Made ℕ} {B = Made Process} (After Q) (After Q) (new_location 0 a.after) _ (steps.locates 0 a.after h)
-        (λ l ql. bound {A = State} {B = Made Process} Q (After Q) (labelled end l.made None l.after) _ (label_keeps end l.made None l.after ql) (λ st1 q1. q1)))
+        (λ l ql. bound {A = State} {B = Made Process} Q (After Q) (labelled end l.made None l.after) _ (label_keeps end l.made None l.after ql) (λ st1 q1. q1))))

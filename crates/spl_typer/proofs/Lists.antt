@@ -11,10 +11,10 @@ use Rattle.spl_parser.specs.declared.raw.RawStatement.{RawStatement}
 use Rattle.spl_parser.specs.declared.raw.RawBody.{RawBody}
 use Rattle.spl_parser.specs.ProgramTree.{statement_view, statement_views, statements, body_view, body_views, bodies, followed}
 use Rattle.spl_parser.specs.ProgramTree as raw
-use Rattle.spl_typer.specs.declared.fault.TypeFault.{TypeFault}
+use Rattle.expression_typer.specs.declared.fault.TypeFault.{TypeFault}
 use Rattle.spl_typer.specs.declared.statement.Here.{Here}
-use Rattle.spl_typer.specs.Answers.{◌>>=◌}
-use Rattle.spl_typer.specs.Scope.{Known}
+use Rattle.expression_typer.specs.Answers.{◌>>=◌}
+use Rattle.expression_typer.specs.Scope.{Known}
 use Rattle.spl_typer.specs.Walk.{State, Made, give}
 use Rattle.spl_typer.specs.Statements.{pieces_of, pieces_along, pieces_behind}
 use Rattle.spl_typer.specs.Walking.{walked, along, inside, bodied}

@@ -9,12 +9,12 @@ use Rattle.st_form.specs.Exchange.{Exchange, exchanged, all_exchanged, truth_for
 use Rattle.st_tokens.specs.declared.limit.LimitKind.TheVariants as limits
 use Rattle.st_program.specs.Tree.{Term, number, truth}
 use Rattle.st_program.specs.Groups.{Link, tested, given, inserted, signed}
-use Rattle.spl_typer.specs.declared.fault.TypeFault.{TypeFault}
-use Rattle.spl_typer.specs.declared.fault.TypeFault.TheVariants as faults
+use Rattle.expression_typer.specs.declared.fault.TypeFault.{TypeFault}
+use Rattle.expression_typer.specs.declared.fault.TypeFault.TheVariants as faults
 use Rattle.spl_typer.specs.declared.measure.Size.{Size}
 use Rattle.spl_typer.specs.declared.composing.Side.{Side}
 use Rattle.spl_typer.specs.declared.composing.Side.TheVariants as sides
-use Rattle.spl_typer.specs.Answers.{◌>>=◌}
+use Rattle.expression_typer.specs.Answers.{◌>>=◌}
 use Rattle.spl_typer.specs.Groups.{Numbers, Composition, nothing, large_unless, composed_number, composed_formula, few, term_on, terms_on, put, put_all, met, guarded, link_on, path_on, added, numbers_weight, formulas_weight, truths_weight, with_path, with_paths}
 use Rattle.spl_typer.specs.Measured.{capped, size_of, no_size, row_size, both, size_for, sized, all_sized, Measure, no_measure, few_atoms, side_on, sides_on, put_side, put_sides, met_size, atoms_on, few_tests, link_measured, path_measured, tests_weight, values_weight, with_measure, paths_measured}
 use Rattle.spl_typer.proofs.Inserting.{inserted-map}

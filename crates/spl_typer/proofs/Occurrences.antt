@@ -6,13 +6,15 @@ use Rattle.st_program.specs.Tree as tree
 use Rattle.st_program.specs.Spots.{Spot, entry, bodies, bodies_in, spots, spots_within, spots_along, spots_among, spots_inside}
 use Rattle.spl_parser.specs.ProgramTree as raw
 use Rattle.spl_typer.specs.declared.statement.Here.{Here}
-use Rattle.spl_typer.specs.Answers.{◌>>=◌}
-use Rattle.spl_typer.specs.Scope.{Known}
+use Rattle.expression_typer.specs.Answers.{◌>>=◌}
+use Rattle.expression_typer.specs.Scope.{Known}
 use Rattle.spl_typer.specs.Walk.{State, Made, new_location, new_occurrence}
-use Rattle.spl_typer.specs.Statements.{tested, target, counter, right_side, assigned, pieces_along}
+use Rattle.spl_typer.specs.Statements.{tested, target, counter, right_side, assigned, pieces_inside}
 use Rattle.spl_typer.specs.Groups.{grouped}
-use Rattle.spl_typer.specs.Walking.{fresh, beneath, location, labelled, no_loop, something, some_statement, some_body, with_else, walked, acting, branched, along, inside, bodied}
-use Rattle.spl_typer.proofs.Holding.{Holds, bound, anyway, Goes, labels, Located, locates, Numbered, numbers}
+use Rattle.spl_typer.specs.Shapes.{something, some_statement, two_statements, two_bodies}
+use Rattle.spl_typer.specs.Walking.{fresh, beneath, location, labelled, no_loop, with_else, walked, acting, branched, along, inside, bodied}
+use Rattle.expression_typer.proofs.Holding.{Holds, bound, anyway}
+use Rattle.spl_typer.proofs.Holding.{Goes, labels, Located, locates, Numbered, numbers}
 
 -- occurrences from one number to before another
 abbrev pub Counts : ℕ → ℕ → List Spot → Type 0
@@ -64,10 +66,11 @@ mutual
   acting_counts s l head place (raw.block ss) st =
       anyway _ (something (some_statement ss) place) _ (λ u. bound _ _ (along s (beneath l head) fresh ss st) _ (along_counts s (beneath l head) fresh ss st) (λ a h. λ j n c. h.0 n c))
   acting_counts s l head place (raw.select ss) st =
-      bound _ _ (along s (beneath l true) (beneath l true) ss st) _ (along_counts s (beneath l true) (beneath l true) ss st) (λ a h. λ j n c. h.1 n c)
+      anyway _ (something (two_statements ss) place) _
+      (λ u. bound _ _ (along s (beneath l true) (beneath l true) ss st) _ (along_counts s (beneath l true) (beneath l true) ss st) (λ a h. λ j n c. h.1 n c))
   acting_counts s l head place (raw.cooperate bs) st =
-      anyway _ (something (some_body bs) place) _ (λ u. bound _ _ (inside s bs st) _ (inside_counts s bs st) (λ a h. λ j n c. h c))
-  acting_counts s l head place (raw.group ss) st = anyway _ (pieces_along s ss) _ (λ xs. anyway _ (grouped place xs st.weight) _ (λ w. λ j n c. refl))
+      anyway _ (something (two_bodies bs) place) _ (λ u. bound _ _ (inside s bs st) _ (inside_counts s bs st) (λ a h. λ j n c. h c))
+  acting_counts s l head place (raw.group ss) st = anyway _ (pieces_inside s place ss) _ (λ xs. anyway _ (grouped place xs st.weight) _ (λ w. λ j n c. refl))
 
   branched_counts : (s : List Known) (f : Formula) (y : Statement) (other : raw.Branch) (from : ℕ) (st : State) → ((next c : ℕ) → Counts from st.occ (spots y next c)) → Holds (λ a. Within from a.after.occ a.made) (branched s f y other st)
   branched_counts s f y raw.no_branch from st h = λ l next c. h next c
@@ -93,8 +96,9 @@ mutual
 
   pub body_counts : (s : List Known) (b : raw.Body) (st : State) → Holds (λ a. ChildCounts st.occ a.after.occ a.made) (bodied s b st)
   body_counts s (raw.body ss end) st =
-      bound {A = Made Statements} {B = Made Process} (λ a. ((next c : ℕ) → Counts st.occ a.after.occ (spots_along a.made next c)) × ((next c : ℕ) → Counts st.occ a.after.occ (spots_among a.made next c))) (λ a. ChildCounts st.occ a.after.occ a.made) (along s fresh fresh ss st) _
+      anyway {A = Unit {0}} {B = Made Process} (λ a. ChildCounts st.occ a.after.occ a.made) (something (some_statement ss) 0) _
+      (λ u. bound {A = Made Statements} {B = Made Process} (λ a. ((next c : ℕ) → Counts st.occ a.after.occ (spots_along a.made next c)) × ((next c : ℕ) → Counts st.occ a.after.occ (spots_among a.made next c))) (λ a. ChildCounts st.occ a.after.occ a.made) (along s fresh fresh ss st) _
       (along_counts s fresh fresh ss st)
       (λ a h. bound {A = Made ℕ} {B = Made Process} (Located None a.after) (λ b. ChildCounts st.occ b.after.occ b.made) (location None 0 a.after) _ (locates None 0 a.after)
       (λ l hl. bound {A = State} {B = Made Process} (Goes l.after) (λ b. ChildCounts st.occ b.after.occ b.made) (labelled end l.made None l.after) _ (labels end l.made None l.after)
-      (λ st1 g. rw (g.occ ∙ hl.occ) (λ c. h.0 l.made (suc c)))))
+      (λ st1 g. rw (g.occ ∙ hl.occ) (λ c. h.0 l.made (suc c))))))

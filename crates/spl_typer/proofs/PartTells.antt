@@ -7,18 +7,19 @@ use Rattle.st_reading.specs.Reading.{Label}
 use Rattle.st_program.specs.Tree.{Term, number, truth, Pieces}
 use Rattle.expression_parser.specs.ExpressionTree.{Expr, start_of}
 use Rattle.spl_parser.specs.ProgramTree as raw
-use Rattle.spl_typer.specs.declared.fault.TypeFault.{TypeFault}
-use Rattle.spl_typer.specs.declared.fault.TypeFault.TheVariants as faults
-use Rattle.spl_typer.specs.Answers.{◌>>=◌}
-use Rattle.spl_typer.specs.Scope.{Known, find}
-use Rattle.spl_typer.specs.Typing.{typed, as_number, as_truth}
-use Rattle.spl_typer.specs.Rules.{meaning, faults_in, not_number, not_truth}
-use Rattle.spl_typer.specs.Told.{Told, IsWritten, IsModest, Tells}
+use Rattle.expression_typer.specs.declared.fault.TypeFault.{TypeFault}
+use Rattle.expression_typer.specs.declared.fault.TypeFault.TheVariants as faults
+use Rattle.expression_typer.specs.Answers.{◌>>=◌}
+use Rattle.expression_typer.specs.Scope.{Known, find}
+use Rattle.expression_typer.specs.Typing.{typed, as_number, as_truth}
+use Rattle.expression_typer.specs.Rules.{meaning, faults_in, not_number, not_truth}
+use Rattle.expression_typer.specs.Told.{Told, IsWritten, IsModest, Tells}
 use Rattle.spl_typer.specs.Modest.{AllModest, StatementModest, ActionModest, BranchModest, RowModest}
-use Rattle.spl_typer.specs.Statements.{tested, writable, target, counting, counter, wanted, right_side, is_target, targets, changes, assigned, pieces_of, pieces_in, other_pieces, pieces_along, pieces_behind}
+use Rattle.spl_typer.specs.Statements.{tested, writable, target, counting, counter, wanted, right_side, is_target, targets, changes, assigned, pieces_of, pieces_in, other_pieces, pieces_inside, pieces_along, pieces_behind}
+use Rattle.spl_typer.specs.Shapes.{something, some_statement}
 use Rattle.spl_typer.specs.Groups.{grouped}
-use Rattle.spl_typer.specs.StatementRules.{Faults, unless, where_true, test_faults, target_faults, counter_faults, wanted_faults, side_faults, and_known, same_faults, targets_faults, sides_faults, assign_faults, piece_faults, pieces_faults, other_faults, row_pieces_faults, faults_of, limit_faults, weight_or, weight_behind}
-use Rattle.spl_typer.proofs.Tells.{told}
+use Rattle.spl_typer.specs.StatementRules.{Faults, unless, where_true, test_faults, target_faults, counter_faults, wanted_faults, side_faults, and_known, same_faults, targets_faults, sides_faults, assign_faults, piece_faults, pieces_faults, other_faults, inside_faults, row_pieces_faults, faults_of, limit_faults, weight_or, weight_behind}
+use Rattle.expression_typer.proofs.Tells.{told}
 
 abbrev pub Any : {A : Type 0} → A → Type 0
 Any x = Unit {0}
@@ -127,6 +128,10 @@ assigned_tells s ns list es m =
     choose ks t false e = (sides_faults s ns es, refl)
     choose ks t true e = changes_tells s [] ns ks es m (rw t.behind t.found) (same e)
 
+pub some_tells : (b : Bool) (place : ℕ) → Tells (Any {A = Unit {0}}) (something b place) (unless b (faults.Limit limits.Statements place))
+some_tells true place = (refl, tt)
+some_tells false place = ([], refl)
+
 mutual
   piece_tells : (s : List Known) (x : raw.Statement) → StatementModest x → Tells (Any {A = Pieces}) (pieces_of s x) (piece_faults s x)
   piece_tells s (raw.stated label place act) m = pieces_tell s place act m
@@ -147,7 +152,7 @@ mutual
       (λ ys q. finally (Any {A = Pieces}) (Any {A = Pieces}) (other_pieces s other) _ _ (others_tell s other m.2) (λ ns r. (refl, tt))))
   pieces_tell s place (raw.while_do e y) m = ([], refl)
   pieces_tell s place (raw.forever y) m = ([], refl)
-  pieces_tell s place (raw.block ss) m = row_tells s ss m
+  pieces_tell s place (raw.block ss) m = then (Any {A = Unit {0}}) (Any {A = Pieces}) (something (some_statement ss) place) _ _ _ (some_tells (some_statement ss) place) (λ u p. row_tells s ss m)
   pieces_tell s place (raw.select ss) m = ([], refl)
   pieces_tell s place (raw.cooperate bs) m = ([], refl)
   pieces_tell s place (raw.group ss) m = ([], refl)
@@ -162,6 +167,9 @@ mutual
       then (Any {A = Pieces}) (Any {A = Pieces}) (pieces_of s x) _ _ _ (piece_tells s x m.0)
       (λ ys p. finally (Any {A = Pieces}) (Any {A = Pieces}) (pieces_along s xs) _ _ (row_tells s xs m.1) (λ zs q. (refl, tt)))
 
+pub inside_tells : (s : List Known) (place : ℕ) (ss : raw.Statements) → RowModest ss → Tells (Any {A = Pieces}) (pieces_inside s place ss) (inside_faults s place ss)
+inside_tells s place ss m = then (Any {A = Unit {0}}) (Any {A = Pieces}) (something (some_statement ss) place) _ _ _ (some_tells (some_statement ss) place) (λ u p. row_tells s ss m)
+
 -- a group's limits
 grouped_tells : (place w : ℕ) (xs : Pieces) → Tells (λ v. weight_or w (grouped place xs w) ≡ v) (grouped place xs w) (faults_of (grouped place xs w))
 grouped_tells place w xs = go (grouped place xs w)
@@ -171,9 +179,9 @@ grouped_tells place w xs = go (grouped place xs w)
     go (Err f) = ([], refl)
 
 pub group_tells : (s : List Known) (place w : ℕ) (ss : raw.Statements) → RowModest ss
-    → Tells (λ xs. Tells (λ v. weight_behind s place ss w ≡ v) (grouped place xs w) (limit_faults place w (pieces_along s ss))) (pieces_along s ss) (row_pieces_faults s ss)
-group_tells s place w ss m = go (pieces_along s ss) (row_tells s ss m)
+    → Tells (λ xs. Tells (λ v. weight_behind s place ss w ≡ v) (grouped place xs w) (limit_faults place w (pieces_inside s place ss))) (pieces_inside s place ss) (inside_faults s place ss)
+group_tells s place w ss m = go (pieces_inside s place ss) (inside_tells s place ss m)
   where
-    go : (r : Result Pieces TypeFault) → Tells (Any {A = Pieces}) r (row_pieces_faults s ss) → Tells (λ xs. Tells (λ v. weight_or w (r >>= λ ys. grouped place ys w) ≡ v) (grouped place xs w) (limit_faults place w r)) r (row_pieces_faults s ss)
+    go : (r : Result Pieces TypeFault) → Tells (Any {A = Pieces}) r (inside_faults s place ss) → Tells (λ xs. Tells (λ v. weight_or w (r >>= λ ys. grouped place ys w) ≡ v) (grouped place xs w) (limit_faults place w r)) r (inside_faults s place ss)
     go (Ok xs) h = (h.0, grouped_tells place w xs)
     go (Err f) h = h

@@ -5,15 +5,17 @@ use Rattle.st_program.specs.Tree.{Statement, stated, Action, Statements, no_stat
 use Rattle.st_program.specs.Tree as tree
 use Rattle.st_program.specs.Locations.{location_end, within_end, head_end, along_end, among_end, inside_end, SomeProcess, IsPlaced, WithinPlaced, HeadPlaced, AlongPlaced, AmongPlaced, InsidePlaced}
 use Rattle.spl_parser.specs.ProgramTree as raw
-use Rattle.spl_typer.specs.declared.fault.TypeFault.{TypeFault}
+use Rattle.expression_typer.specs.declared.fault.TypeFault.{TypeFault}
 use Rattle.spl_typer.specs.declared.statement.Here.{Here}
-use Rattle.spl_typer.specs.Answers.{◌>>=◌}
-use Rattle.spl_typer.specs.Scope.{Known}
+use Rattle.expression_typer.specs.Answers.{◌>>=◌}
+use Rattle.expression_typer.specs.Scope.{Known}
 use Rattle.spl_typer.specs.Walk.{State, Made, new_occurrence}
-use Rattle.spl_typer.specs.Statements.{tested, target, counter, right_side, assigned, pieces_along}
+use Rattle.spl_typer.specs.Statements.{tested, target, counter, right_side, assigned, pieces_inside}
 use Rattle.spl_typer.specs.Groups.{grouped}
-use Rattle.spl_typer.specs.Walking.{fresh, beneath, location, labelled, no_loop, something, some_statement, some_body, walked, acting, branched, along, inside, bodied}
-use Rattle.spl_typer.proofs.Holding.{Holds, bound, anyway, if_ok, own_or, begun, Goes, labels, Located, locates, Numbered, numbers}
+use Rattle.spl_typer.specs.Shapes.{something, some_statement, two_statements, some_body, two_bodies}
+use Rattle.spl_typer.specs.Walking.{fresh, beneath, location, labelled, no_loop, walked, acting, branched, along, inside, bodied}
+use Rattle.expression_typer.proofs.Holding.{Holds, bound, anyway, if_ok}
+use Rattle.spl_typer.proofs.Holding.{own_or, begun, Goes, labels, Located, locates, Numbered, numbers}
 
 -- a statement whose location is own, or else the next one, and whose parts are numbered from there to before another
 abbrev Spans : Option ℕ → Statement → ℕ → ℕ → Type 0
@@ -65,6 +67,10 @@ begun_child ss from mid l st h e f g =
 two_branches : (f : Formula) (y n : Statement) (l from mid to : ℕ) → Spans None y from mid → Spans None n mid to → Within (tree.if_else f y n) l from to
 two_branches f y n l from mid to h k = let g = rw (sym h.1) at k in ((h.0, g.0), g.1)
 
+two_some : (bs : raw.Bodies) → two_bodies bs ≡ true → some_body bs ≡ true
+two_some raw.no_bodies e = e
+two_some (raw.beside b bs) e = refl
+
 is_some : (b : Bool) (place : ℕ) → Holds (λ u. b ≡ true) (something b place)
 is_some true place = refl
 is_some false place = tt
@@ -107,11 +113,12 @@ mutual
       bound _ _ (something (some_statement ss) place) _ (is_some (some_statement ss) place)
       (λ u e. bound _ _ (along s (beneath l head) fresh ss st) _ (along_placed s (beneath l head) fresh ss st) (λ a h. head_row l a.made st.loc a.after.loc (h.1 e) h.0))
   acting_placed s l head place (raw.select ss) st =
-      bound _ _ (along s (beneath l true) (beneath l true) ss st) _ (along_placed s (beneath l true) (beneath l true) ss st) (λ a h. among_row l a.made st.loc a.after.loc h.0)
+      anyway _ (something (two_statements ss) place) _
+      (λ u. bound _ _ (along s (beneath l true) (beneath l true) ss st) _ (along_placed s (beneath l true) (beneath l true) ss st) (λ a h. among_row l a.made st.loc a.after.loc h.0))
   acting_placed s l head place (raw.cooperate bs) st =
-      bound _ _ (something (some_body bs) place) _ (is_some (some_body bs) place)
-      (λ u e. bound _ _ (inside s bs st) _ (inside_placed s bs st) (λ a h. ((h.1 e, h.0.0), h.0.1)))
-  acting_placed s l head place (raw.group ss) st = anyway _ (pieces_along s ss) _ (λ xs. anyway _ (grouped place xs st.weight) _ (λ w. (tt, refl)))
+      bound _ _ (something (two_bodies bs) place) _ (is_some (two_bodies bs) place)
+      (λ u e. bound _ _ (inside s bs st) _ (inside_placed s bs st) (λ a h. ((h.1 (two_some bs e), h.0.0), h.0.1)))
+  acting_placed s l head place (raw.group ss) st = anyway _ (pieces_inside s place ss) _ (λ xs. anyway _ (grouped place xs st.weight) _ (λ w. (tt, refl)))
 
   branched_placed : (s : List Known) (f : Formula) (l : ℕ) (y : Statement) (other : raw.Branch) (from : ℕ) (st : State) → Spans None y from st.loc → Holds (λ a. Within a.made l from a.after.loc) (branched s f y other st)
   branched_placed s f l y raw.no_branch from st h = h
@@ -135,8 +142,9 @@ mutual
 
   pub body_placed : (s : List Known) (b : raw.Body) (st : State) → Holds (λ a. Child a.made st.loc a.after.loc) (bodied s b st)
   body_placed s (raw.body ss end) st =
-      bound {A = Made Statements} {B = Made Process} (λ a. Row None None a.made st.loc a.after.loc × (some_statement ss ≡ true → SomeStatement a.made)) (λ a. Child a.made st.loc a.after.loc) (along s fresh fresh ss st) _
+      anyway {A = Unit {0}} {B = Made Process} (λ a. Child a.made st.loc a.after.loc) (something (some_statement ss) 0) _
+      (λ u. bound {A = Made Statements} {B = Made Process} (λ a. Row None None a.made st.loc a.after.loc × (some_statement ss ≡ true → SomeStatement a.made)) (λ a. Child a.made st.loc a.after.loc) (along s fresh fresh ss st) _
       (along_placed s fresh fresh ss st)
       (λ a h. bound {A = Made ℕ} {B = Made Process} (Located None a.after) (λ b. Child b.made st.loc b.after.loc) (location None 0 a.after) _ (locates None 0 a.after)
       (λ l hl. bound {A = State} {B = Made Process} (Goes l.after) (λ b. Child b.made st.loc b.after.loc) (labelled end l.made None l.after) _ (labels end l.made None l.after)
-      (λ st1 g. begun_child a.made st.loc a.after.loc l st1 h.0 hl.own hl.loc g.loc)))
+      (λ st1 g. begun_child a.made st.loc a.after.loc l st1 h.0 hl.own hl.loc g.loc))))

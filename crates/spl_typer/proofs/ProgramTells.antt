@@ -7,18 +7,18 @@ use Rattle.st_program.specs.Names.{Names}
 use Rattle.st_program.specs.Tree.{Process}
 use Rattle.expression_parser.specs.ExpressionTree.{Expr}
 use Rattle.spl_parser.specs.ProgramTree as raw
-use Rattle.spl_typer.specs.declared.fault.TypeFault.{TypeFault}
-use Rattle.spl_typer.specs.declared.fault.TypeFault.TheVariants as faults
+use Rattle.expression_typer.specs.declared.fault.TypeFault.{TypeFault}
+use Rattle.expression_typer.specs.declared.fault.TypeFault.TheVariants as faults
 use Rattle.spl_typer.specs.declared.walk.Mark.{Mark}
 use Rattle.spl_typer.specs.declared.walk.Mark.TheVariants as marks
-use Rattle.spl_typer.specs.Answers.{◌>>=◌}
-use Rattle.spl_typer.specs.Scope.{Known}
-use Rattle.spl_typer.specs.Told.{Tells}
+use Rattle.expression_typer.specs.Answers.{◌>>=◌}
+use Rattle.expression_typer.specs.Scope.{Known}
+use Rattle.expression_typer.specs.Told.{Tells}
 use Rattle.spl_typer.specs.Modest.{BodyModest}
 use Rattle.spl_typer.specs.Walk.{Entry, State, Made, is_declared, with_name, declared_as}
 use Rattle.spl_typer.specs.Statements.{tested}
 use Rattle.spl_typer.specs.Walking.{bodied}
-use Rattle.spl_typer.specs.Programs.{Heading, knows, named_in, names_in, with_initial, initial_in, declaration_in, declarations_in, with_state, with_process, process_in, processes_in, nothing_met, some_process, heading_of, names_of, typed_of, typing, Typed}
+use Rattle.spl_typer.specs.Programs.{Heading, knows, named_in, names_in, with_initial, initial_in, declaration_in, declarations_in, with_state, with_process, process_in, processes_in, nothing_met, few_processes, heading_of, names_of, typed_of, typing, Typed}
 use Rattle.spl_typer.specs.StatementRules.{Faults, unless, where_true, test_faults, faults_of, behind_body, body_faults}
 use Rattle.spl_typer.specs.ProgramRules.{Front, front, declares_again, named, behind_name, name_faults, behind_names, names_faults, initial_faults, behind_declaration, declaration_faults, behind_declarations, declarations_faults, inside_process, behind_process, process_faults, behind_processes, processes_faults, before_processes, program_faults, InitialModest, DeclarationsModest, ProcessesModest, ProgramModest}
 use Rattle.spl_typer.proofs.PartTells.{Any, then, finally, tells_unless, tells_where, tested_tells}
@@ -95,9 +95,9 @@ names_tell es = go (names_of es)
     go (Err f) = ([], refl)
 
 heading_tells : (p : raw.Program) → ProgramModest p
-    → Tells (At (behind_processes p.processes (before_processes p))) (heading_of p) (unless (some_process p.processes) (faults.Limit limits.Processes 0) ++ (declarations_faults p.declarations (front nothing_met) ++ processes_faults p.processes (before_processes p)))
+    → Tells (At (behind_processes p.processes (before_processes p))) (heading_of p) (unless (few_processes p.processes) (faults.Limit limits.Processes 0) ++ (declarations_faults p.declarations (front nothing_met) ++ processes_faults p.processes (before_processes p)))
 heading_tells p m =
-    some_first (At (behind_processes p.processes (before_processes p))) (some_process p.processes) (declarations_in p.declarations nothing_met >>= λ h. processes_in p.processes h) (faults.Limit limits.Processes 0) _
+    some_first (At (behind_processes p.processes (before_processes p))) (few_processes p.processes) (declarations_in p.declarations nothing_met >>= λ h. processes_in p.processes h) (faults.Limit limits.Processes 0) _
     (then (At (before_processes p)) (At (behind_processes p.processes (before_processes p))) (declarations_in p.declarations nothing_met) _ _ _ (declarations_tell p.declarations nothing_met (front nothing_met) m.0 refl)
     (λ h i. processes_tell p.processes h (before_processes p) m.1 i))
 

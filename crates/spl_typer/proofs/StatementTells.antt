@@ -5,20 +5,21 @@ use Rattle.st_tokens.specs.declared.limit.LimitKind.TheVariants as limits
 use Rattle.st_reading.specs.Reading.{Label}
 use Rattle.st_program.specs.Tree.{Term, Pieces, Statement, stated, Action, Statements, Process, Processes}
 use Rattle.spl_parser.specs.ProgramTree as raw
-use Rattle.spl_typer.specs.declared.fault.TypeFault.{TypeFault}
-use Rattle.spl_typer.specs.declared.fault.TypeFault.TheVariants as faults
+use Rattle.expression_typer.specs.declared.fault.TypeFault.{TypeFault}
+use Rattle.expression_typer.specs.declared.fault.TypeFault.TheVariants as faults
 use Rattle.spl_typer.specs.declared.statement.Here.{Here}
 use Rattle.spl_typer.specs.declared.walk.Mark.TheVariants as marks
-use Rattle.spl_typer.specs.Answers.{◌>>=◌}
-use Rattle.spl_typer.specs.Scope.{Known, find}
-use Rattle.spl_typer.specs.Told.{Tells}
+use Rattle.expression_typer.specs.Answers.{◌>>=◌}
+use Rattle.expression_typer.specs.Scope.{Known, find}
+use Rattle.expression_typer.specs.Told.{Tells}
 use Rattle.spl_typer.specs.Modest.{StatementModest, ActionModest, BranchModest, RowModest, BodiesModest, BodyModest}
 use Rattle.spl_typer.specs.Walk.{State, Made, is_declared, with_name, declared_as, next_location, next_occurrence, new_location, new_occurrence, with_weight}
-use Rattle.spl_typer.specs.Statements.{tested, target, counter, right_side, assigned, pieces_along}
+use Rattle.spl_typer.specs.Statements.{tested, target, counter, right_side, assigned, pieces_inside}
 use Rattle.spl_typer.specs.Groups.{grouped}
-use Rattle.spl_typer.specs.Walking.{fresh, beneath, location, labelled, no_loop, something, some_statement, some_body, walked, acting, branched, along, inside, bodied}
-use Rattle.spl_typer.specs.StatementRules.{Faults, unless, where_true, test_faults, weight_behind, limit_faults, row_pieces_faults, twice, behind_label, own_location, behind_location, location_faults, occurrence_faults, begins, behind, behind_act, behind_branch, behind_row, behind_bodies, behind_body, statement_faults, action_faults, branch_faults, row_faults, bodies_faults, body_faults}
-use Rattle.spl_typer.proofs.PartTells.{Any, then, finally, tells_unless, tells_where, tested_tells, target_tells, counter_tells, side_tells, assigned_tells, group_tells}
+use Rattle.spl_typer.specs.Shapes.{something, some_statement, two_statements, two_bodies}
+use Rattle.spl_typer.specs.Walking.{fresh, beneath, location, labelled, no_loop, walked, acting, branched, along, inside, bodied}
+use Rattle.spl_typer.specs.StatementRules.{Faults, unless, where_true, test_faults, weight_behind, limit_faults, inside_faults, twice, behind_label, own_location, behind_location, location_faults, occurrence_faults, begins, behind, behind_act, behind_branch, behind_row, behind_bodies, behind_body, statement_faults, action_faults, branch_faults, row_faults, bodies_faults, body_faults}
+use Rattle.spl_typer.proofs.PartTells.{Any, then, finally, tells_unless, tells_where, tested_tells, target_tells, counter_tells, side_tells, assigned_tells, some_tells, group_tells}
 
 -- the state that is left
 abbrev pub Leaves : {A : Type 0} → State → Made A → Type 0
@@ -38,10 +39,6 @@ label_tells (Some n) l o st = tells_where (is_declared n.text st.names) (with_na
 loop_tells : (head : Bool) (place : ℕ) → Tells (Any {A = Unit {0}}) (no_loop head place) (where_true head (faults.SelectHead place))
 loop_tells true place = ([], refl)
 loop_tells false place = (refl, tt)
-
-some_tells : (b : Bool) (place : ℕ) → Tells (Any {A = Unit {0}}) (something b place) (unless b (faults.Limit limits.Statements place))
-some_tells true place = (refl, tt)
-some_tells false place = ([], refl)
 
 mutual
   pub walked_tells : (s : List Known) (here : Here) (x : raw.Statement) (st : State) → StatementModest x → Tells (Leaves {A = Statement} (behind s here.own x st)) (walked s here x st) (statement_faults s here x st)
@@ -82,12 +79,13 @@ mutual
       then (Any {A = Unit {0}}) (Leaves {A = Action} (behind_row s (Some l) None ss st)) (something (some_statement ss) place) _ _ _ (some_tells (some_statement ss) place)
       (λ u p. finally {A = Made Statements} {B = Made Action} (Leaves {A = Statements} (behind_row s (Some l) None ss st)) (Leaves {A = Action} (behind_row s (Some l) None ss st)) (along s (beneath l head) fresh ss st) _ _ (along_tells s (beneath l head) fresh ss st m) (λ a h. (refl, h)))
   acting_tells s l head place (raw.select ss) st m =
-      finally {A = Made Statements} {B = Made Action} (Leaves {A = Statements} (behind_row s (Some l) (Some l) ss st)) (Leaves {A = Action} (behind_row s (Some l) (Some l) ss st)) (along s (beneath l true) (beneath l true) ss st) _ _ (along_tells s (beneath l true) (beneath l true) ss st m) (λ a h. (refl, h))
+      then (Any {A = Unit {0}}) (Leaves {A = Action} (behind_row s (Some l) (Some l) ss st)) (something (two_statements ss) place) _ _ _ (some_tells (two_statements ss) place)
+      (λ u p. finally {A = Made Statements} {B = Made Action} (Leaves {A = Statements} (behind_row s (Some l) (Some l) ss st)) (Leaves {A = Action} (behind_row s (Some l) (Some l) ss st)) (along s (beneath l true) (beneath l true) ss st) _ _ (along_tells s (beneath l true) (beneath l true) ss st m) (λ a h. (refl, h)))
   acting_tells s l head place (raw.cooperate bs) st m =
-      then (Any {A = Unit {0}}) (Leaves {A = Action} (behind_bodies s bs st)) (something (some_body bs) place) _ _ _ (some_tells (some_body bs) place)
+      then (Any {A = Unit {0}}) (Leaves {A = Action} (behind_bodies s bs st)) (something (two_bodies bs) place) _ _ _ (some_tells (two_bodies bs) place)
       (λ u p. finally {A = Made Processes} {B = Made Action} (Leaves {A = Processes} (behind_bodies s bs st)) (Leaves {A = Action} (behind_bodies s bs st)) (inside s bs st) _ _ (inside_tells s bs st m) (λ a h. (refl, h)))
   acting_tells s l head place (raw.group ss) st m =
-      then (λ xs. Tells (λ v. weight_behind s place ss st.weight ≡ v) (grouped place xs st.weight) (limit_faults place st.weight (pieces_along s ss))) (Leaves {A = Action} (with_weight (weight_behind s place ss st.weight) st)) (pieces_along s ss) _ _ _ (group_tells s place st.weight ss m)
+      then (λ xs. Tells (λ v. weight_behind s place ss st.weight ≡ v) (grouped place xs st.weight) (limit_faults place st.weight (pieces_inside s place ss))) (Leaves {A = Action} (with_weight (weight_behind s place ss st.weight) st)) (pieces_inside s place ss) _ _ _ (group_tells s place st.weight ss m)
       (λ xs h. finally (λ v. weight_behind s place ss st.weight ≡ v) (Leaves {A = Action} (with_weight (weight_behind s place ss st.weight) st)) (grouped place xs st.weight) _ _ h (λ w e. (refl, ap (λ v. with_weight v st) (sym e))))
 
   branched_tells : (s : List Known) (f : Formula) (y : Statement) (other : raw.Branch) (st : State) → BranchModest other → Tells (Leaves {A = Action} (behind_branch s other st)) (branched s f y other st) (branch_faults s other st)
@@ -113,9 +111,10 @@ mutual
 
   pub body_tells : (s : List Known) (b : raw.Body) (st : State) → BodyModest b → Tells (Leaves {A = Process} (behind_body s b st)) (bodied s b st) (body_faults s b st)
   body_tells s (raw.body ss end) st m =
-      then {A = Made Statements} {B = Made Process} (Leaves {A = Statements} (behind_row s None None ss st)) (Leaves {A = Process} (behind_body s (raw.body ss end) st)) (along s fresh fresh ss st) _ _ _ (along_tells s fresh fresh ss st m)
+      then {A = Unit {0}} {B = Made Process} (Any {A = Unit {0}}) (Leaves {A = Process} (behind_body s (raw.body ss end) st)) (something (some_statement ss) 0) _ _ _ (some_tells (some_statement ss) 0)
+      (λ u p. then {A = Made Statements} {B = Made Process} (Leaves {A = Statements} (behind_row s None None ss st)) (Leaves {A = Process} (behind_body s (raw.body ss end) st)) (along s fresh fresh ss st) _ _ _ (along_tells s fresh fresh ss st m)
       (λ a h. rw h
       (then {A = Made ℕ} {B = Made Process} (λ l. l ≡ record { made = (behind_row s None None ss st).loc; after = next_location (behind_row s None None ss st) }) (Leaves {A = Process} (behind_body s (raw.body ss end) st)) (new_location 0 (behind_row s None None ss st)) _ _ _ (location_tells None 0 (behind_row s None None ss st))
       (λ l el. rw el
       (finally {A = State} {B = Made Process} (λ st1. st1 ≡ behind_body s (raw.body ss end) st) (Leaves {A = Process} (behind_body s (raw.body ss end) st)) (labelled end (behind_row s None None ss st).loc None (next_location (behind_row s None None ss st))) _ _
-      (label_tells end (behind_row s None None ss st).loc None (next_location (behind_row s None None ss st))) (λ st1 e. (refl, e))))))
+      (label_tells end (behind_row s None None ss st).loc None (next_location (behind_row s None None ss st))) (λ st1 e. (refl, e)))))))

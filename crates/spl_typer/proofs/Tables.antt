@@ -11,22 +11,12 @@ use Rattle.st_program.specs.Names.{AreApart, names_in}
 use Rattle.spl_parser.specs.declared.raw.RawStatement.{RawStatement}
 use Rattle.spl_parser.specs.declared.raw.RawBody.{RawBody}
 use Rattle.spl_parser.specs.ProgramTree.{statements, statement_views, bodies, body_views}
-use Rattle.spl_typer.specs.declared.fault.TypeFault.{TypeFault}
+use Rattle.expression_typer.specs.declared.fault.TypeFault.{TypeFault}
 use Rattle.spl_typer.specs.Walk.{Entry}
-use Rattle.spl_typer.specs.Walking.{some_statement, some_body}
-use Rattle.spl_typer.specs.Programs.{Apart, is_text, variables_of, labels_of}
+use Rattle.spl_typer.specs.Shapes.{some_statement, two_statements, two_bodies}
+use Rattle.expression_typer.specs.Naming.{is_text}
+use Rattle.spl_typer.specs.Programs.{Apart, variables_of, labels_of}
 use Rattle.spl_typer.proofs.Apart.{names_apart}
-
-small : (b : ℕ) → nat_lt b 128 ≡ true → b < 128
-small b h = grind (arith, nat_tests)
-
-ascii : (bs : List ℕ) → is_text bs ≡ true → IsAscii bs
-ascii [] h i = IsAscii-nil i
-ascii (b ∷ bs) h zero = let p = and_parts (nat_lt b 128) (is_text bs) h in small b p.0
-ascii (b ∷ bs) h (suc i) = let p = and_parts (nat_lt b 128) (is_text bs) h in ascii bs p.1 i
-
-pub text_utf8 : (bs items : List ℕ) → items ≡ bs → is_text bs ≡ true → IsUtf8 items
-text_utf8 bs items e h = rw e (IsUtf8-from_ascii bs (ascii bs h))
 
 pub not_ok : false ≡ true → ⊥
 not_ok e = cc
@@ -38,9 +28,18 @@ pub statements_some : (xs : List RawStatement) (b : Bool) → b ≡ (length xs =
 statements_some [] b e = ap not e
 statements_some (x ∷ xs) b e = ap not (e ∙ not_zero (length xs))
 
-pub bodies_some : (xs : List RawBody) (b : Bool) → b ≡ (length xs == 0) → not b ≡ some_body (bodies (body_views xs))
-bodies_some [] b e = ap not e
-bodies_some (x ∷ xs) b e = ap not (e ∙ not_zero (length xs))
+two_or_more : (n : ℕ) → nat_lt 1 (suc (suc n)) ≡ true
+two_or_more n = grind (arith, nat_tests)
+
+pub statements_two : (xs : List RawStatement) → nat_lt 1 (length xs) ≡ two_statements (statements (statement_views xs))
+statements_two [] = refl
+statements_two (x ∷ []) = refl
+statements_two (x ∷ y ∷ xs) = two_or_more (length xs)
+
+pub bodies_two : (xs : List RawBody) → nat_lt 1 (length xs) ≡ two_bodies (bodies (body_views xs))
+bodies_two [] = refl
+bodies_two (x ∷ []) = refl
+bodies_two (x ∷ y ∷ xs) = two_or_more (length xs)
 
 variable_names : (xs : List (String Global × Bool)) → names_in {A = Bool} (map (λ x. (string_bytes x.0, x.1)) xs) ≡ map (λ v. string_bytes v.0) xs
 variable_names [] = refl

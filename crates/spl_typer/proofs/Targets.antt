@@ -7,13 +7,15 @@ use Rattle.st_program.specs.Tree.{Term, Piece, Pieces, piece_skip, piece_assign,
 use Rattle.st_program.specs.Types.{MayChange, IsNoTarget, TargetsFit, TestFits, PieceFits, PiecesFit, is_truth}
 use Rattle.expression_parser.specs.ExpressionTree.{Expr}
 use Rattle.spl_parser.specs.ProgramTree as raw
-use Rattle.spl_typer.specs.declared.fault.TypeFault.{TypeFault}
-use Rattle.spl_typer.specs.declared.fault.TypeFault.TheVariants as faults
-use Rattle.spl_typer.specs.Answers.{◌>>=◌}
-use Rattle.spl_typer.specs.Scope.{Known}
-use Rattle.spl_typer.specs.Statements.{tested, target, right_side, is_target, targets, changes, assigned, pieces_of, pieces_in, other_pieces, pieces_along, pieces_behind}
-use Rattle.spl_typer.proofs.Holding.{Holds, bound, anyway}
-use Rattle.spl_typer.proofs.Terms.{Scoped, IsTarget, IsSide, target_fits, tested_fits, side_fits, may_be, one_target}
+use Rattle.expression_typer.specs.declared.fault.TypeFault.{TypeFault}
+use Rattle.expression_typer.specs.declared.fault.TypeFault.TheVariants as faults
+use Rattle.expression_typer.specs.Answers.{◌>>=◌}
+use Rattle.expression_typer.specs.Scope.{Known}
+use Rattle.spl_typer.specs.Statements.{tested, target, right_side, is_target, targets, changes, assigned, pieces_of, pieces_in, other_pieces, pieces_inside, pieces_along, pieces_behind}
+use Rattle.spl_typer.specs.Shapes.{something, some_statement}
+use Rattle.expression_typer.proofs.Holding.{Holds, bound, anyway}
+use Rattle.expression_typer.proofs.Terms.{Scoped}
+use Rattle.spl_typer.proofs.Terms.{IsTarget, IsSide, target_fits, tested_fits, side_fits, may_be, one_target}
 
 -- none of these is the variable
 abbrev Other : ℕ → List Known → Type 0
@@ -129,7 +131,7 @@ mutual
       (λ ys i. bound (PiecesFit vs) (PiecesFit vs) (other_pieces s other) _ (others_fit vs s other h) (λ ns j. ((g, i, j), tt))))
   pieces_in_fit vs s place (raw.while_do e y) h = tt
   pieces_in_fit vs s place (raw.forever y) h = tt
-  pieces_in_fit vs s place (raw.block ss) h = pieces_fit vs s ss h
+  pieces_in_fit vs s place (raw.block ss) h = anyway (PiecesFit vs) (something (some_statement ss) place) _ (λ u. pieces_fit vs s ss h)
   pieces_in_fit vs s place (raw.select ss) h = tt
   pieces_in_fit vs s place (raw.cooperate bs) h = tt
   pieces_in_fit vs s place (raw.group ss) h = tt
@@ -138,8 +140,11 @@ mutual
   others_fit vs s raw.no_branch h = tt
   others_fit vs s (raw.branch x) h = piece_fits vs s x h
 
-  pub pieces_fit : (vs : List Variable) (s : List Known) (ss : raw.Statements) → Scoped vs s → Holds (PiecesFit vs) (pieces_along s ss)
+  pieces_fit : (vs : List Variable) (s : List Known) (ss : raw.Statements) → Scoped vs s → Holds (PiecesFit vs) (pieces_along s ss)
   pieces_fit vs s raw.no_statements h = tt
   pieces_fit vs s (raw.followed x xs) h =
       bound (PiecesFit vs) (PiecesFit vs) (pieces_of s x) _ (piece_fits vs s x h)
       (λ ys i. bound (PiecesFit vs) (PiecesFit vs) (pieces_along s xs) _ (pieces_fit vs s xs h) (λ zs j. behind_fit vs ys zs i j))
+
+pub inside_fit : (vs : List Variable) (s : List Known) (place : ℕ) (ss : raw.Statements) → Scoped vs s → Holds (PiecesFit vs) (pieces_inside s place ss)
+inside_fit vs s place ss h = anyway (PiecesFit vs) (something (some_statement ss) place) _ (λ u. pieces_fit vs s ss h)

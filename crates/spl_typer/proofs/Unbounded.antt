@@ -13,13 +13,13 @@ use Rattle.st_tokens.specs.declared.limit.LimitKind.TheVariants as limits
 use Rattle.st_program.specs.Tree.{Term, number, truth, Piece, Pieces, piece_skip, piece_assign, piece_await, piece_if, no_piece, piece}
 use Rattle.st_program.specs.Types.{type_of, EntriesFit, LinearFits, FormulasFit, TestFits, TermFits, TargetsFit, PieceFits, PiecesFit}
 use Rattle.st_program.specs.Groups.{Link, tested, given, paths, paths_along, inserted, signed}
-use Rattle.spl_typer.specs.declared.fault.TypeFault.{TypeFault}
-use Rattle.spl_typer.specs.declared.fault.TypeFault.TheVariants as faults
-use Rattle.spl_typer.specs.Answers.{◌>>=◌}
-use Rattle.spl_typer.specs.Written.{is_writable, limited}
+use Rattle.expression_typer.specs.declared.fault.TypeFault.{TypeFault}
+use Rattle.expression_typer.specs.declared.fault.TypeFault.TheVariants as faults
+use Rattle.expression_typer.specs.Answers.{◌>>=◌}
+use Rattle.expression_typer.specs.Written.{is_writable, limited}
 use Rattle.spl_typer.specs.Groups.{Numbers, Composition, nothing, large_unless, limit_unless, composed_number, composed_formula, few, term_on, terms_on, put, put_all, met, guarded, link_on, path_on, with_number, numbers_of, numbers_put, numbers_on, all_small, with_path, with_paths, grouped}
 use Rattle.spl_typer.specs.Unbounded.{with_form, with_forms, composed_form, composed_side, composed_sides, all_writable, are_small_along, all_small_along, is_too_large, IsTooLargeExactly}
-use Rattle.spl_typer.proofs.Sizes.{Within, Bounded, bounded_written, bounded_sum, bounded_fits, within_entry}
+use Rattle.expression_typer.proofs.Sizes.{Within, Bounded, bounded_written, bounded_sum, bounded_fits, within_entry}
 
 abbrev Each : {X : Type 0} → (X → Type 0) → List X → Type 0
 Each P [] = Unit {0}

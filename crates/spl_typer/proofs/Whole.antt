@@ -1,5 +1,6 @@
 -- A program that the walk gives is a typed program within the limits.
-use Rattle.std.proofs.Common.{◌≡◌, ℕ, zero, suc, ◌+◌, ◌-◌, ◌<◌, ◌≤◌, ◌^◌, Bool, true, false, cond, nat_lt, List, [], ◌∷◌, ◌++◌, length, take, slice_get, Option, Some, None, Result, Ok, Err, refl, ap, sym, ◌∙◌, arith, append-nil, append_assoc}
+use Rattle.std.proofs.Common.{◌≡◌, ℕ, zero, suc, ◌+◌, ◌-◌, ◌<◌, ◌≤◌, ◌^◌, Bool, true, false, cond, nat_lt, nat_le, List, [], ◌∷◌, ◌++◌, length, take, slice_get, Option, Some, None, Result, Ok, Err, refl, ap, sym, ◌∙◌, arith, append-nil, append_assoc}
+use Rattle.std.proofs.lemmas.Bool.{and_parts}
 use Rattle.std.proofs.lemmas.Bool.Decides.{nat_tests}
 use Rattle.std.proofs.lemmas.List.{length-append}
 use Rattle.st_form.specs.Formula.{Formula, formulas, every}
@@ -9,27 +10,30 @@ use Rattle.st_reading.specs.Reading.{Label}
 use Rattle.st_program.specs.Tree.{Statements, Process, process, Processes, no_process, beside, occurrence, action}
 use Rattle.st_program.specs.Member.{Member, here, there}
 use Rattle.st_program.specs.Spots.{Spot, bodies_in, spots_along, spots_inside, all_spots, spot, IsNumbered}
-use Rattle.st_program.specs.Locations.{SomeProcess, InsidePlaced, inside_end, along_end, HeadsFit}
+use Rattle.st_program.specs.Locations.{SomeProcess, InsidePlaced, inside_end, along_end, HeadsFit, BodiesFit, ShapeFits}
 use Rattle.st_program.specs.Types.{TestFits, FormulasFit, ActionFits}
-use Rattle.st_program.specs.Programs.{WellFormed, IsProgram}
+use Rattle.st_program.specs.Programs.{WellFormed, IsProgram, process_count}
 use Rattle.expression_parser.specs.ExpressionTree.{Expr}
 use Rattle.spl_parser.specs.ProgramTree as raw
-use Rattle.spl_typer.specs.declared.fault.TypeFault.{TypeFault}
-use Rattle.spl_typer.specs.declared.fault.TypeFault.TheVariants as faults
+use Rattle.expression_typer.specs.declared.fault.TypeFault.{TypeFault}
+use Rattle.expression_typer.specs.declared.fault.TypeFault.TheVariants as faults
 use Rattle.spl_typer.specs.declared.walk.Mark.{Mark}
 use Rattle.spl_typer.specs.declared.walk.Mark.TheVariants as marks
-use Rattle.spl_typer.specs.Answers.{◌>>=◌}
-use Rattle.spl_typer.specs.Scope.{Known}
+use Rattle.expression_typer.specs.Answers.{◌>>=◌}
+use Rattle.expression_typer.specs.Scope.{Known}
 use Rattle.spl_typer.specs.Walk.{Entry, State, Made, is_declared, with_name, declared_as, new_location, new_occurrence, next_location, next_occurrence, with_weight}
 use Rattle.spl_typer.specs.Statements.{tested}
 use Rattle.spl_typer.specs.Walking.{bodied}
-use Rattle.spl_typer.specs.Programs.{Heading, knows, named_in, names_in, with_initial, initial_in, declaration_in, declarations_in, with_state, with_process, process_in, processes_in, nothing_met, some_process, heading_of, side_by_side, Apart}
-use Rattle.spl_typer.proofs.Holding.{Holds, bound, anyway, weaker, unless_err, if_ok, Goes, declares}
+use Rattle.spl_typer.specs.Programs.{Heading, knows, named_in, names_in, with_initial, initial_in, declaration_in, declarations_in, with_state, with_process, process_in, processes_in, nothing_met, some_process, few_processes, heading_of, side_by_side, Apart}
+use Rattle.expression_typer.proofs.Holding.{Holds, bound, anyway, weaker, unless_err, if_ok}
+use Rattle.spl_typer.proofs.Holding.{Goes, declares}
 use Rattle.spl_typer.proofs.Keeping.{Steps, body_keeps}
 use Rattle.spl_typer.proofs.Apart.{declares_apart}
 use Rattle.spl_typer.proofs.Occurrences.{Counts, counts_append, ChildCounts, body_counts, beside_counts}
 use Rattle.spl_typer.proofs.Placing.{Child, Children, children_more, body_placed}
-use Rattle.spl_typer.proofs.Terms.{IsKnown, Scoped, tested_fits}
+use Rattle.expression_typer.proofs.Terms.{IsKnown, Scoped}
+use Rattle.spl_typer.proofs.Terms.{tested_fits}
+use Rattle.spl_typer.proofs.Shaping.{both, BodyFits, body_fits, bodies_more}
 use Rattle.spl_typer.proofs.Fitting.{Fits, AllFit, all_append, SoundChild, body_sound, children_sound}
 
 -- lists of variables that grow
@@ -91,6 +95,10 @@ children_snoc (process ss end ∷ ps) p from mid to h g =
     let r = children_snoc ps p (suc end) mid to (h.0.2, ap (λ n. inside_end (side_by_side ps) (suc n)) h.0.1 ∙ h.1) g in
     ((h.0.0, h.0.1, r.0), ap (λ n. inside_end (side_by_side (ps ++ p ∷ [])) (suc n)) (sym h.0.1) ∙ r.1)
 
+bodies_snoc : (ps : List Process) (p : Process) → BodiesFit (side_by_side ps) → BodyFits p → BodiesFit (side_by_side (ps ++ p ∷ []))
+bodies_snoc [] p h g = bodies_more p no_process g tt
+bodies_snoc (process ss end ∷ ps) p h g = (h.0, bodies_snoc ps p h.1 g)
+
 some_snoc : (ps : List Process) (p : Process) → SomeProcess (side_by_side (ps ++ p ∷ []))
 some_snoc [] p = tt
 some_snoc (q ∷ ps) p = tt
@@ -104,6 +112,7 @@ pub record Sound (h : Heading) : Type 0 where
   pub occurrences : h.state.occ ≤ 400
   pub placed : Children (side_by_side h.processes) 0 h.state.loc
   pub fit : (vs : List Variable) → Extends h.variables vs → AllFit vs (spots_inside (side_by_side h.processes) 0)
+  pub bodies : BodiesFit (side_by_side h.processes)
   pub apart : Apart h.state.names
 
 stated : (h : Heading) (st : State) → Sound h → Goes h.state st → Apart st.names → Sound (with_state st h)
@@ -116,6 +125,7 @@ stated h st s g a = record {
   occurrences = rw g.occ s.occurrences;
   placed = rw g.loc s.placed;
   fit = s.fit;
+  bodies = s.bodies;
 }
 
 known : (h : Heading) (input truth : Bool) (n : Label) (st : State) → Sound h → Goes h.state st → Apart st.names → length h.variables < 64 → Sound (knows input truth n st h)
@@ -128,14 +138,11 @@ known h input truth n st s g a few = record {
   occurrences = rw g.occ s.occurrences;
   placed = rw g.loc s.placed;
   fit = λ vs e. s.fit vs (extends_push h.variables vs _ e);
+  bodies = s.bodies;
 }
 
 below : (n m : ℕ) → nat_lt n m ≡ true → n < m
 below n m e = grind (arith, nat_tests)
-
-both : {A : Type 0} (P Q : A → Type 0) (r : Result A TypeFault) → Holds P r → Holds Q r → Holds (λ x. P x × Q x) r
-both P Q (Ok x) h g = (h, g)
-both P Q (Err f) h g = tt
 
 named_sound : (input truth : Bool) (n : Label) (h : Heading) → Sound h → Holds Sound (named_in input truth n h)
 named_sound input truth n h s =
@@ -158,6 +165,7 @@ initial_sound (Some e) h s =
       occurrences = s.occurrences;
       placed = s.placed;
       fit = s.fit;
+      bodies = s.bodies;
       apart = s.apart;
     })
   where
@@ -195,16 +203,17 @@ record Ended (k : Heading) (a : Made Process) : Type 0 where
   few : a.after.occ ≤ 400
   placed : Child a.made k.state.loc a.after.loc
   fit : (vs : List Variable) → Extends k.variables vs → SoundChild vs a.made
+  body : BodyFits a.made
   apart : Apart a.after.names
 
 body_ends : (k : Heading) (b : raw.Body) → Sound k → Holds (Ended k) (bodied k.scope b k.state)
 body_ends k b s =
-    all (bodied k.scope b k.state) (body_keeps (λ st. Apart st.names) apart_steps k.scope b k.state s.apart) (body_counts k.scope b k.state) (body_keeps (λ st. st.occ ≤ 400) few_steps k.scope b k.state s.occurrences) (body_placed k.scope b k.state) (λ vs x. body_sound vs k.scope b k.state (s.scope vs x))
+    all (bodied k.scope b k.state) (body_keeps (λ st. Apart st.names) apart_steps k.scope b k.state s.apart) (body_counts k.scope b k.state) (body_keeps (λ st. st.occ ≤ 400) few_steps k.scope b k.state s.occurrences) (body_placed k.scope b k.state) (body_fits k.scope b k.state) (λ vs x. body_sound vs k.scope b k.state (s.scope vs x))
   where
-    all : (r : Result (Made Process) TypeFault) → Holds (λ a. Apart a.after.names) r → Holds (λ a. ChildCounts k.state.occ a.after.occ a.made) r → Holds (λ a. a.after.occ ≤ 400) r → Holds (λ a. Child a.made k.state.loc a.after.loc) r
+    all : (r : Result (Made Process) TypeFault) → Holds (λ a. Apart a.after.names) r → Holds (λ a. ChildCounts k.state.occ a.after.occ a.made) r → Holds (λ a. a.after.occ ≤ 400) r → Holds (λ a. Child a.made k.state.loc a.after.loc) r → Holds (λ a. BodyFits a.made) r
         → ((vs : List Variable) → Extends k.variables vs → Holds (λ a. SoundChild vs a.made) r) → Holds (Ended k) r
-    all (Ok a) n c f p g = record { apart = n; counts = c; few = f; placed = p; fit = g }
-    all (Err f) n c e p g = tt
+    all (Ok a) n c f p o g = record { apart = n; counts = c; few = f; placed = p; fit = g; body = o }
+    all (Err f) n c e p o g = tt
 
 process_sound : (p : raw.Process) (h : Heading) → Sound h → Holds (λ k. Sound k × SomeProcess (side_by_side k.processes)) (process_in p h)
 process_sound p h s =
@@ -220,6 +229,7 @@ process_sound p h s =
         occurrences = e.few;
         placed = children_snoc k.processes a.made 0 k.state.loc a.after.loc r.placed e.placed;
         fit = λ vs x. fit_snoc vs k.processes a.made (r.fit vs x) (e.fit vs x);
+        bodies = bodies_snoc k.processes a.made r.bodies e.body;
         apart = e.apart;
       },
       some_snoc k.processes a.made,
@@ -231,16 +241,85 @@ more_sound (p ∷ ps) h s =
     bound (λ k. Sound k × SomeProcess (side_by_side k.processes)) (λ k. Sound k × SomeProcess (side_by_side k.processes)) (process_in p h) _ (process_sound p h s.0) (λ k r. more_sound ps k r)
 
 nothing_sound : Sound nothing_met
-nothing_sound = record { scope = λ vs e. tt; initial = λ vs e. tt; few = omega arith; counts = refl; occurrences = omega arith; placed = (tt, refl); fit = λ vs e. tt; apart = tt }
+nothing_sound = record { scope = λ vs e. tt; initial = λ vs e. tt; few = omega arith; counts = refl; occurrences = omega arith; placed = (tt, refl); fit = λ vs e. tt; bodies = tt; apart = tt }
 
-pub heading_sound : (p : raw.Program) → Holds (λ k. Sound k × SomeProcess (side_by_side k.processes)) (heading_of p)
-heading_sound p = go p.processes
+-- as many processes are typed as there are
+abbrev Listed : Heading → ℕ → Heading → Type 0
+Listed h n k = length k.processes ≡ length h.processes + n
+
+same_named : (input truth : Bool) (n : Label) (h : Heading) → Holds (λ k. k.processes ≡ h.processes) (named_in input truth n h)
+same_named input truth n h =
+    anyway (λ k. k.processes ≡ h.processes) (declared_as n (marks.Variable truth) h.state) _
+    (λ st. if_ok (λ k. k.processes ≡ h.processes) (nat_lt (length h.variables) 64) (knows input truth n st h) _ (λ e. refl))
+
+same_names : (input truth : Bool) (ns : List Label) (h : Heading) → Holds (λ k. k.processes ≡ h.processes) (names_in input truth ns h)
+same_names input truth [] h = refl
+same_names input truth (n ∷ ns) h =
+    bound (λ k. k.processes ≡ h.processes) (λ k. k.processes ≡ h.processes) (named_in input truth n h) _ (same_named input truth n h)
+    (λ k e. weaker (λ l. l.processes ≡ k.processes) (λ l. l.processes ≡ h.processes) (names_in input truth ns k) (same_names input truth ns k) (λ l g. g ∙ e))
+
+same_initial : (o : Option Expr) (h : Heading) → Holds (λ k. k.processes ≡ h.processes) (initial_in o h)
+same_initial None h = refl
+same_initial (Some x) h = anyway (λ k. k.processes ≡ h.processes) (tested h.scope x) _ (λ f. refl)
+
+same_declared : (ds : List raw.Declaration) (h : Heading) → Holds (λ k. k.processes ≡ h.processes) (declarations_in ds h)
+same_declared [] h = refl
+same_declared (d ∷ ds) h =
+    bound (λ k. k.processes ≡ h.processes) (λ k. k.processes ≡ h.processes) (declaration_in d h) _
+    (bound (λ k. k.processes ≡ h.processes) (λ k. k.processes ≡ h.processes) (names_in d.input d.truth d.names h) _ (same_names d.input d.truth d.names h)
+    (λ k e. weaker (λ l. l.processes ≡ k.processes) (λ l. l.processes ≡ h.processes) (initial_in d.initial k) (same_initial d.initial k) (λ l g. g ∙ e)))
+    (λ k e. weaker (λ l. l.processes ≡ k.processes) (λ l. l.processes ≡ h.processes) (declarations_in ds k) (same_declared ds k) (λ l g. g ∙ e))
+
+one_listed : (p : raw.Process) (h : Heading) → Holds (Listed h 1) (process_in p h)
+one_listed p h =
+    anyway (Listed h 1) (declared_as p.name marks.Process h.state) _
+    (λ st. bound (λ k. k.processes ≡ h.processes) (Listed h 1) (declarations_in p.declarations (with_state st h)) _ (same_declared p.declarations (with_state st h))
+    (λ k e. anyway (Listed h 1) (bodied k.scope p.body k.state) _ (λ a. length-append k.processes (a.made ∷ []) ∙ ap (λ ps. length ps + 1) e)))
+
+all_listed : (ps : List raw.Process) (h : Heading) → Holds (Listed h (length ps)) (processes_in ps h)
+all_listed [] h = omega arith
+all_listed (p ∷ ps) h =
+    bound (Listed h 1) (Listed h (suc (length ps))) (process_in p h) _ (one_listed p h)
+    (λ k e. weaker (Listed k (length ps)) (Listed h (suc (length ps))) (processes_in ps k) (all_listed ps k) (λ l g. omega (arith, e, g)))
+
+counted_processes : (ps : List Process) → process_count (side_by_side ps) ≡ length ps
+counted_processes [] = refl
+counted_processes (p ∷ ps) = ap suc (counted_processes ps)
+
+-- what a whole heading is
+pub record Complete (k : Heading) : Type 0 where
+  pub sound : Sound k
+  pub some : SomeProcess (side_by_side k.processes)
+  pub few : length k.processes ≤ 16
+
+at_most : (n m : ℕ) → nat_le n m ≡ true → n ≤ m
+at_most n m e = grind (arith, nat_tests)
+
+pub heading_sound : (p : raw.Program) → Holds Complete (heading_of p)
+heading_sound p = go (few_processes p.processes) refl
   where
-    go : (ps : List raw.Process) → Holds (λ k. Sound k × SomeProcess (side_by_side k.processes)) (cond (some_process ps) (declarations_in p.declarations nothing_met >>= λ h. processes_in ps h) (Err (faults.Limit limits.Processes 0)))
-    go [] = tt
-    go (q ∷ qs) =
+    whole : (qs : List raw.Process) → some_process qs ≡ true → Holds (λ k. Sound k × SomeProcess (side_by_side k.processes)) (declarations_in p.declarations nothing_met >>= λ h. processes_in qs h)
+    whole [] e = absurd (not_some e)
+      where
+        not_some : false ≡ true → ⊥
+        not_some i = cc
+    whole (q ∷ qs) e =
         bound Sound (λ k. Sound k × SomeProcess (side_by_side k.processes)) (declarations_in p.declarations nothing_met) _ (declarations_sound p.declarations nothing_met nothing_sound)
         (λ h s. bound (λ k. Sound k × SomeProcess (side_by_side k.processes)) (λ k. Sound k × SomeProcess (side_by_side k.processes)) (process_in q h) _ (process_sound q h s) (λ k r. more_sound qs k r))
+
+    number : (qs : List raw.Process) → Holds (Listed nothing_met (length qs)) (declarations_in p.declarations nothing_met >>= λ h. processes_in qs h)
+    number qs =
+        bound (λ k. k.processes ≡ []) (Listed nothing_met (length qs)) (declarations_in p.declarations nothing_met) _ (same_declared p.declarations nothing_met)
+        (λ h e. weaker (Listed h (length qs)) (Listed nothing_met (length qs)) (processes_in qs h) (all_listed qs h) (λ k g. g ∙ ap (λ ps. length ps + length qs) e))
+
+    go : (b : Bool) → few_processes p.processes ≡ b → Holds Complete (cond b (declarations_in p.declarations nothing_met >>= λ h. processes_in p.processes h) (Err (faults.Limit limits.Processes 0)))
+    go false e = tt
+    go true e =
+        let f = and_parts (some_process p.processes) (nat_le (length p.processes) 16) e in
+        let m = at_most (length p.processes) 16 f.1 in
+        weaker (λ k. (Sound k × SomeProcess (side_by_side k.processes)) × Listed nothing_met (length p.processes) k) Complete (declarations_in p.declarations nothing_met >>= λ h. processes_in p.processes h)
+        (both (λ k. Sound k × SomeProcess (side_by_side k.processes)) (Listed nothing_met (length p.processes)) (declarations_in p.declarations nothing_met >>= λ h. processes_in p.processes h) (whole p.processes f.0) (number p.processes))
+        (λ k r. record { sound = r.0.0; some = r.0.1; few = omega (arith, m, r.1) })
 
 counted : (n m k : ℕ) (xs : List Spot) (x : Spot) → Counts n m xs → slice_get xs k ≡ Some x → occurrence x.stmt ≡ n + k
 counted n m k [] x h e = absurd (none_some e)
@@ -277,18 +356,21 @@ one_fits vs (y ∷ xs) x h (there m) = one_fits vs xs x h.1 m
 zero_plus : (n : ℕ) → 0 + n ≡ n
 zero_plus n = omega arith
 
-pub is_program : (h : Heading) → Sound h → SomeProcess (side_by_side h.processes) → IsProgram h.variables (every (formulas h.initial)) (side_by_side h.processes) h.state.loc h.state.occ
-is_program h s some = record {
+pub is_program : (h : Heading) → Complete h → IsProgram h.variables (every (formulas h.initial)) (side_by_side h.processes) h.state.loc h.state.occ
+is_program h c = let s = c.sound in record {
   well = record {
     numbered = λ n x e. counted 0 h.state.occ n (all_spots (side_by_side h.processes)) x s.counts e ∙ zero_plus n;
     placed = s.placed.0;
-    heads = λ x m. (one_fits h.variables (all_spots (side_by_side h.processes)) x (s.fit h.variables (λ v y e. e)) m).0;
+    heads = λ x m. (one_fits h.variables (all_spots (side_by_side h.processes)) x (s.fit h.variables (λ v y e. e)) m).0.0;
+    shaped = λ x m. (one_fits h.variables (all_spots (side_by_side h.processes)) x (s.fit h.variables (λ v y e. e)) m).1;
+    bodies = s.bodies;
   };
-  typed = λ x m. (one_fits h.variables (all_spots (side_by_side h.processes)) x (s.fit h.variables (λ v y e. e)) m).1;
+  typed = λ x m. (one_fits h.variables (all_spots (side_by_side h.processes)) x (s.fit h.variables (λ v y e. e)) m).0.1;
   start = s.initial h.variables (λ v y e. e);
-  some = some;
+  some = c.some;
   location_count = sym s.placed.1;
   statement_count = total 0 h.state.occ (all_spots (side_by_side h.processes)) s.counts ∙ zero_plus (length (all_spots (side_by_side h.processes)));
+  few_processes = rw (counted_processes h.processes) c.few;
   few_variables = s.few;
   few_statements = s.occurrences;
 }

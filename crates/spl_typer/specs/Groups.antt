@@ -11,10 +11,10 @@ use Rattle.st_form.specs.Exchange.{Exchange, exchanged}
 use Rattle.st_tokens.specs.declared.limit.LimitKind.TheVariants as limits
 use Rattle.st_program.specs.Tree.{Term, number, truth, Pieces}
 use Rattle.st_program.specs.Groups.{Link, tested, given, paths_along, inserted, signed}
-use Rattle.spl_typer.specs.declared.fault.TypeFault.{TypeFault}
-use Rattle.spl_typer.specs.declared.fault.TypeFault.TheVariants as faults
-use Rattle.spl_typer.specs.Answers.{◌>>=◌}
-use Rattle.spl_typer.specs.Written.{limited}
+use Rattle.expression_typer.specs.declared.fault.TypeFault.{TypeFault}
+use Rattle.expression_typer.specs.declared.fault.TypeFault.TheVariants as faults
+use Rattle.expression_typer.specs.Answers.{◌>>=◌}
+use Rattle.expression_typer.specs.Written.{limited}
 
 abbrev pub Numbers : Type 0
 Numbers = List (ℕ × Linear)

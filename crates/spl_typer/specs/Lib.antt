@@ -1,9 +1,6 @@
-pub mod Answers
-pub mod Scope
-pub mod Written
-pub mod Typing
 pub mod Row
 pub mod Walk
+pub mod Shapes
 pub mod Statements
 pub mod Groups
 pub mod Measured
@@ -11,9 +8,7 @@ pub mod GroupViews
 pub mod Unbounded
 pub mod Walking
 pub mod Programs
-pub mod Rules
 pub mod StatementRules
-pub mod Told
 pub mod Modest
 pub mod ProgramRules
-pub mod Placed
+pub mod Standing

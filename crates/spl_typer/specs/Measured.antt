@@ -8,12 +8,12 @@ use Rattle.st_form.specs.Formula.{Formula, Formulas, truth_value, row, equal, bo
 use Rattle.st_tokens.specs.declared.limit.LimitKind.TheVariants as limits
 use Rattle.st_program.specs.Tree.{Term, number, truth}
 use Rattle.st_program.specs.Groups.{Link, tested, given, inserted}
-use Rattle.spl_typer.specs.declared.fault.TypeFault.{TypeFault}
-use Rattle.spl_typer.specs.declared.fault.TypeFault.TheVariants as faults
+use Rattle.expression_typer.specs.declared.fault.TypeFault.{TypeFault}
+use Rattle.expression_typer.specs.declared.fault.TypeFault.TheVariants as faults
 use Rattle.spl_typer.specs.declared.measure.Size.{Size}
 use Rattle.spl_typer.specs.declared.composing.Side.{Side}
 use Rattle.spl_typer.specs.declared.composing.Side.TheVariants as sides
-use Rattle.spl_typer.specs.Answers.{◌>>=◌}
+use Rattle.expression_typer.specs.Answers.{◌>>=◌}
 use Rattle.spl_typer.specs.Groups.{Numbers, large_unless, composed_number, added, numbers_weight}
 
 abbrev pub capped : ℕ → ℕ

@@ -2,7 +2,7 @@
 use Rattle.std.specs.Prelude.{ℕ, List, [], ◌∷◌, Option, Some, None}
 use Rattle.expression_parser.specs.ExpressionTree.{Expr}
 use Rattle.spl_parser.specs.ProgramTree as raw
-use Rattle.spl_typer.specs.Told.{IsModest}
+use Rattle.expression_typer.specs.Told.{IsModest}
 
 abbrev pub AllModest : List Expr → Type 0
 AllModest [] = Unit {0}

@@ -6,14 +6,14 @@ use Rattle.st_tokens.specs.declared.limit.LimitKind.TheVariants as limits
 use Rattle.st_reading.specs.Reading.{Label}
 use Rattle.expression_parser.specs.ExpressionTree.{Expr}
 use Rattle.spl_parser.specs.ProgramTree as raw
-use Rattle.spl_typer.specs.declared.fault.TypeFault.TheVariants as faults
+use Rattle.expression_typer.specs.declared.fault.TypeFault.TheVariants as faults
 use Rattle.spl_typer.specs.declared.walk.Mark.{Mark}
 use Rattle.spl_typer.specs.declared.walk.Mark.TheVariants as marks
-use Rattle.spl_typer.specs.Scope.{Known}
-use Rattle.spl_typer.specs.Told.{IsModest}
+use Rattle.expression_typer.specs.Scope.{Known}
+use Rattle.expression_typer.specs.Told.{IsModest}
 use Rattle.spl_typer.specs.Modest.{BodyModest}
 use Rattle.spl_typer.specs.Walk.{State, is_declared, with_name}
-use Rattle.spl_typer.specs.Programs.{Heading, nothing_met, some_process, names_of}
+use Rattle.spl_typer.specs.Programs.{Heading, nothing_met, few_processes, names_of}
 use Rattle.spl_typer.specs.StatementRules.{Faults, unless, where_true, test_faults, faults_of, behind_body, body_faults}
 
 -- what stands before a place in the text
@@ -99,7 +99,7 @@ before_processes p = behind_declarations p.declarations (front nothing_met)
 -- the rules that are broken in a program; what comes last is broken by no program that was read
 abbrev pub program_faults : raw.Program → Faults
 program_faults p =
-    (unless (some_process p.processes) (faults.Limit limits.Processes 0)
+    (unless (few_processes p.processes) (faults.Limit limits.Processes 0)
     ++ (declarations_faults p.declarations (front nothing_met) ++ processes_faults p.processes (before_processes p)))
     ++ faults_of (names_of (behind_processes p.processes (before_processes p)).state.names)
 

@@ -12,13 +12,14 @@ use Rattle.st_program.specs.declared.programs.Program.{Program}
 use Rattle.st_program.specs.declared.names.NameTable.{NameTable}
 use Rattle.expression_parser.specs.ExpressionTree.{Expr}
 use Rattle.spl_parser.specs.ProgramTree as raw
-use Rattle.spl_typer.specs.declared.fault.TypeFault.{TypeFault}
-use Rattle.spl_typer.specs.declared.fault.TypeFault.TheVariants as faults
+use Rattle.expression_typer.specs.declared.fault.TypeFault.{TypeFault}
+use Rattle.expression_typer.specs.declared.fault.TypeFault.TheVariants as faults
 use Rattle.spl_typer.specs.declared.program.Head.{Head}
 use Rattle.spl_typer.specs.declared.walk.Mark.{Mark}
 use Rattle.spl_typer.specs.declared.walk.Mark.TheVariants as marks
-use Rattle.spl_typer.specs.Answers.{◌>>=◌, Fails}
-use Rattle.spl_typer.specs.Scope.{Known, scope_view}
+use Rattle.expression_typer.specs.Answers.{◌>>=◌, Fails}
+use Rattle.expression_typer.specs.Naming.{is_text}
+use Rattle.expression_typer.specs.Scope.{Known, scope_view}
 use Rattle.spl_typer.specs.Walk.{Entry, State, state, Made, declared_as}
 use Rattle.spl_typer.specs.Statements.{tested}
 use Rattle.spl_typer.specs.Walking.{bodied}
@@ -103,9 +104,13 @@ abbrev pub some_process : List raw.Process → Bool
 some_process [] = false
 some_process (p ∷ ps) = true
 
+-- no program that was read has more than 16
+abbrev pub few_processes : List raw.Process → Bool
+few_processes ps = some_process ps && nat_le (length ps) 16
+
 abbrev pub heading_of : raw.Program → Result Heading TypeFault
 heading_of p =
-    if some_process p.processes then (declarations_in p.declarations nothing_met >>= λ h. processes_in p.processes h)
+    if few_processes p.processes then (declarations_in p.declarations nothing_met >>= λ h. processes_in p.processes h)
     else Err (faults.Limit limits.Processes 0)
 
 abbrev pub side_by_side : List Process → Processes
@@ -118,11 +123,6 @@ entry_names es = map (λ e. e.name) es
 -- no name is declared twice
 abbrev pub Apart : List Entry → Type 0
 Apart es = AreApart (entry_names es)
-
--- a name as text: each byte is ASCII, as in every text
-abbrev pub is_text : List ℕ → Bool
-is_text [] = true
-is_text (b ∷ bs) = nat_lt b 128 && is_text bs
 
 abbrev pub text_of : List ℕ → Result (List ℕ) TypeFault
 text_of name = if is_text name then Ok name else Err (faults.Limit limits.Text 0)

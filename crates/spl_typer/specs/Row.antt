@@ -1,23 +1,13 @@
 -- Lists that the code has put together, in front of what the rules still give.
 use Rattle.std.specs.Prelude.{List, [], ◌∷◌, Result, Ok, Err}
-use Rattle.st_form.specs.Formula.{Formulas, more}
-use Rattle.st_form.specs.Plain.{plain}
-use Rattle.st_form.specs.declared.formulas.Form.{Form}
 use Rattle.st_program.specs.declared.trees.Stmt.{Stmt}
 use Rattle.st_program.specs.declared.trees.Child.{Child}
 use Rattle.st_program.specs.declared.trees.Inner.{Inner}
 use Rattle.st_program.specs.Plain.{plain_stmt, plain_child, plain_inner}
 use Rattle.st_program.specs.Tree.{Statements, statement, Processes, beside, Pieces, piece}
-use Rattle.spl_typer.specs.declared.fault.TypeFault.{TypeFault}
-use Rattle.spl_typer.specs.Answers.{◌>>=◌}
+use Rattle.expression_typer.specs.declared.fault.TypeFault.{TypeFault}
+use Rattle.expression_typer.specs.Answers.{◌>>=◌}
 use Rattle.spl_typer.specs.Walk.{Made, give}
-
-abbrev pub onto : List Form → Formulas → Formulas
-onto [] gs = gs
-onto (f ∷ fs) gs = more (plain f) (onto fs gs)
-
-abbrev pub onto_all : List Form → Result Formulas TypeFault → Result Formulas TypeFault
-onto_all fs r = r >>= λ gs. Ok (onto fs gs)
 
 abbrev pub statements_onto : List Stmt → Statements → Statements
 statements_onto [] rest = rest

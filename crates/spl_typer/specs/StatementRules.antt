@@ -8,18 +8,19 @@ use Rattle.st_reading.specs.Reading.{Label}
 use Rattle.st_program.specs.Tree.{Term, Pieces}
 use Rattle.expression_parser.specs.ExpressionTree.{Expr, start_of}
 use Rattle.spl_parser.specs.ProgramTree as raw
-use Rattle.spl_typer.specs.declared.fault.TypeFault.{TypeFault}
-use Rattle.spl_typer.specs.declared.fault.TypeFault.TheVariants as faults
+use Rattle.expression_typer.specs.declared.fault.TypeFault.{TypeFault}
+use Rattle.expression_typer.specs.declared.fault.TypeFault.TheVariants as faults
 use Rattle.spl_typer.specs.declared.walk.Mark.{Mark}
 use Rattle.spl_typer.specs.declared.walk.Mark.TheVariants as marks
 use Rattle.spl_typer.specs.declared.statement.Here.{Here}
-use Rattle.spl_typer.specs.Answers.{◌>>=◌}
-use Rattle.spl_typer.specs.Scope.{Known, find}
-use Rattle.spl_typer.specs.Rules.{meaning, faults_in, not_number, not_truth}
+use Rattle.expression_typer.specs.Answers.{◌>>=◌}
+use Rattle.expression_typer.specs.Scope.{Known, find}
+use Rattle.expression_typer.specs.Rules.{meaning, faults_in, not_number, not_truth}
 use Rattle.spl_typer.specs.Walk.{State, is_declared, with_name, next_location, next_occurrence, with_weight}
-use Rattle.spl_typer.specs.Statements.{is_target, pieces_along}
+use Rattle.spl_typer.specs.Statements.{is_target, pieces_inside}
 use Rattle.spl_typer.specs.Groups.{grouped}
-use Rattle.spl_typer.specs.Walking.{fresh, beneath, some_statement, some_body}
+use Rattle.spl_typer.specs.Shapes.{some_statement, two_statements, two_bodies}
+use Rattle.spl_typer.specs.Walking.{fresh, beneath}
 
 abbrev pub Faults : Type 0
 Faults = List TypeFault
@@ -86,7 +87,7 @@ abbrev mutual
   pieces_faults s place (raw.assign_all ns list es) = assign_faults s ns list es
   pieces_faults s place (raw.await e) = test_faults s e
   pieces_faults s place (raw.conditional e y other) = test_faults s e ++ (piece_faults s y ++ other_faults s other)
-  pieces_faults s place (raw.block ss) = row_pieces_faults s ss
+  pieces_faults s place (raw.block ss) = unless (some_statement ss) (faults.Limit limits.Statements place) ++ row_pieces_faults s ss
   pieces_faults s place _ = faults.Limit limits.Statements place ∷ []
 
   pub other_faults : List Known → raw.Branch → Faults
@@ -96,6 +97,9 @@ abbrev mutual
   pub row_pieces_faults : List Known → raw.Statements → Faults
   row_pieces_faults s raw.no_statements = []
   row_pieces_faults s (raw.followed x xs) = piece_faults s x ++ row_pieces_faults s xs
+
+abbrev pub inside_faults : List Known → ℕ → raw.Statements → Faults
+inside_faults s place ss = unless (some_statement ss) (faults.Limit limits.Statements place) ++ row_pieces_faults s ss
 
 abbrev pub faults_of : {X : Type 0} → Result X TypeFault → Faults
 faults_of (Ok x) = []
@@ -112,7 +116,7 @@ weight_or w (Err f) = w
 
 -- the weight of all groups behind this one
 abbrev pub weight_behind : List Known → ℕ → raw.Statements → ℕ → ℕ
-weight_behind s place ss w = weight_or w (pieces_along s ss >>= λ xs. grouped place xs w)
+weight_behind s place ss w = weight_or w (pieces_inside s place ss >>= λ xs. grouped place xs w)
 
 -- a name that was declared before
 abbrev pub twice : Option Label → State → Faults
@@ -196,10 +200,11 @@ abbrev mutual
   action_faults s l head place (raw.forever y) st = where_true head (faults.SelectHead place) ++ statement_faults s fresh y st
   action_faults s l head place (raw.block ss) st =
       unless (some_statement ss) (faults.Limit limits.Statements place) ++ row_faults s (beneath l head) fresh ss st
-  action_faults s l head place (raw.select ss) st = row_faults s (beneath l true) (beneath l true) ss st
+  action_faults s l head place (raw.select ss) st =
+      unless (two_statements ss) (faults.Limit limits.Statements place) ++ row_faults s (beneath l true) (beneath l true) ss st
   action_faults s l head place (raw.cooperate bs) st =
-      unless (some_body bs) (faults.Limit limits.Statements place) ++ bodies_faults s bs st
-  action_faults s l head place (raw.group ss) st = row_pieces_faults s ss ++ limit_faults place st.weight (pieces_along s ss)
+      unless (two_bodies bs) (faults.Limit limits.Statements place) ++ bodies_faults s bs st
+  action_faults s l head place (raw.group ss) st = inside_faults s place ss ++ limit_faults place st.weight (pieces_inside s place ss)
   action_faults s l head place raw.skip st = []
   action_faults s l head place _ st = []
 
@@ -217,5 +222,6 @@ abbrev mutual
 
   pub body_faults : List Known → raw.Body → State → Faults
   body_faults s (raw.body ss end) st =
-      row_faults s fresh fresh ss st
-      ++ (location_faults None 0 (behind_row s None None ss st) ++ twice end (next_location (behind_row s None None ss st)))
+      unless (some_statement ss) (faults.Limit limits.Statements 0)
+      ++ (row_faults s fresh fresh ss st
+      ++ (location_faults None 0 (behind_row s None None ss st) ++ twice end (next_location (behind_row s None None ss st))))

@@ -6,11 +6,12 @@ use Rattle.st_reading.specs.Reading.{Label}
 use Rattle.st_program.specs.Tree.{Term, number, truth, Piece, Pieces, piece_skip, piece_assign, piece_await, piece_if, no_piece, piece}
 use Rattle.expression_parser.specs.ExpressionTree.{Expr, start_of}
 use Rattle.spl_parser.specs.ProgramTree as raw
-use Rattle.spl_typer.specs.declared.fault.TypeFault.{TypeFault}
-use Rattle.spl_typer.specs.declared.fault.TypeFault.TheVariants as faults
-use Rattle.spl_typer.specs.Answers.{◌>>=◌}
-use Rattle.spl_typer.specs.Scope.{Known, find}
-use Rattle.spl_typer.specs.Typing.{typed, as_number, as_truth}
+use Rattle.expression_typer.specs.declared.fault.TypeFault.{TypeFault}
+use Rattle.expression_typer.specs.declared.fault.TypeFault.TheVariants as faults
+use Rattle.expression_typer.specs.Answers.{◌>>=◌}
+use Rattle.expression_typer.specs.Scope.{Known, find}
+use Rattle.expression_typer.specs.Typing.{typed, as_number, as_truth}
+use Rattle.spl_typer.specs.Shapes.{something, some_statement}
 
 -- a test
 abbrev pub tested : List Known → Expr → Result Formula TypeFault
@@ -81,7 +82,7 @@ abbrev mutual
   pieces_in s place (raw.await e) = tested s e >>= λ f. alone (piece_await f)
   pieces_in s place (raw.conditional e y other) =
       tested s e >>= λ f. pieces_of s y >>= λ ys. other_pieces s other >>= λ ns. alone (piece_if f ys ns)
-  pieces_in s place (raw.block ss) = pieces_along s ss
+  pieces_in s place (raw.block ss) = something (some_statement ss) place >>= λ _. pieces_along s ss
   pieces_in s place _ = Err (faults.Limit limits.Statements place)
 
   pub other_pieces : List Known → raw.Branch → Result Pieces TypeFault
@@ -91,3 +92,7 @@ abbrev mutual
   pub pieces_along : List Known → raw.Statements → Result Pieces TypeFault
   pieces_along s raw.no_statements = Ok no_piece
   pieces_along s (raw.followed x xs) = pieces_of s x >>= λ ys. pieces_along s xs >>= λ zs. Ok (pieces_behind ys zs)
+
+-- what stands in a group
+abbrev pub pieces_inside : List Known → ℕ → raw.Statements → Result Pieces TypeFault
+pieces_inside s place ss = something (some_statement ss) place >>= λ _. pieces_along s ss

@@ -8,9 +8,9 @@ use Rattle.st_form.specs.declared.variables.Variable.{Variable}
 use Rattle.st_program.specs.Tree.{Term, number, truth, Pieces}
 use Rattle.st_program.specs.Types.{PiecesFit}
 use Rattle.st_program.specs.Groups.{Link, tested, given, paths_along}
-use Rattle.spl_typer.specs.declared.fault.TypeFault.{TypeFault}
-use Rattle.spl_typer.specs.declared.fault.TypeFault.TheVariants as faults
-use Rattle.spl_typer.specs.Written.{is_writable}
+use Rattle.expression_typer.specs.declared.fault.TypeFault.{TypeFault}
+use Rattle.expression_typer.specs.declared.fault.TypeFault.TheVariants as faults
+use Rattle.expression_typer.specs.Written.{is_writable}
 use Rattle.spl_typer.specs.Groups.{Numbers, numbers_put, grouped}
 
 abbrev pub with_form : Option Linear → ℤ → Linear → Linear

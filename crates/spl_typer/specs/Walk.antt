@@ -3,12 +3,12 @@ use Rattle.std.specs.Prelude.{◌≡◌, ℕ, suc, ◌-◌, ◌^◌, Bool, true,
 use Rattle.std.specs.Str.{bytes_eq}
 use Rattle.st_tokens.specs.declared.limit.LimitKind.TheVariants as limits
 use Rattle.st_reading.specs.Reading.{Label}
-use Rattle.spl_typer.specs.declared.fault.TypeFault.{TypeFault}
-use Rattle.spl_typer.specs.declared.fault.TypeFault.TheVariants as faults
+use Rattle.expression_typer.specs.declared.fault.TypeFault.{TypeFault}
+use Rattle.expression_typer.specs.declared.fault.TypeFault.TheVariants as faults
 use Rattle.spl_typer.specs.declared.walk.Mark.{Mark}
 use Rattle.spl_typer.specs.declared.walk.Entry as declared
 use Rattle.spl_typer.specs.declared.walk.Walk.{Walk}
-use Rattle.spl_typer.specs.Answers.{◌>>=◌, Fails}
+use Rattle.expression_typer.specs.Answers.{◌>>=◌, Fails}
 
 -- a declared name, and what it stands for
 pub record Entry : Type 0 where

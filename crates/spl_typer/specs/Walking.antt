@@ -6,13 +6,14 @@ use Rattle.st_reading.specs.Reading.{Label}
 use Rattle.st_program.specs.Tree.{Statement, stated, Action, Statements, no_statement, statement, Process, process, Processes, no_process, beside}
 use Rattle.st_program.specs.Tree as tree
 use Rattle.spl_parser.specs.ProgramTree as raw
-use Rattle.spl_typer.specs.declared.fault.TypeFault.{TypeFault}
-use Rattle.spl_typer.specs.declared.fault.TypeFault.TheVariants as faults
+use Rattle.expression_typer.specs.declared.fault.TypeFault.{TypeFault}
+use Rattle.expression_typer.specs.declared.fault.TypeFault.TheVariants as faults
 use Rattle.spl_typer.specs.declared.statement.Here.{Here}
 use Rattle.spl_typer.specs.declared.walk.Mark.TheVariants as marks
-use Rattle.spl_typer.specs.Answers.{◌>>=◌}
-use Rattle.spl_typer.specs.Scope.{Known}
-use Rattle.spl_typer.specs.Statements.{tested, target, counter, right_side, assigned, pieces_along}
+use Rattle.expression_typer.specs.Answers.{◌>>=◌}
+use Rattle.expression_typer.specs.Scope.{Known}
+use Rattle.spl_typer.specs.Shapes.{something, some_statement, two_statements, two_bodies}
+use Rattle.spl_typer.specs.Statements.{tested, target, counter, right_side, assigned, pieces_inside}
 use Rattle.spl_typer.specs.Groups.{grouped}
 use Rattle.spl_typer.specs.Walk.{State, Made, give, declared_as, new_location, new_occurrence, with_weight}
 
@@ -34,18 +35,6 @@ labelled (Some n) l o st = declared_as n (marks.Label l o) st
 -- no branch of a selection begins with a loop
 abbrev pub no_loop : Bool → ℕ → Result (Unit {0}) TypeFault
 no_loop head place = if head then Err (faults.SelectHead place) else Ok tt
-
--- every text has something in a block, a cooperation and a program
-abbrev pub something : Bool → ℕ → Result (Unit {0}) TypeFault
-something there place = if there then Ok tt else Err (faults.Limit limits.Statements place)
-
-abbrev pub some_statement : raw.Statements → Bool
-some_statement raw.no_statements = false
-some_statement (raw.followed x xs) = true
-
-abbrev pub some_body : raw.Bodies → Bool
-some_body raw.no_bodies = false
-some_body (raw.beside x xs) = true
 
 -- a conditional whose second branch was typed
 abbrev pub with_else : Formula → Statement → Result (Made Statement) TypeFault → Result (Made Action) TypeFault
@@ -77,11 +66,12 @@ abbrev mutual
   acting s l head place (raw.block ss) st =
       something (some_statement ss) place >>= λ _. along s (beneath l head) fresh ss st >>= λ a. give (tree.block a.made) a.after
   acting s l head place (raw.select ss) st =
-      along s (beneath l true) (beneath l true) ss st >>= λ a. give (tree.select a.made) a.after
+      something (two_statements ss) place >>= λ _. along s (beneath l true) (beneath l true) ss st >>= λ a.
+      give (tree.select a.made) a.after
   acting s l head place (raw.cooperate bs) st =
-      something (some_body bs) place >>= λ _. inside s bs st >>= λ a. give (tree.cooperate a.made) a.after
+      something (two_bodies bs) place >>= λ _. inside s bs st >>= λ a. give (tree.cooperate a.made) a.after
   acting s l head place (raw.group ss) st =
-      pieces_along s ss >>= λ xs. grouped place xs st.weight >>= λ w. give (tree.group xs) (with_weight w st)
+      pieces_inside s place ss >>= λ xs. grouped place xs st.weight >>= λ w. give (tree.group xs) (with_weight w st)
 
   pub branched : List Known → Formula → Statement → raw.Branch → State → Result (Made Action) TypeFault
   branched s f y raw.no_branch st = give (tree.if_then f y) st
@@ -101,5 +91,5 @@ abbrev mutual
   -- a process's or child's body, and the location of its end
   pub bodied : List Known → raw.Body → State → Result (Made Process) TypeFault
   bodied s (raw.body ss end) st =
-      along s fresh fresh ss st >>= λ a. new_location 0 a.after >>= λ l.
+      something (some_statement ss) 0 >>= λ _. along s fresh fresh ss st >>= λ a. new_location 0 a.after >>= λ l.
       labelled end l.made None l.after >>= λ st1. give (process a.made l.made) st1

@@ -5,15 +5,15 @@
 
 ghost use Rattle.std.specs.Prelude.{◌≡◌, map, Ok, []};
 ghost use Rattle.st_program.specs.Plain.{plain_term, plain_targets, plain_pieces};
-ghost use Rattle.spl_typer.specs.Answers.{Gives};
+ghost use Rattle.expression_typer.specs.Answers.{Gives};
 ghost use Rattle.spl_typer.specs.Groups as rules;
 ghost use Rattle.spl_typer.specs.Measured as told;
 ghost use Rattle.spl_typer.specs.GroupViews.{link_view, path_view, path_views, measure_view};
 
-use crate::fault::TypeFault;
 use crate::measure::{Size, sized};
 use crate::numbers::{all_small, composed_number, insert};
 use crate::paths::{Link, count_along, paths_along};
+use expression_typer::TypeFault;
 use st_form::Lin;
 use st_program::{Inner, Value};
 use st_tokens::LimitKind;

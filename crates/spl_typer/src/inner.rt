@@ -2,13 +2,13 @@
 
 ghost use Rattle.st_program.specs.Plain.{plain_pieces};
 ghost use Rattle.spl_parser.specs.ProgramTree.{statement_view, statement_views, statements, action_view};
-ghost use Rattle.spl_typer.specs.Answers.{Gives};
-ghost use Rattle.spl_typer.specs.Scope.{scope_view};
+ghost use Rattle.expression_typer.specs.Answers.{Gives};
+ghost use Rattle.expression_typer.specs.Scope.{scope_view};
 ghost use Rattle.spl_typer.specs.Statements.{pieces_of, pieces_in, pieces_along};
 
-use crate::fault::TypeFault;
 use crate::parts::{assigned, right_side, target, tested};
-use crate::scope::Known;
+use crate::shapes::{some_statement, something};
+use expression_typer::{Known, TypeFault};
 use spl_parser::{RawKind, RawStatement};
 use st_program::Inner;
 use st_tokens::LimitKind;
@@ -65,7 +65,10 @@ fn pieces_in<'a>(
             };
             Ok(vec![in alloc; Inner::If { test, yes, no }]?)
         }
-        RawKind::Block(items) => pieces_along(alloc, scope, items),
+        RawKind::Block(items) => {
+            something(some_statement(items), place)?;
+            pieces_along(alloc, scope, items)
+        }
         _ => Err(TypeFault::Limit(LimitKind::Statements, place)),
     }
 }

@@ -2,22 +2,17 @@
 #![tactic(auto)]
 
 mod composing;
-mod expr;
-mod fault;
 mod inner;
 pub mod laws;
-mod linear;
 mod measure;
 mod names;
 mod numbers;
 mod parts;
 mod paths;
 mod program;
-mod scope;
+mod shapes;
 mod statement;
 mod walk;
 
-pub use expr::{as_number, as_truth, typed_by, typed_expression};
-pub use fault::TypeFault;
+pub use expression_typer::TypeFault;
 pub use program::type_program;
-pub use scope::{Known, Naming};

@@ -4,11 +4,11 @@
 
 ghost use Rattle.std.specs.Prelude.{◌≡◌, length};
 ghost use Rattle.st_form.specs.Plain.{plain, plain_list};
-ghost use Rattle.spl_typer.specs.Answers.{Gives};
+ghost use Rattle.expression_typer.specs.Answers.{Gives};
 ghost use Rattle.spl_typer.specs.Measured.{no_size, leaf, row_size, both, size_for, sized, all_sized};
 
-use crate::fault::TypeFault;
 use crate::numbers::small_or;
+use expression_typer::TypeFault;
 use st_form::{Form, Lin};
 use std::alloc::Global;
 

@@ -2,12 +2,13 @@
 
 ghost use Rattle.std.specs.Prelude.{◌≡◌, [], map};
 ghost use Rattle.std.specs.String.{string_bytes};
-ghost use Rattle.spl_typer.specs.Answers.{Gives};
+ghost use Rattle.expression_typer.specs.Answers.{Gives};
 ghost use Rattle.spl_typer.specs.Walk.{entries};
-ghost use Rattle.spl_typer.specs.Programs.{is_text, text_of, variables_of, labels_of};
+ghost use Rattle.expression_typer.specs.Naming.{is_text};
+ghost use Rattle.spl_typer.specs.Programs.{text_of, variables_of, labels_of};
 
-use crate::fault::TypeFault;
 use crate::walk::{Entry, Mark};
+use expression_typer::TypeFault;
 use st_tokens::LimitKind;
 use std::alloc::Global;
 

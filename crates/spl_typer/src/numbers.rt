@@ -5,13 +5,12 @@ ghost use Rattle.st_linear.specs.Answers as sums;
 ghost use Rattle.st_linear.specs.Linear.{Linear};
 ghost use Rattle.st_program.specs.Plain.{plain_targets};
 ghost use Rattle.st_program.specs.Groups.{inserted};
-ghost use Rattle.spl_typer.specs.Answers.{Gives};
+ghost use Rattle.expression_typer.specs.Answers.{Gives};
 ghost use Rattle.spl_typer.specs.Groups as rules;
 ghost use Rattle.spl_typer.specs.GroupViews.{link_view, path_views};
 
-use crate::fault::TypeFault;
-use crate::linear::written;
 use crate::paths::Link;
+use expression_typer::{TypeFault, written};
 use st_form::{Lin, LinFault};
 use st_program::Value;
 use std::alloc::{AllocError, Global};

@@ -5,13 +5,11 @@ ghost use Rattle.st_form.specs.Plain.{plain};
 ghost use Rattle.st_program.specs.Plain.{plain_term, plain_target, plain_targets};
 ghost use Rattle.st_reading.specs.Faults.{name_view};
 ghost use Rattle.expression_parser.specs.ExpressionTree.{expr_view};
-ghost use Rattle.spl_typer.specs.Answers.{Gives};
-ghost use Rattle.spl_typer.specs.Scope.{scope_view, known_view};
+ghost use Rattle.expression_typer.specs.Answers.{Gives};
+ghost use Rattle.expression_typer.specs.Scope.{scope_view, known_view};
 ghost use Rattle.spl_typer.specs.Statements.{tested, target, counter, wanted, right_side, is_target, targets, changes, assigned};
 
-use crate::expr::{as_number, as_truth, typed_expression};
-use crate::fault::TypeFault;
-use crate::scope::{Known, find};
+use expression_typer::{Known, TypeFault, as_number, as_truth, find, typed_expression};
 use spl_parser::{RawExpr, RawName};
 use st_form::Form;
 use st_program::Value;

@@ -3,7 +3,7 @@
 ghost use Rattle.std.specs.Prelude.{map};
 ghost use Rattle.st_reading.specs.Faults.{name_view};
 ghost use Rattle.spl_parser.specs.ProgramTree.{declaration_view, declaration_views, process_view, process_views, program_view};
-ghost use Rattle.spl_typer.specs.Answers.{Gives};
+ghost use Rattle.expression_typer.specs.Answers.{Gives};
 ghost use Rattle.st_form.specs.Formula.{every, formulas};
 ghost use Rattle.st_form.specs.Plain.{plain};
 ghost use Rattle.st_program.specs.Plain.{plain_child};
@@ -11,12 +11,11 @@ ghost use Rattle.st_program.specs.Programs.{IsProgram, View};
 ghost use Rattle.spl_typer.specs.Walk.{entries};
 ghost use Rattle.spl_typer.specs.Programs.{heading, named_in, names_in, declaration_in, declarations_in, process_in, processes_in, heading_of, nothing_met, Leads, names_of, side_by_side, typing, typed_view, Apart};
 
-use crate::fault::TypeFault;
 use crate::names::{labels_of, variables_of};
 use crate::parts::tested;
-use crate::scope::Known;
 use crate::statement::body;
 use crate::walk::{Entry, Mark, Walk};
+use expression_typer::{Known, TypeFault};
 use spl_parser::{RawDeclaration, RawName, RawProcess, RawProgram};
 use st_form::{Form, Variable};
 use st_program::{Child, NameTable, Program};
@@ -131,6 +130,9 @@ fn typed_program<'a>(alloc: Global, raw: &RawProgram<'a>) -> Result<Head<'a>, Ty
     ensures { Gives heading result (heading_of (program_view raw.now)) }
 {
     if raw.processes.is_empty() {
+        return Err(TypeFault::Limit(LimitKind::Processes, 0));
+    }
+    if raw.processes.as_slice().len() > 16 {
         return Err(TypeFault::Limit(LimitKind::Processes, 0));
     }
     let mut head = Head {

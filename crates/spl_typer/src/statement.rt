@@ -1,29 +1,28 @@
 //! Statements.
 
-ghost use Rattle.spl_typer.specs.declared.fault.TypeFault.{TypeFault};
+ghost use Rattle.expression_typer.specs.declared.fault.TypeFault.{TypeFault};
 ghost use Rattle.std.specs.Prelude.{◌≡◌, ◌++◌, [], ◌∷◌, true, false, Some, None, Ok, ℕ, Result, map, is_some};
 ghost use Rattle.st_form.specs.Formula.{truth_value};
 ghost use Rattle.st_form.specs.Plain.{plain};
 ghost use Rattle.st_program.specs.Plain.{plain_stmt, plain_kind, plain_stmts, plain_children, plain_child, plain_pieces};
 ghost use Rattle.st_program.specs.Tree as tree;
 ghost use Rattle.spl_parser.specs.ProgramTree.{statement_view, statement_views, statements, action_view, body_view, body_views, bodies, label_view, option_branch};
-ghost use Rattle.spl_typer.specs.Answers.{Gives};
-ghost use Rattle.spl_typer.specs.Scope.{scope_view};
+ghost use Rattle.expression_typer.specs.Answers.{Gives};
+ghost use Rattle.expression_typer.specs.Scope.{scope_view};
 ghost use Rattle.spl_typer.specs.Walk.{state, State, Makes, Made, Moves, give};
-ghost use Rattle.spl_typer.specs.Statements.{pieces_of, pieces_in, pieces_along, other_pieces};
-ghost use Rattle.spl_typer.specs.Walking.{fresh, beneath, location, labelled, no_loop, something, some_statement, some_body, with_else, walked, acting, branched, along, inside, bodied};
+ghost use Rattle.spl_typer.specs.Statements.{pieces_of, pieces_in, pieces_inside, pieces_along, other_pieces};
+ghost use Rattle.spl_typer.specs.Shapes.{something, some_statement, two_statements, two_bodies};
+ghost use Rattle.spl_typer.specs.Walking.{fresh, beneath, location, labelled, no_loop, with_else, walked, acting, branched, along, inside, bodied};
 
 use crate::composing::grouped;
-use crate::expr::truth;
-use crate::fault::TypeFault;
 use crate::inner::pieces_along;
 use crate::parts::{assigned, counter, right_side, target, tested};
-use crate::scope::Known;
+use crate::shapes::{some_statement, something, two_bodies, two_statements};
 use crate::walk::{Mark, Walk};
+use expression_typer::{Known, TypeFault, truth};
 use spl_parser::{RawBody, RawKind, RawName, RawStatement};
 use st_form::Form;
 use st_program::{Child, Kind, Stmt};
-use st_tokens::LimitKind;
 use std::alloc::Global;
 
 /// Where a statement stands: the location that it takes over, and whether a branch of a selection begins with it.
@@ -83,28 +82,6 @@ fn no_loop(head: bool, place: u64) -> Result<(), TypeFault>
     } else {
         Ok(())
     }
-}
-
-fn something(there: bool, place: u64) -> Result<(), TypeFault>
-    ensures { Gives (λ x. x) result (something there place) }
-{
-    if there {
-        Ok(())
-    } else {
-        Err(TypeFault::Limit(LimitKind::Statements, place))
-    }
-}
-
-fn some_statement(items: &[RawStatement]) -> bool
-    ensures { result ≡ some_statement (statements (statement_views items.now)) }
-{
-    !items.is_empty()
-}
-
-fn some_body(raws: &[RawBody]) -> bool
-    ensures { result ≡ some_body (bodies (body_views raws.now)) }
-{
-    !raws.is_empty()
 }
 
 /// A conditional whose second branch was typed.
@@ -221,15 +198,17 @@ fn acting<'a>(
             Ok(Kind::Block(items))
         }
         RawKind::Select(items) => {
+            something(two_statements(items), place)?;
             let branch = beneath(loc, true);
             let items = along(alloc, scope, walk, branch, branch, items)?;
             Ok(Kind::Select(items))
         }
         RawKind::Cooperate(bodies) => {
-            something(some_body(bodies), place)?;
+            something(two_bodies(bodies), place)?;
             Ok(Kind::Cooperate(inside(alloc, scope, walk, bodies)?))
         }
         RawKind::Group(items) => {
+            something(some_statement(items), place)?;
             let pieces = pieces_along(alloc, scope, items)?;
             let weight = grouped(alloc, place, &pieces, walk.weight)?;
             walk.weigh(weight);
@@ -290,6 +269,7 @@ pub fn body<'a>(
 ) -> Result<Child, TypeFault>
     ensures { Makes plain_child result (state walk.new) (bodied (scope_view scope.now) (body_view raw.now) (state walk.old)) }
 {
+    something(some_statement(&raw.statements), 0)?;
     let statements = along(alloc, scope, walk, fresh(), fresh(), &raw.statements)?;
     let end = walk.location(0)?;
     labelled(walk, &raw.end, end, None)?;

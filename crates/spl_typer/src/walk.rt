@@ -4,7 +4,7 @@ ghost use Rattle.std.specs.Prelude.{◌≡◌};
 ghost use Rattle.st_reading.specs.Faults.{name_view};
 ghost use Rattle.spl_typer.specs.Walk.{state, entries, is_declared, declared_as, Makes, Moves, new_location, new_occurrence, with_weight};
 
-use crate::fault::TypeFault;
+use expression_typer::TypeFault;
 use spl_parser::RawName;
 use st_tokens::LimitKind;
 

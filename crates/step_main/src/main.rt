@@ -9,8 +9,13 @@ use host_sink::HostSink;
 use st_memory::Memory;
 use st_outside::OpenGate;
 use std::process::ExitCode;
+use std::thread::Builder;
 use std::{env, io};
 use step_run::{Status, step_run};
+
+/// Bytes of stack. A group of 398 assignments, each of which nests the value before it 32 levels deep, composes formulas
+/// that are some 30,000 nodes deep; a call for each node takes less than 4 KiB.
+const STACK: usize = 1 << 28;
 
 /// The words, the program's name first. Where one of them is no text there are none, which is a faulty command line.
 fn words(rt: &HostRuntime) -> Result<Vec<String>, Memory> {
@@ -30,12 +35,18 @@ fn words(rt: &HostRuntime) -> Result<Vec<String>, Memory> {
     Ok(words)
 }
 
+/// The run goes on a thread for the sake of its stack. Where none can be made, memory was refused.
 fn main(rt: HostRuntime) -> ExitCode {
-    let Ok(words) = words(&rt) else {
-        return ExitCode::from(Status::Memory.number());
+    let run = move || -> u8 {
+        let Ok(words) = words(&rt) else {
+            return Status::Memory.number();
+        };
+        let mut files = HostFiles::new(&rt, &words);
+        let mut out = HostSink::new(io::writer(&rt));
+        step_run(&rt, rt.alloc(), &words, &mut files, &mut out, &OpenGate).number()
     };
-    let mut files = HostFiles::new(&rt, &words);
-    let mut out = HostSink::new(io::writer(&rt));
-    let status = step_run(&rt, rt.alloc(), &words, &mut files, &mut out, &OpenGate);
-    ExitCode::from(status.number())
+    match Builder::new().stack_size(STACK).spawn(&rt, run) {
+        Ok(thread) => ExitCode::from(thread.join(&rt)),
+        Err(_) => ExitCode::from(Status::Memory.number()),
+    }
 }

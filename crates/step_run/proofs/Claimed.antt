@@ -6,15 +6,16 @@ use Rattle.st_form.specs.declared.variables.Variable.{Variable}
 use Rattle.st_reading.specs.declared.mark.Mark.TheVariants as marks
 use Rattle.st_reading.specs.Reading.{◌>>=◌, expected, named, at_end}
 use Rattle.expression_parser.specs.Reading.{below, expression_of}
-use Rattle.spl_typer.specs.Scope.{Names}
+use Rattle.expression_typer.specs.Scope.{Names}
 use Rattle.spl_typer.specs.Programs.{Typed}
 use Rattle.transition_system.specs.Bounds.{FormulaWithin, FormulasWithin}
 use Rattle.spl_translation.proofs.Fitted.{types, type_there, linear_within}
-use Rattle.assertions.specs.Naming.{names_of}
+use Rattle.expression_typer.specs.Naming.{names_of}
 use Rattle.assertions.specs.Reading.{Answer, form_of}
-use Rattle.assertions.specs.Over.{FormulaOver, FormulasOver, NamesOver}
+use Rattle.expression_typer.specs.Naming.{NamesOver}
+use Rattle.assertions.specs.Over.{FormulaOver, FormulasOver}
 use Rattle.assertions.proofs.Over.{form_over}
-use Rattle.assertions.proofs.Tabled.{names_stand}
+use Rattle.spl_typer.proofs.Tabled.{names_stand}
 use Rattle.step_run.specs.Source.{IsSpelled}
 use Rattle.step_run.specs.ProofText.{Goal, Taken, taken, claimed, unless, begins_otherwise, has_rule, has_step, step_of, alone, goal_spelled, IsGoal}
 use Rattle.step_run.proofs.Typed.{from_text}

@@ -15,7 +15,7 @@ use Rattle.step_run.specs.declared.refusals.Refusal.{Refusal}
 use Rattle.step_run.specs.declared.refusals.Refusal.TheVariants as texts
 use Rattle.step_run.specs.declared.status.Status.{Status}
 use Rattle.step_run.specs.declared.status.Status.TheVariants.{Proved}
-use Rattle.assertions.specs.Naming.{names_of}
+use Rattle.expression_typer.specs.Naming.{names_of}
 use Rattle.step_run.specs.Source.{source_spelled}
 use Rattle.step_run.specs.ProofText.{Goal, goal_spelled}
 use Rattle.step_run.specs.Conditions.{drafts, conditions_of, setting_of}

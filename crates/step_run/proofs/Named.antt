@@ -6,7 +6,7 @@ use Rattle.vc_generator.specs.Refusing.{refusals}
 use Rattle.spl_typer.specs.Programs.{Typed}
 use Rattle.step_run.specs.declared.status.FileRole.{FileRole}
 use Rattle.step_run.specs.declared.refusals.Refusal.{Refusal}
-use Rattle.assertions.specs.Naming.{names_of}
+use Rattle.expression_typer.specs.Naming.{names_of}
 use Rattle.step_run.specs.Source.{source_spelled}
 use Rattle.step_run.specs.ProofText.{Goal, goal_spelled}
 use Rattle.step_run.specs.Conditions.{drafts}

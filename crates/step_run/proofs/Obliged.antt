@@ -26,7 +26,7 @@ use Rattle.obligation_laws.specs.Obligations.{AreValid, HoldsOnRuns}
 use Rattle.obligation_laws.proofs.Enough.{enough}
 use Rattle.obligation_laws.proofs.NarrowLists.{invariance-narrow}
 use Rattle.spl_typer.specs.Programs.{Typed}
-use Rattle.assertions.specs.Naming.{names_of}
+use Rattle.expression_typer.specs.Naming.{names_of}
 use Rattle.step_run.specs.Source.{IsSpelled}
 use Rattle.step_run.specs.ProofText.{Goal, IsGoal}
 use Rattle.step_run.specs.Conditions.{system_of, drafts, conditions_of, AreNarrow}

@@ -4,16 +4,15 @@ use Rattle.st_tokens.specs.declared.kind.TokenFault.{TokenFault}
 use Rattle.st_tokens.specs.declared.kind.TokenFault.TheVariants as tokens
 use Rattle.st_reading.specs.Reading.{Stop, syntax, broken, other, IsStop}
 use Rattle.st_reading.specs.Faults.{Passed, passed}
-use Rattle.st_program.specs.Locations.{SomeProcess}
 use Rattle.st_program.specs.Programs.{IsProgram}
 use Rattle.spl_parser.specs.ProgramTree as raw
 use Rattle.spl_parser.specs.Parsing.{parsed}
-use Rattle.spl_typer.specs.declared.fault.TypeFault.{TypeFault}
-use Rattle.spl_typer.specs.declared.fault.TypeFault.TheVariants as faults
-use Rattle.spl_typer.specs.Answers as typer
-use Rattle.spl_typer.specs.Programs.{Heading, heading_of, side_by_side, names_of, Typed, typing}
-use Rattle.spl_typer.proofs.Holding.{Holds, bound, anyway}
-use Rattle.spl_typer.proofs.Whole.{Sound, heading_sound, is_program}
+use Rattle.expression_typer.specs.declared.fault.TypeFault.{TypeFault}
+use Rattle.expression_typer.specs.declared.fault.TypeFault.TheVariants as faults
+use Rattle.expression_typer.specs.Answers as typer
+use Rattle.spl_typer.specs.Programs.{heading_of, names_of, Typed, typing}
+use Rattle.expression_typer.proofs.Holding.{Holds, bound, anyway}
+use Rattle.spl_typer.proofs.Whole.{Complete, heading_sound, is_program}
 use Rattle.step_run.specs.declared.refusals.Refusal.{Refusal}
 use Rattle.step_run.specs.Refusals.{of_token, of_stop, of_rule, IsRefusal, Fails}
 use Rattle.step_run.specs.Source.{source_typed, source_of, source_spelled, IsSpelled}
@@ -21,13 +20,9 @@ use Rattle.step_run.specs.Source.{source_typed, source_of, source_spelled, IsSpe
 abbrev pub IsWell : Typed → Type 0
 IsWell p = IsProgram p.variables p.initial p.processes p.locations p.statements
 
-abbrev Whole : Heading → Type 0
-Whole h = Sound h × SomeProcess (side_by_side h.processes)
-
 typing_well : (text : raw.Program) → Holds IsWell (typing text)
 typing_well text =
-    bound Whole IsWell (heading_of text) _ (heading_sound text)
-    (λ h k. anyway IsWell (names_of h.state.names) _ (λ names. is_program h k.0 k.1))
+    bound Complete IsWell (heading_of text) _ (heading_sound text) (λ h k. anyway IsWell (names_of h.state.names) _ (λ names. is_program h k))
 
 -- the program of a text
 pub record From (text : List ℕ) (p : Typed) : Type 0 where

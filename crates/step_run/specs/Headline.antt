@@ -10,7 +10,7 @@ use Rattle.temporal_goals.specs.Texts.{invariant}
 use Rattle.obligation_laws.specs.Obligations.{HoldsOnRuns}
 use Rattle.cert_text.specs.Held.{Held}
 use Rattle.cert_text.specs.Blank.{first_place, past_blanks}
-use Rattle.assertions.specs.Naming.{names_of}
+use Rattle.expression_typer.specs.Naming.{names_of}
 use Rattle.step_run.specs.ProofText.{Goal, goal_spelled}
 use Rattle.step_run.specs.Conditions.{conditions_of, setting_of}
 use Rattle.step_run.specs.Check.{whole_text, all_valid, checked_from}

@@ -17,7 +17,7 @@ use Rattle.spl_typer.specs.Programs.{Typed}
 use Rattle.cert_text.specs.Blank.{first_place, past_blanks}
 use Rattle.step_run.specs.declared.refusals.Refusal.{Refusal}
 use Rattle.step_run.specs.declared.refusals.Refusal.TheVariants as texts
-use Rattle.assertions.specs.Naming.{names_of}
+use Rattle.expression_typer.specs.Naming.{names_of}
 use Rattle.step_run.specs.Source.{source_spelled}
 use Rattle.step_run.specs.ProofText.{Goal, goal_spelled}
 use Rattle.step_run.specs.Conditions.{drafts, conditions_of, setting_of}

@@ -8,7 +8,7 @@ use Rattle.st_reading.specs.declared.mark.Mark.TheVariants as marks
 use Rattle.st_reading.specs.Sign.{is}
 use Rattle.st_reading.specs.Reading.{Read, ◌>>=◌, ahead, place_of, expected, named, at_end}
 use Rattle.st_reading.specs.Faults.{Passed}
-use Rattle.spl_typer.specs.Scope.{Names}
+use Rattle.expression_typer.specs.Scope.{Names}
 use Rattle.assertions.specs.Reading.{Answer, form_of}
 use Rattle.step_run.specs.declared.refusals.FaultKind.TheVariants as kinds
 use Rattle.step_run.specs.declared.refusals.Refusal.{Refusal}

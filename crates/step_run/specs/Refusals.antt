@@ -6,8 +6,8 @@ use Rattle.st_tokens.specs.declared.limit.LimitKind.TheVariants as limits
 use Rattle.st_tokens.specs.Stream.{Stream}
 use Rattle.st_reading.specs.Reading.{Stop, syntax, broken, other}
 use Rattle.st_reading.specs.Faults.{Passed, passed}
-use Rattle.spl_typer.specs.declared.fault.TypeFault.{TypeFault}
-use Rattle.spl_typer.specs.declared.fault.TypeFault.TheVariants as faults
+use Rattle.expression_typer.specs.declared.fault.TypeFault.{TypeFault}
+use Rattle.expression_typer.specs.declared.fault.TypeFault.TheVariants as faults
 use Rattle.assertions.specs.declared.fault.FormFault.{FormFault}
 use Rattle.assertions.specs.declared.fault.FormFault.TheVariants as forms
 use Rattle.step_run.specs.declared.refusals.FaultKind.TheVariants as kinds

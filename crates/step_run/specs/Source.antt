@@ -4,7 +4,7 @@ use Rattle.st_reading.specs.Reading.{Stop}
 use Rattle.st_reading.specs.Faults.{Passed}
 use Rattle.spl_parser.specs.ProgramTree as raw
 use Rattle.spl_parser.specs.Parsing.{parsed}
-use Rattle.spl_typer.specs.declared.fault.TypeFault.{TypeFault}
+use Rattle.expression_typer.specs.declared.fault.TypeFault.{TypeFault}
 use Rattle.spl_typer.specs.Programs.{Typed, typing}
 use Rattle.step_run.specs.declared.refusals.Refusal.{Refusal}
 use Rattle.step_run.specs.Refusals.{of_stop, of_rule}

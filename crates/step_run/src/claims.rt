@@ -7,7 +7,7 @@ ghost use Rattle.std.specs.Prelude.{◌≡◌};
 ghost use Rattle.st_tokens.specs.Stream.{stream};
 ghost use Rattle.st_reading.specs.declared.mark.Mark.TheVariants as marks;
 ghost use Rattle.st_reading.specs.Reading.{place_of, expected, at_end};
-ghost use Rattle.assertions.specs.Naming.{names_of};
+ghost use Rattle.expression_typer.specs.Naming.{names_of};
 ghost use Rattle.step_run.specs.Refusals.{Gives, Takes};
 ghost use Rattle.step_run.specs.ProofText.{begins_otherwise, has_rule, has_step, unless, step_of, goal_spelled};
 ghost use Rattle.step_run.specs.GoalView.{goal_of};

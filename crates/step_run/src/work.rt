@@ -3,7 +3,7 @@
 ghost use Rattle.std.specs.Prelude.{◌≡◌, ◌+◌, ◌≤◌, ◌^◌, ◌<◌, Ok, length, map, option_map, IfOk, true};
 ghost use Rattle.st_outside.specs.Faults.{NoneFell};
 ghost use Rattle.st_form.specs.Plain.{plain_condition};
-ghost use Rattle.assertions.specs.Naming.{names_of};
+ghost use Rattle.expression_typer.specs.Naming.{names_of};
 ghost use Rattle.step_run.specs.Asked.{Answers};
 ghost use Rattle.step_run.specs.Source.{IsSpelled, source_spelled};
 ghost use Rattle.step_run.specs.SourceView.{source_view};

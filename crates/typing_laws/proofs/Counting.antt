@@ -5,9 +5,9 @@ use Rattle.spl_parser.specs.ProgramTree as raw
 use Rattle.spl_parser.specs.Numbers.{in_statement, in_action, in_branch, in_statements, in_body, in_bodies}
 use Rattle.spl_typer.specs.declared.walk.Mark.{Mark}
 use Rattle.spl_typer.specs.declared.walk.Mark.TheVariants as marks
-use Rattle.spl_typer.specs.Scope.{Known}
+use Rattle.expression_typer.specs.Scope.{Known}
 use Rattle.spl_typer.specs.Walk.{Entry, State, with_name, next_location, next_occurrence}
-use Rattle.spl_typer.specs.Programs.{is_text}
+use Rattle.expression_typer.specs.Naming.{is_text}
 use Rattle.spl_typer.specs.StatementRules.{own_location, behind_location, begins, behind, behind_act, behind_branch, behind_row, behind_bodies, behind_body}
 use Rattle.typing_laws.proofs.Laying.{SomeStatements, StatementLaid, ActionLaid, BranchLaid, StatementsLaid, BodyLaid, BodiesLaid}
 
@@ -105,7 +105,7 @@ mutual
   action_grows s l place (raw.while_do e y) st to h = wider _ _ 1 0 st _ (omega arith) (omega arith) (statement_grows s None y st h.1 to h.3)
   action_grows s l place (raw.forever y) st to h = wider _ _ 1 0 st _ (omega arith) (omega arith) (statement_grows s None y st (suc place) to h.1)
   action_grows s l place (raw.block ss) st to h = row_grows s (Some l) None ss st (suc place) to h.1
-  action_grows s l place (raw.select ss) st to h = row_grows s (Some l) (Some l) ss st (suc place) to h.1
+  action_grows s l place (raw.select ss) st to h = row_grows s (Some l) (Some l) ss st (suc place) to h.2
   action_grows s l place (raw.cooperate bs) st to h = bodies_grow s bs st (suc place) to h.2
   action_grows s l place (raw.group ss) st to h = record { occ = omega arith; loc = omega arith; plain = λ p. p; among = refl }
 

@@ -7,16 +7,16 @@ use Rattle.expression_parser.specs.declared.raw.Operator.{Operator}
 use Rattle.expression_parser.specs.declared.raw.Operator.TheVariants as operators
 use Rattle.expression_parser.specs.ExpressionTree.{Expr, Kind, Exprs, start_of}
 use Rattle.expression_parser.specs.ExpressionTree as raw
-use Rattle.spl_typer.specs.declared.fault.TypeFault.{TypeFault}
-use Rattle.spl_typer.specs.declared.fault.TypeFault.TheVariants as faults
-use Rattle.spl_typer.specs.Scope.{Known, Names, only}
-use Rattle.spl_typer.specs.Written.{is_writable}
-use Rattle.spl_typer.specs.Typing.{typed, is_implication}
-use Rattle.spl_typer.specs.Rules.{number_in, not_number, not_truth, unknown, too_large, not_linear, operator_faults, form_of, meaning, meaning_by, faults_in, faults_by, kind_faults_by, all_faults_by}
-use Rattle.spl_typer.specs.Told.{Told, IsWritten}
+use Rattle.expression_typer.specs.declared.fault.TypeFault.{TypeFault}
+use Rattle.expression_typer.specs.declared.fault.TypeFault.TheVariants as faults
+use Rattle.expression_typer.specs.Scope.{Known, Names, only}
+use Rattle.expression_typer.specs.Written.{is_writable}
+use Rattle.expression_typer.specs.Typing.{typed, is_implication}
+use Rattle.expression_typer.specs.Rules.{number_in, not_number, not_truth, unknown, too_large, not_linear, operator_faults, form_of, meaning, meaning_by, faults_in, faults_by, kind_faults_by, all_faults_by}
+use Rattle.expression_typer.specs.Told.{Told, IsWritten}
 use Rattle.spl_typer.specs.StatementRules.{test_faults, side_faults}
-use Rattle.spl_typer.proofs.Tells.{told}
-use Rattle.spl_typer.proofs.Rising.{rises_by}
+use Rattle.expression_typer.proofs.Tells.{told}
+use Rattle.expression_typer.proofs.Rising.{rises_by}
 use Rattle.typing_laws.specs.Laws.{AreRules}
 use Rattle.typing_laws.proofs.Laying.{ExprLaid}
 use Rattle.typing_laws.proofs.Expressions.{start_behind, start_ahead}

@@ -6,12 +6,12 @@ use Rattle.st_reading.specs.declared.mark.Mark.TheVariants as marks
 use Rattle.st_reading.specs.declared.sign.Sign.{Sign}
 use Rattle.st_reading.specs.Spelling.{Items, no_items, item_more, row2}
 use Rattle.expression_parser.specs.declared.raw.Operator.{Operator}
-use Rattle.expression_parser.specs.ExpressionTree.{Expr, Exprs, Kind, node, numeral, truth, name, at, negation, negative, all, any, pair, none, one_more, exprs, kind_of, start_of, joined}
+use Rattle.expression_parser.specs.ExpressionTree.{Expr, Exprs, Kind, node, numeral, truth, name, at, negation, negative, all, any, pair, none, one_more, exprs, kind_of, start_of}
 use Rattle.expression_parser.specs.Signs.{product_sign, sum_sign}
-use Rattle.expression_parser.specs.Reading.{Level, formula, negated, signed}
+use Rattle.expression_parser.specs.Reading.{Level, formula, negated, signed, joined}
 use Rattle.expression_parser.specs.Grammar.{IsAtom, a_numeral, a_truth, a_name, a_place, a_group, IsUnary, minus, plain, Behind, stop, go, IsGrouped, grouping, IsChained, alone, chained, IsProduct, IsSum, IsComparison, sum, compare, IsNegation, tilde, straight, IsConjunction, IsDisjunction, IsExpression, disjunction, implication, Inside, SpellsWithin}
-use Rattle.spl_typer.specs.Placed.{IsPlaced, IsPlacedKind, ArePlaced}
-use Rattle.spl_typer.specs.Told.{IsModestKind, AreModest}
+use Rattle.expression_typer.specs.Placed.{IsPlaced, IsPlacedKind, ArePlaced}
+use Rattle.expression_typer.specs.Told.{IsModestKind, AreModest}
 use Rattle.typing_laws.proofs.Standing.{Stand, meet, stand_within}
 use Rattle.typing_laws.proofs.Laying.{ExprLaid}
 use Rattle.typing_laws.proofs.Numerals.{numeral_modest}

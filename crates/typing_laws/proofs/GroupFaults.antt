@@ -6,12 +6,12 @@ use Rattle.st_form.specs.Exchange.{Exchange, exchanged}
 use Rattle.st_tokens.specs.declared.limit.LimitKind.TheVariants as limits
 use Rattle.st_program.specs.Tree.{Term, number, truth, Pieces}
 use Rattle.st_program.specs.Groups.{Link, tested, given, paths_along, signed}
-use Rattle.spl_typer.specs.declared.fault.TypeFault.{TypeFault}
-use Rattle.spl_typer.specs.declared.fault.TypeFault.TheVariants as faults
-use Rattle.spl_typer.specs.Answers.{◌>>=◌}
-use Rattle.spl_typer.specs.Written.{is_writable, limited}
+use Rattle.expression_typer.specs.declared.fault.TypeFault.{TypeFault}
+use Rattle.expression_typer.specs.declared.fault.TypeFault.TheVariants as faults
+use Rattle.expression_typer.specs.Answers.{◌>>=◌}
+use Rattle.expression_typer.specs.Written.{is_writable, limited}
 use Rattle.spl_typer.specs.Groups.{Numbers, Composition, nothing, large_unless, limit_unless, composed_number, with_number, numbers_of, numbers_put, numbers_behind, numbers_on, all_small, few, composed_formula, term_on, terms_on, put_all, met, guarded, link_on, path_on, with_path, with_paths, grouped}
-use Rattle.spl_typer.specs.Placed.{place}
+use Rattle.expression_typer.specs.Placed.{place}
 use Rattle.spl_typer.specs.StatementRules.{faults_of}
 use Rattle.typing_laws.specs.Laws.{IsRule}
 use Rattle.typing_laws.proofs.Ordering.{Ordered, alone}

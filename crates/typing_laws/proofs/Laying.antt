@@ -1,12 +1,12 @@
--- Trees as they lie in a text: places rise, numerals are those that a text may have, names are ASCII, and no block and no
--- cooperation is empty. `inner` is what stands inside a group.
+-- Trees as they lie in a text: places rise, numerals are those that a text may have, names are ASCII, no body, block or group is
+-- empty, and selections and cooperations have two parts. `inner` is what stands inside a group.
 use Rattle.std.proofs.Common.{◌≡◌, ℕ, suc, ◌<◌, ◌≤◌, Bool, true, false, List, [], ◌∷◌, Option, Some, None}
 use Rattle.st_reading.specs.Reading.{Label}
 use Rattle.expression_parser.specs.ExpressionTree.{Expr}
 use Rattle.spl_parser.specs.ProgramTree.{Statement, stated, Action, skip, critical, noncritical, assign, assign_all, await, request, release, conditional, while_do, forever, block, select, cooperate, group, Branch, no_branch, branch, Statements, no_statements, followed, Body, body, Bodies, no_bodies, beside, Declaration, Process, Program}
-use Rattle.spl_typer.specs.Placed.{IsPlaced}
-use Rattle.spl_typer.specs.Told.{IsModest}
-use Rattle.spl_typer.specs.Programs.{is_text}
+use Rattle.expression_typer.specs.Placed.{IsPlaced}
+use Rattle.expression_typer.specs.Told.{IsModest}
+use Rattle.expression_typer.specs.Naming.{is_text}
 
 pub record ExprLaid (e : Expr) (from to : ℕ) : Type 0 where
   pub placed : IsPlaced e from to
@@ -30,9 +30,17 @@ abbrev pub SomeStatements : Statements → Type 0
 SomeStatements no_statements = ⊥
 SomeStatements (followed x xs) = Unit {0}
 
+abbrev pub TwoStatements : Statements → Type 0
+TwoStatements no_statements = ⊥
+TwoStatements (followed x xs) = SomeStatements xs
+
 abbrev pub SomeBodies : Bodies → Type 0
 SomeBodies no_bodies = ⊥
 SomeBodies (beside b bs) = Unit {0}
+
+abbrev pub TwoBodies : Bodies → Type 0
+TwoBodies no_bodies = ⊥
+TwoBodies (beside b bs) = SomeBodies bs
 
 abbrev mutual
   pub StatementLaid : Statement → Bool → ℕ → ℕ → Type 0
@@ -52,9 +60,9 @@ abbrev mutual
   ActionLaid (while_do e x) inner p to = Outside inner × (a : ℕ) × ExprLaid e (suc p) a × StatementLaid x false a to
   ActionLaid (forever x) inner p to = Outside inner × StatementLaid x false (suc p) to
   ActionLaid (block xs) inner p to = SomeStatements xs × StatementsLaid xs inner (suc p) to
-  ActionLaid (select xs) inner p to = Outside inner × StatementsLaid xs false (suc p) to
-  ActionLaid (cooperate bs) inner p to = Outside inner × SomeBodies bs × BodiesLaid bs (suc p) to
-  ActionLaid (group xs) inner p to = Outside inner × StatementsLaid xs true (suc p) to
+  ActionLaid (select xs) inner p to = Outside inner × TwoStatements xs × StatementsLaid xs false (suc p) to
+  ActionLaid (cooperate bs) inner p to = Outside inner × TwoBodies bs × BodiesLaid bs (suc p) to
+  ActionLaid (group xs) inner p to = Outside inner × SomeStatements xs × StatementsLaid xs true (suc p) to
 
   pub BranchLaid : Branch → Bool → ℕ → ℕ → Type 0
   BranchLaid no_branch inner from to = from ≤ to

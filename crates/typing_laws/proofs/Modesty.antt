@@ -28,9 +28,9 @@ mutual
   action_modest (raw.while_do e y) inner p to h = (h.2.modest, statement_modest y false h.1 to h.3)
   action_modest (raw.forever y) inner p to h = statement_modest y false (suc p) to h.1
   action_modest (raw.block ss) inner p to h = row_modest ss inner (suc p) to h.1
-  action_modest (raw.select ss) inner p to h = row_modest ss false (suc p) to h.1
+  action_modest (raw.select ss) inner p to h = row_modest ss false (suc p) to h.2
   action_modest (raw.cooperate bs) inner p to h = bodies_modest bs (suc p) to h.2
-  action_modest (raw.group ss) inner p to h = row_modest ss true (suc p) to h.1
+  action_modest (raw.group ss) inner p to h = row_modest ss true (suc p) to h.2
 
   branch_modest : (x : raw.Branch) (inner : Bool) (from to : ℕ) → BranchLaid x inner from to → BranchModest x
   branch_modest raw.no_branch inner from to h = tt

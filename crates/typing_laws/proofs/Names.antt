@@ -12,7 +12,7 @@ use Rattle.st_reading.specs.declared.sign.Sign.{Sign}
 use Rattle.st_reading.specs.declared.sign.Sign.TheVariants as signs
 use Rattle.st_reading.specs.Sign.{kind_sign, sign_of}
 use Rattle.st_reading.specs.Reading.{is_name}
-use Rattle.spl_typer.specs.Programs.{is_text}
+use Rattle.expression_typer.specs.Naming.{is_text}
 use Rattle.typing_laws.proofs.Signs as of_signs
 
 letter_ascii : (b : ℕ) → is_letter b ≡ true → nat_lt b 128 ≡ true

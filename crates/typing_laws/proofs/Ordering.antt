@@ -1,9 +1,9 @@
 -- Faults in text order, at one place by their rules.
 use Rattle.std.proofs.Common.{◌≡◌, ℕ, suc, ◌<◌, ◌≤◌, inl, inr, Bool, true, false, List, [], ◌∷◌, ◌++◌, refl, arith}
-use Rattle.spl_typer.specs.declared.fault.TypeFault.{TypeFault}
-use Rattle.spl_typer.specs.Placed.{place, AllBehind, IsLeast}
+use Rattle.expression_typer.specs.declared.fault.TypeFault.{TypeFault}
+use Rattle.expression_typer.specs.Placed.{place, AllBehind, IsLeast}
 use Rattle.spl_typer.specs.StatementRules.{unless, where_true}
-use Rattle.spl_typer.proofs.Rising.{Rising}
+use Rattle.expression_typer.proofs.Rising.{Rising}
 use Rattle.typing_laws.specs.Laws.{IsRule, AreRules}
 
 -- rules that are broken at places from one on and before another, in their order

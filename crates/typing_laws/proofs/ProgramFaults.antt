@@ -5,11 +5,12 @@ use Rattle.st_reading.specs.Reading.{Label}
 use Rattle.expression_parser.specs.ExpressionTree.{Expr}
 use Rattle.spl_parser.specs.ProgramTree as raw
 use Rattle.spl_parser.specs.Numbers.{in_body, in_processes, declared, declared_inside, IsWithin}
-use Rattle.spl_typer.specs.declared.fault.TypeFault.TheVariants as faults
+use Rattle.expression_typer.specs.declared.fault.TypeFault.TheVariants as faults
 use Rattle.spl_typer.specs.declared.walk.Mark.{Mark}
 use Rattle.spl_typer.specs.declared.walk.Mark.TheVariants as marks
 use Rattle.spl_typer.specs.Walk.{Entry, is_declared}
-use Rattle.spl_typer.specs.Programs.{nothing_met, some_process, is_text, Variables, Labels, with_variable, with_label, variables_of, labels_of, names_of}
+use Rattle.expression_typer.specs.Naming.{is_text}
+use Rattle.spl_typer.specs.Programs.{nothing_met, few_processes, Variables, Labels, with_variable, with_label, variables_of, labels_of, names_of}
 use Rattle.spl_typer.specs.StatementRules.{faults_of}
 use Rattle.spl_typer.specs.ProgramRules.{Front, front, declares_again, named, behind_name, name_faults, behind_names, names_faults, initial_faults, behind_declaration, declaration_faults, behind_declarations, declarations_faults, inside_process, behind_process, process_faults, behind_processes, processes_faults, before_processes, program_faults}
 use Rattle.typing_laws.proofs.Laying.{LabelLaid, InRow, InitialLaid, DeclarationLaid, ProcessLaid, SomeProcesses, ProgramLaid}
@@ -147,9 +148,9 @@ names_none es h k =
     let few : nat_le (length t.all) 64 ≡ true = grind (arith, nat_tests, t.count, k) in
     rw (t.is, few, l.1) refl
 
-some_is : (ps : List raw.Process) → SomeProcesses ps → some_process ps ≡ true
-some_is [] h = absurd h
-some_is (p ∷ ps) h = refl
+few_are : (ps : List raw.Process) → SomeProcesses ps → length ps ≤ 16 → few_processes ps ≡ true
+few_are [] h k = absurd h
+few_are (p ∷ ps) h k = grind (arith, nat_tests, k)
 
 pub program_ordered : (x : raw.Program) (l : ProgramLaid x) → IsWithin x → Ordered 0 l.end (program_faults x)
 program_ordered x l w =
@@ -157,7 +158,7 @@ program_ordered x l w =
     record { variables = omega (arith, w.variables); room = record { occ = omega (arith, w.statements); loc = omega (arith, w.statements) }; plain = tt; among = refl } in
     let c = declarations_fit x.declarations (declared_inside x.processes) (in_processes x.processes) 0 l.declared (front nothing_met) l.declarations b in
     let d = processes_fit x.processes l.declared l.end (before_processes x) l.processes c in
-    rw (some_is x.processes l.some, names_none (behind_processes x.processes (before_processes x)).state.names d.plain (omega (arith, d.among, d.variables)), append-nil (declarations_faults x.declarations (front nothing_met) ++ processes_faults x.processes (before_processes x)))
+    rw (few_are x.processes l.some w.processes, names_none (behind_processes x.processes (before_processes x)).state.names d.plain (omega (arith, d.among, d.variables)), append-nil (declarations_faults x.declarations (front nothing_met) ++ processes_faults x.processes (before_processes x)))
     (ordered_append 0 l.declared l.end (declarations_faults x.declarations (front nothing_met)) _
     (declarations_ordered x.declarations (declared_inside x.processes) (in_processes x.processes) 0 l.declared (front nothing_met) l.declarations b)
     (processes_ordered x.processes l.declared l.end (before_processes x) l.processes c))

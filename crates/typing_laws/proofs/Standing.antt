@@ -4,7 +4,7 @@ use Rattle.st_tokens.specs.Stream.{◌++>◌, Lexeme, Stream, ends, first_place,
 use Rattle.st_tokens.proofs.Rising.{starts_rise}
 use Rattle.st_tokens.proofs.Shifting.{tokens_are_there}
 use Rattle.st_reading.specs.Spelling.{IsName}
-use Rattle.spl_typer.specs.Programs.{is_text}
+use Rattle.expression_typer.specs.Naming.{is_text}
 use Rattle.typing_laws.proofs.Names.{name_plain}
 
 -- a name's bytes are ASCII

@@ -6,18 +6,19 @@ use Rattle.st_program.specs.Tree.{Pieces}
 use Rattle.expression_parser.specs.ExpressionTree.{Expr}
 use Rattle.spl_parser.specs.ProgramTree as raw
 use Rattle.spl_parser.specs.Numbers.{in_statement, in_action, in_branch, in_statements, in_body, in_bodies}
-use Rattle.spl_typer.specs.declared.fault.TypeFault.{TypeFault}
-use Rattle.spl_typer.specs.declared.fault.TypeFault.TheVariants as faults
+use Rattle.expression_typer.specs.declared.fault.TypeFault.{TypeFault}
+use Rattle.expression_typer.specs.declared.fault.TypeFault.TheVariants as faults
 use Rattle.spl_typer.specs.declared.statement.Here.{Here}
-use Rattle.spl_typer.specs.Scope.{Known, find}
-use Rattle.spl_typer.specs.Told.{Tells}
+use Rattle.expression_typer.specs.Scope.{Known, find}
+use Rattle.expression_typer.specs.Told.{Tells}
 use Rattle.spl_typer.specs.Walk.{State, is_declared, next_location, next_occurrence}
-use Rattle.spl_typer.specs.Statements.{is_target, pieces_along}
+use Rattle.spl_typer.specs.Statements.{is_target, pieces_inside}
 use Rattle.spl_typer.specs.Groups.{grouped}
-use Rattle.spl_typer.specs.Walking.{fresh, beneath, some_statement, some_body}
-use Rattle.spl_typer.specs.StatementRules.{unless, where_true, test_faults, target_faults, counter_faults, side_faults, and_known, same_faults, targets_faults, sides_faults, assign_faults, piece_faults, pieces_faults, other_faults, row_pieces_faults, faults_of, limit_faults, twice, own_location, behind_location, location_faults, occurrence_faults, begins, behind, behind_row, behind_body, statement_faults, action_faults, branch_faults, row_faults, bodies_faults, body_faults}
-use Rattle.spl_typer.proofs.PartTells.{Any, row_tells}
-use Rattle.typing_laws.proofs.Laying.{ExprLaid, LabelLaid, InRow, SomeStatements, SomeBodies, StatementLaid, ActionLaid, BranchLaid, StatementsLaid, BodyLaid, BodiesLaid}
+use Rattle.spl_typer.specs.Shapes.{some_statement, two_statements, two_bodies}
+use Rattle.spl_typer.specs.Walking.{fresh, beneath}
+use Rattle.spl_typer.specs.StatementRules.{unless, where_true, test_faults, target_faults, counter_faults, side_faults, and_known, same_faults, targets_faults, sides_faults, assign_faults, piece_faults, pieces_faults, other_faults, inside_faults, row_pieces_faults, faults_of, limit_faults, twice, own_location, behind_location, location_faults, occurrence_faults, begins, behind, behind_row, behind_body, statement_faults, action_faults, branch_faults, row_faults, bodies_faults, body_faults}
+use Rattle.spl_typer.proofs.PartTells.{Any, inside_tells}
+use Rattle.typing_laws.proofs.Laying.{ExprLaid, LabelLaid, InRow, SomeStatements, TwoStatements, TwoBodies, StatementLaid, ActionLaid, BranchLaid, StatementsLaid, BodyLaid, BodiesLaid}
 use Rattle.typing_laws.proofs.Modesty.{row_modest}
 use Rattle.typing_laws.proofs.Ordering.{Ordered, ordered_within, ordered_from, ordered_to, ordered_append, alone, alone_where, alone_unless, widened}
 use Rattle.typing_laws.proofs.ExpressionFaults.{expression_ordered, test_ordered, side_ordered}
@@ -69,6 +70,19 @@ single_ordered : (s : List Known) (n : Label) (e : Expr) (p to : ℕ) → n.plac
 single_ordered s n e p to h l =
     ordered_append p (suc p) to (target_faults n.place (find n.text s)) _ (rw h (target_ordered p (find n.text s))) (side_ordered s (find n.text s) e (suc p) to l)
 
+some_is : (xs : raw.Statements) → SomeStatements xs → some_statement xs ≡ true
+some_is raw.no_statements h = absurd h
+some_is (raw.followed x xs) h = refl
+
+two_are : (xs : raw.Statements) → TwoStatements xs → two_statements xs ≡ true
+two_are raw.no_statements h = absurd h
+two_are (raw.followed x xs) h = some_is xs h
+
+two_bodies_are : (bs : raw.Bodies) → TwoBodies bs → two_bodies bs ≡ true
+two_bodies_are raw.no_bodies h = absurd h
+two_bodies_are (raw.beside b raw.no_bodies) h = absurd h
+two_bodies_are (raw.beside b (raw.beside c bs)) h = refl
+
 mutual
   piece_ordered : (s : List Known) (x : raw.Statement) (from to : ℕ) → StatementLaid x true from to → Ordered from to (piece_faults s x)
   piece_ordered s (raw.stated None place act) from to l = ordered_from from place to (pieces_faults s place act) l.0 (pieces_ordered s place act to l.1)
@@ -89,7 +103,7 @@ mutual
       (ordered_append h.0 h.1 to (piece_faults s y) _ (piece_ordered s y h.0 h.1 h.3) (other_ordered s other h.1 to h.4)))
   pieces_ordered s p (raw.while_do e y) to h = absurd h.0
   pieces_ordered s p (raw.forever y) to h = absurd h.0
-  pieces_ordered s p (raw.block ss) to h = ordered_from p (suc p) to _ (omega arith) (row_pieces_ordered s ss (suc p) to h.1)
+  pieces_ordered s p (raw.block ss) to h = rw (some_is ss h.0) (ordered_from p (suc p) to _ (omega arith) (row_pieces_ordered s ss (suc p) to h.1))
   pieces_ordered s p (raw.select ss) to h = absurd h.0
   pieces_ordered s p (raw.cooperate bs) to h = absurd h.0
   pieces_ordered s p (raw.group ss) to h = absurd h.0
@@ -114,14 +128,6 @@ location_none (Some l) p st h = refl
 occurrence_none : (own : Option ℕ) (p : ℕ) (st : State) → st.occ < 400 → occurrence_faults p (behind_location own st) ≡ []
 occurrence_none None p st h = let k : nat_lt st.occ 400 ≡ true = grind (arith, nat_tests, h) in rw k refl
 occurrence_none (Some l) p st h = let k : nat_lt st.occ 400 ≡ true = grind (arith, nat_tests, h) in rw k refl
-
-some_is : (xs : raw.Statements) → SomeStatements xs → some_statement xs ≡ true
-some_is raw.no_statements h = absurd h
-some_is (raw.followed x xs) h = refl
-
-some_body_is : (bs : raw.Bodies) → SomeBodies bs → some_body bs ≡ true
-some_body_is raw.no_bodies h = absurd h
-some_body_is (raw.beside b bs) h = refl
 
 -- room where a statement's action begins
 room_begins : (m : ℕ) (label : Option Label) (own : Option ℕ) (st : State) → Room (1 + m) st → Room m (begins label own st)
@@ -162,11 +168,12 @@ mutual
       ordered_append p (suc p) to (where_true head (faults.SelectHead p)) _ (alone_where head (faults.SelectHead p) tt) (statement_ordered s fresh y st (suc p) to h.1 r)
   action_ordered s l head p (raw.block ss) st to h r =
       rw (some_is ss h.0) (ordered_from p (suc p) to _ (omega arith) (row_ordered s (beneath l head) fresh ss st (suc p) to h.1 r))
-  action_ordered s l head p (raw.select ss) st to h r = ordered_from p (suc p) to _ (omega arith) (row_ordered s (beneath l true) (beneath l true) ss st (suc p) to h.1 r)
+  action_ordered s l head p (raw.select ss) st to h r =
+      rw (two_are ss h.1) (ordered_from p (suc p) to _ (omega arith) (row_ordered s (beneath l true) (beneath l true) ss st (suc p) to h.2 r))
   action_ordered s l head p (raw.cooperate bs) st to h r =
-      rw (some_body_is bs h.1) (ordered_from p (suc p) to _ (omega arith) (bodies_ordered s bs st (suc p) to h.2 r))
+      rw (two_bodies_are bs h.1) (ordered_from p (suc p) to _ (omega arith) (bodies_ordered s bs st (suc p) to h.2 r))
   action_ordered s l head p (raw.group ss) st to h r =
-      limits_ordered p st.weight to (row_pieces_faults s ss) (pieces_along s ss) (row_tells s ss (row_modest ss true (suc p) to h.1)) (row_pieces_ordered s ss (suc p) to h.1)
+      limits_ordered p st.weight to (inside_faults s p ss) (pieces_inside s p ss) (inside_tells s p ss (row_modest ss true (suc p) to h.2)) (rw (some_is ss h.1) (row_pieces_ordered s ss (suc p) to h.2))
 
   branch_ordered : (s : List Known) (x : raw.Branch) (st : State) (from to : ℕ) → BranchLaid x false from to → Room (in_branch x) st → Ordered from to (branch_faults s x st)
   branch_ordered s raw.no_branch st from to h r = h
@@ -187,9 +194,9 @@ mutual
   pub body_ordered : (s : List Known) (b : raw.Body) (st : State) (from to : ℕ) → BodyLaid b from to → Room (in_body b) st → Ordered from to (body_faults s b st)
   body_ordered s (raw.body xs None) st from to h r =
       let g = some_grow s None None xs st from to h.0 h.1 in
-      rw (location_none None 0 (behind_row s None None xs st) (omega (arith, g.loc, r.loc)), append-nil (row_faults s fresh fresh xs st)) (row_ordered s fresh fresh xs st from to h.1 r)
+      rw (some_is xs h.0, location_none None 0 (behind_row s None None xs st) (omega (arith, g.loc, r.loc)), append-nil (row_faults s fresh fresh xs st)) (row_ordered s fresh fresh xs st from to h.1 r)
   body_ordered s (raw.body xs (Some n)) st from to h r =
       let g = some_grow s None None xs st from h.1 h.0 h.2 in
-      rw (location_none None 0 (behind_row s None None xs st) (omega (arith, g.loc, r.loc)))
+      rw (some_is xs h.0, location_none None 0 (behind_row s None None xs st) (omega (arith, g.loc, r.loc)))
       (ordered_append from h.1 to (row_faults s fresh fresh xs st) _ (row_ordered s fresh fresh xs st from h.1 h.2 r)
       (widened n.place (suc n.place) h.1 to _ h.3.behind (omega (arith, h.3.ahead)) (alone_where (is_declared n.text (next_location (behind_row s None None xs st)).names) (faults.Twice n.place) tt)))

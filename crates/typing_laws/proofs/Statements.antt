@@ -7,7 +7,7 @@ use Rattle.expression_parser.specs.ExpressionTree.{Expr}
 use Rattle.spl_parser.specs.ProgramTree.{Statement, stated, statements, Action, Statements, no_statements, followed, Body, body, bodies}
 use Rattle.spl_parser.specs.Grammar.{IsRightSide, right_side, IsBranch, without, with_else, IsBody, unnamed, ended, IsChild, child, IsBare, s_assign, s_assign_all, s_skip, s_critical, s_noncritical, s_await, s_request, s_release, s_if, s_while, s_loop, s_block, s_select, s_cooperate, s_group, IsStatement, unlabelled, labelled, Low}
 use Rattle.typing_laws.proofs.Standing.{Stand, meet, stand_to, first_to}
-use Rattle.typing_laws.proofs.Laying.{ExprLaid, LabelLaid, InRow, SomeStatements, SomeBodies, StatementLaid, ActionLaid, BranchLaid, StatementsLaid, BodyLaid, BodiesLaid}
+use Rattle.typing_laws.proofs.Laying.{ExprLaid, LabelLaid, InRow, SomeStatements, TwoStatements, TwoBodies, StatementLaid, ActionLaid, BranchLaid, StatementsLaid, BodyLaid, BodiesLaid}
 use Rattle.typing_laws.proofs.Expressions.{Lay, laid_from}
 use Rattle.typing_laws.proofs.Rows.{Lays, Earlier, row_lays, row2_lays, name_lays, label_earlier}
 
@@ -118,10 +118,14 @@ module _ (value : List Lexeme → Expr → Type 0) (value_lays : Lay value) wher
           behind = h.0;
           laid = (
             tt,
+            some a xs r,
             statements_earlier false (statements xs) (suc t.start) (suc u.start) to (omega (arith, h.2.0))
                 (statements_laid false xs (suc u.start) to (row2_lays marks.Either (low false) (Placed false) (low_lays false) (statement_earlier false) a xs (suc u.start) to (first_to (suc u.start) to a (v ∷ []) m) r)),
           );
         }
+      where
+        some : (us : List Lexeme) (ys : List Statement) → Row2 marks.Either (low false) us ys → TwoStatements (statements ys)
+        some us ys (row2 a b x y zs i k) = tt
     bare_lays inner place ts x from to h (s_cooperate t u a xs s r e) =
         let m = meet (suc t.start) to a (u ∷ []) h.2 in
         record {
@@ -129,11 +133,11 @@ module _ (value : List Lexeme → Expr → Type 0) (value_lays : Lay value) wher
           laid = (tt, some a xs r, bodies_laid xs (suc t.start) to (row2_lays marks.Bars (IsChild value low) BodyLaid child_lays body_earlier a xs (suc t.start) to (first_to (suc t.start) to a (u ∷ []) m) r));
         }
       where
-        some : (us : List Lexeme) (ys : List Body) → Row2 marks.Bars (IsChild value low) us ys → SomeBodies (bodies ys)
+        some : (us : List Lexeme) (ys : List Body) → Row2 marks.Bars (IsChild value low) us ys → TwoBodies (bodies ys)
         some us ys (row2 a b x y zs i k) = tt
     bare_lays inner place ts x from to h (s_group t u a xs s r e) =
         let k = rows_lay true a xs (suc t.start) to (first_to (suc t.start) to a (u ∷ []) (meet (suc t.start) to a (u ∷ []) h.2)) r in
-        record { behind = h.0; laid = (tt, k.1) }
+        record { behind = h.0; laid = (tt, k.0, k.1) }
 
     statement_lays : (inner : Bool) → Lays (IsStatement value low inner) (Placed inner)
     statement_lays inner ts x from to h (unlabelled i place us a b) =

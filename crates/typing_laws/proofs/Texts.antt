@@ -1,8 +1,8 @@
 -- A text's program is refused for the lowest rule that is broken at the first place.
 use Rattle.std.proofs.Common.{ℕ, List, Result, Ok, Err}
 use Rattle.spl_parser.proofs.ProgramTheorems.{what_is_read_is_spelled}
-use Rattle.spl_typer.specs.declared.fault.TypeFault.{TypeFault}
-use Rattle.spl_typer.specs.Told.{Tells}
+use Rattle.expression_typer.specs.declared.fault.TypeFault.{TypeFault}
+use Rattle.expression_typer.specs.Told.{Tells}
 use Rattle.spl_typer.specs.Programs.{Typed, typing}
 use Rattle.spl_typer.specs.ProgramRules.{program_faults}
 use Rattle.spl_typer.proofs.PartTells.{Any}

@@ -5,11 +5,11 @@ use Rattle.st_tokens.specs.declared.limit.LimitKind.{LimitKind}
 use Rattle.st_tokens.specs.declared.limit.LimitKind.TheVariants as limits
 use Rattle.spl_parser.specs.ProgramTree.{Program}
 use Rattle.spl_parser.specs.Parsing.{parsed}
-use Rattle.spl_typer.specs.declared.fault.TypeFault.{TypeFault}
-use Rattle.spl_typer.specs.declared.fault.TypeFault.TheVariants as faults
+use Rattle.expression_typer.specs.declared.fault.TypeFault.{TypeFault}
+use Rattle.expression_typer.specs.declared.fault.TypeFault.TheVariants as faults
 use Rattle.spl_typer.specs.Programs.{typing}
 use Rattle.spl_typer.specs.ProgramRules.{program_faults}
-use Rattle.spl_typer.specs.Placed.{IsLeast}
+use Rattle.expression_typer.specs.Placed.{IsLeast}
 
 -- the limits of groups
 abbrev pub IsGroupLimit : LimitKind → Type 0

@@ -1,5 +1,5 @@
 use Rattle.std.proofs.Common.{◌≡◌, drop}
-use Rattle.spl_typer.specs.Programs.{is_text}
+use Rattle.expression_typer.specs.Naming.{is_text}
 use Rattle.assertions.proofs.names.is_text.Given as goal
 
 abbrev pub invariant-loop-byte : goal.invariant-loop-byte

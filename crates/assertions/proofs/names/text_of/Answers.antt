@@ -1,5 +1,5 @@
 use Rattle.std.proofs.Common.{refl, sym, ◌∙◌}
-use Rattle.spl_typer.proofs.Tables.{text_utf8}
+use Rattle.expression_typer.proofs.Texts.{text_utf8}
 use Rattle.assertions.proofs.names.text_of.Goals as goal
 
 pub returns-in-Err : goal.returns-in-Err

@@ -15,7 +15,7 @@ returns-clause-moves c =
     let rs : c.deref.result.now ≡ c.args.state.now.residuals.items = c.deref.ensures.value in
     let ds : c.deref-2.result.now ≡ c.args.state.now.store.items = c.deref-2.ensures.value in
     let fits = subst (StoreFits c.args.program.now.variables) (sym ds) c.requires.store in
-    let r = c.in_ok-moves.ensures.steps fits c.requires.numbers in
+    let r = c.in_ok-moves.ensures.steps fits in
     let same = ap (λ l. steps_of (plain_residuals l) p (store_of c.deref-2.result.now)) rs ∙ ap (λ d. steps_of (plain_residuals c.args.state.now.residuals.items) p (store_of d)) ds in (
       sym (ap (λ l. wide_rests (plain_residuals l) p (store_of c.deref-2.result.now)) rs ∙ ap (λ d. wide_rests (plain_residuals c.args.state.now.residuals.items) p (store_of d)) ds) ∙ r.0,
       sorted-moves _ c.in_ok-moves.moves.items c.sort_by_key.new.self.items (r.1 ∙ same) c.sort_by_key.ensures.permutation

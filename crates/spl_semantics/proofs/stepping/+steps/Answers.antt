@@ -15,22 +15,22 @@ pub acts_of-join_all-requires : goal.acts_of-join_all-requires
 acts_of-join_all-requires t c = λ h. omega (arith, h, c.in-Some.ensures.short)
 
 pub acts_of-returns-in_err-inner-in-Inside-clause-steps : goal.acts_of-returns-in_err-inner-in-Inside-clause-steps
-acts_of-returns-in_err-inner-in-Inside-clause-steps t c = λ fits numbers.
+acts_of-returns-in_err-inner-in-Inside-clause-steps t c = λ fits.
     let p = plain_children c.args.program.now.processes in
     let s = store_of c.args.store.now in
     let e : plain_residual c.args.residual.now ≡ Inside c.in-Inside.coop (plain_residuals c.deref-in-Inside.result.now) =
     ap plain_residual c.in-Inside.is ∙ residual-Inside c.in-Inside.coop c.in-Inside.children ∙ ap (λ l. Inside c.in-Inside.coop (plain_residuals l)) (sym c.deref-in-Inside.ensures.value) in
-    handed _ c.from_residual-in_err-inner-in-Inside.result c.in_err-inner-in-Inside.field-0.0 _ _ _ c.from_residual-in_err-inner-in-Inside.ensures.1 (c.in_err-inner-in-Inside.ensures.steps fits numbers) (λ h. ap (λ r. wide_rest r p s) e ∙ h)
+    handed _ c.from_residual-in_err-inner-in-Inside.result c.in_err-inner-in-Inside.field-0.0 _ _ _ c.from_residual-in_err-inner-in-Inside.ensures.1 (c.in_err-inner-in-Inside.ensures.steps fits) (λ h. ap (λ r. wide_rest r p s) e ∙ h)
 
 pub acts_of-returns-after-all_done-clause-steps : goal.acts_of-returns-after-all_done-clause-steps
-acts_of-returns-after-all_done-clause-steps t c = λ fits numbers.
+acts_of-returns-after-all_done-clause-steps t c = λ fits.
     let p = plain_children c.args.program.now.processes in
     let s = store_of c.args.store.now in
     let rs = plain_residuals c.deref-in-Inside.result.now in
     let e : plain_residual c.args.residual.now ≡ Inside c.in-Inside.coop rs =
     ap plain_residual c.in-Inside.is ∙ residual-Inside c.in-Inside.coop c.in-Inside.children ∙ ap (λ l. Inside c.in-Inside.coop (plain_residuals l)) (sym c.deref-in-Inside.ensures.value) in
     let same : plain_residuals c.deref-in-Inside-2.result.now ≡ rs = ap plain_residuals (c.deref-in-Inside-2.ensures.value ∙ sym c.deref-in-Inside.ensures.value) in
-    let r = c.in_ok-inner-in-Inside.ensures.steps fits numbers in
+    let r = c.in_ok-inner-in-Inside.ensures.steps fits in
     let done : (b : Bool) → c.all_done.result ≡ b → steps.all_done rs ≡ b = λ b h. sym (ap steps.all_done same) ∙ sym c.all_done.ensures ∙ h in (
       ap (λ r. wide_rest r p s) e ∙ r.0,
       (elim c.if-all_done.branch [
@@ -54,7 +54,7 @@ moves_of-loop-place-init t c = λ fits.
     let empty = sym c.new-moves.ensures.items in
     record {
       stores = subst (λ l. AllOfTypes ts (move_stores l)) empty tt;
-      steps = λ numbers. (refl, subst (λ l. plain_moves l ++ map (steps.around (in_front [])) (steps.steps_of (plain_residuals c.args.residuals.now) (plain_children c.args.program.now.processes) (store_of c.args.store.now)) ≡ steps.steps_of (plain_residuals c.args.residuals.now) (plain_children c.args.program.now.processes) (store_of c.args.store.now)) empty (steps-first (plain_children c.args.program.now.processes) (store_of c.args.store.now) c.args.residuals.now));
+      steps = (refl, subst (λ l. plain_moves l ++ map (steps.around (in_front [])) (steps.steps_of (plain_residuals c.args.residuals.now) (plain_children c.args.program.now.processes) (store_of c.args.store.now)) ≡ steps.steps_of (plain_residuals c.args.residuals.now) (plain_children c.args.program.now.processes) (store_of c.args.store.now)) empty (steps-first (plain_children c.args.program.now.processes) (store_of c.args.store.now) c.args.residuals.now));
     }
 
 pub moves_of-loop-place-preserved : goal.moves_of-loop-place-preserved
@@ -69,9 +69,9 @@ moves_of-loop-place-preserved t c = λ fits.
     let i = c.loop-place.invariant fits in
     record {
       stores = more-stores ts c.loop-place.moves.items c.in_ok-acts.acts.items c.place_all.new.moves.items c.in_ok-place_all.ensures.stores i.stores (c.in_ok-acts.ensures.stores fits);
-      steps = λ numbers.
-          let j = i.steps numbers in
-          let r = c.in_ok-acts.ensures.steps fits numbers in (
+      steps =
+          let j = i.steps in
+          let r = c.in_ok-acts.ensures.steps fits in (
             sym (wide-next p s rs k x le c.index-residuals-place.is ∙ or_none _ _ r.0) ∙ j.0,
             steps-next p s rs k x le c.index-residuals-place.is (plain_moves c.loop-place.moves.items) (plain_moves c.place_all.new.moves.items) _ (plain_acts c.in_ok-acts.acts.items) r.1 c.in_ok-place_all.ensures.steps j.1,
           );

@@ -1,6 +1,6 @@
 use Rattle.std.proofs.Common.{◌++◌, ◌+◌, drop, ap, ◌∙◌, arith}
 use Rattle.st_program.specs.Plain.{plain_children}
-use Rattle.spl_semantics.specs.Moves.{ends}
+use Rattle.spl_semantics.specs.Control.{ends}
 use Rattle.spl_translation.proofs.Walks.{end_more}
 use Rattle.spl_translation.proofs.owning.ends_of.Goals as goal
 

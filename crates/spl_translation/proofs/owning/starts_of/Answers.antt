@@ -2,7 +2,7 @@ use Rattle.std.proofs.Common.{◌++◌, ◌+◌, drop, ap, ◌∙◌, arith}
 use Rattle.st_program.specs.declared.trees.Child as GChild
 use Rattle.st_program.specs.Plain.{plain_stmts, plain_children}
 use Rattle.st_program.specs.Spots.{entry}
-use Rattle.spl_semantics.specs.Moves.{starts}
+use Rattle.spl_semantics.specs.Control.{starts}
 use Rattle.spl_translation.proofs.Walks.{start_more}
 use Rattle.spl_translation.proofs.owning.starts_of.Goals as goal
 

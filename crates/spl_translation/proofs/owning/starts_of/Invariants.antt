@@ -1,6 +1,6 @@
 use Rattle.std.proofs.Common.{◌≡◌, ◌++◌, drop}
 use Rattle.st_program.specs.Plain.{plain_children}
-use Rattle.spl_semantics.specs.Moves.{starts}
+use Rattle.spl_semantics.specs.Control.{starts}
 use Rattle.spl_translation.proofs.owning.starts_of.Given as goal
 
 abbrev pub invariant-loop-child : goal.invariant-loop-child

@@ -4,7 +4,7 @@ use Rattle.st_form.specs.Simple.{append}
 use Rattle.st_form.specs.Plain.{plain, plain_list}
 use Rattle.st_form.specs.declared.formulas.Form.{Form}
 use Rattle.st_program.specs.Plain.{plain_children}
-use Rattle.spl_semantics.specs.Moves.{starts}
+use Rattle.spl_semantics.specs.Control.{starts}
 use Rattle.st_form.proofs.Nodes.{plain-And}
 use Rattle.std.proofs.lemmas.List.{take_all}
 use Rattle.spl_translation.proofs.translation.beginning.Goals as goal

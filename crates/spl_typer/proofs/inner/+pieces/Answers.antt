@@ -1,6 +1,6 @@
 use Rattle.std.proofs.Common.{arith}
 use Rattle.spl_typer.proofs.Lists.{pieces-step, pieces-end}
-use Rattle.spl_typer.specs.Scope.{scope_view}
+use Rattle.expression_typer.specs.Scope.{scope_view}
 use Rattle.spl_typer.proofs.inner.+pieces.Goals as goal
 
 pub pieces_along-loop-item-preserved : goal.pieces_along-loop-item-preserved

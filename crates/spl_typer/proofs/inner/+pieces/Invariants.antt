@@ -1,6 +1,6 @@
 use Rattle.std.proofs.Common.{◌≡◌, drop}
 use Rattle.spl_parser.specs.ProgramTree.{statements, statement_views}
-use Rattle.spl_typer.specs.Scope.{scope_view}
+use Rattle.expression_typer.specs.Scope.{scope_view}
 use Rattle.spl_typer.specs.Statements.{pieces_along}
 use Rattle.spl_typer.specs.Row.{onto_pieces}
 use Rattle.spl_typer.proofs.inner.+pieces.Given as goal

@@ -1,5 +1,6 @@
 use Rattle.std.proofs.Common.{sym, ◌∙◌}
-use Rattle.spl_typer.proofs.Tables.{text_utf8, not_ok}
+use Rattle.expression_typer.proofs.Texts.{text_utf8}
+use Rattle.spl_typer.proofs.Tables.{not_ok}
 use Rattle.spl_typer.proofs.names.text_of.Goals as goal
 
 pub returns : goal.returns

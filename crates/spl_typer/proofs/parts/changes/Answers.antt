@@ -1,4 +1,4 @@
-use Rattle.spl_typer.specs.Scope.{scope_view}
+use Rattle.expression_typer.specs.Scope.{scope_view}
 use Rattle.st_program.specs.Plain.{plain_targets}
 use Rattle.spl_typer.proofs.Changes.{changes-end_known, changes-end_values}
 use Rattle.spl_typer.proofs.parts.changes.Goals as goal

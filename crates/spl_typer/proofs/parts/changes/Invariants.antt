@@ -1,7 +1,7 @@
 use Rattle.std.proofs.Common.{◌≡◌, drop, map, [], length, ◌-◌}
 use Rattle.expression_parser.specs.ExpressionTree.{expr_view}
 use Rattle.st_program.specs.Plain.{plain_targets}
-use Rattle.spl_typer.specs.Scope.{scope_view}
+use Rattle.expression_typer.specs.Scope.{scope_view}
 use Rattle.spl_typer.specs.Statements.{changes}
 use Rattle.spl_typer.proofs.parts.changes.Given as goal
 

@@ -1,5 +1,5 @@
 use Rattle.std.proofs.Common.{◌≡◌, drop}
-use Rattle.spl_typer.specs.Scope.{scope_view}
+use Rattle.expression_typer.specs.Scope.{scope_view}
 use Rattle.spl_typer.specs.Statements.{is_target}
 use Rattle.spl_typer.proofs.parts.is_target.Given as goal
 

@@ -1,6 +1,6 @@
 use Rattle.std.proofs.Common.{◌≡◌, drop, map, []}
 use Rattle.st_reading.specs.Faults.{name_view}
-use Rattle.spl_typer.specs.Scope.{scope_view}
+use Rattle.expression_typer.specs.Scope.{scope_view}
 use Rattle.spl_typer.specs.Statements.{targets}
 use Rattle.spl_typer.proofs.parts.targets.Given as goal
 

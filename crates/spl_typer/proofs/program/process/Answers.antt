@@ -1,6 +1,6 @@
 use Rattle.std.proofs.Common.{ap, map, length}
 use Rattle.spl_parser.specs.ProgramTree.{declaration_view, process_view}
-use Rattle.spl_typer.specs.Scope.{scope_view}
+use Rattle.expression_typer.specs.Scope.{scope_view}
 use Rattle.spl_typer.specs.Programs.{heading}
 use Rattle.spl_typer.proofs.Ends.{process_end, process_whole}
 use Rattle.spl_typer.proofs.program.process.Goals as goal

@@ -1,6 +1,6 @@
 use Rattle.std.proofs.Common.{arith}
 use Rattle.spl_typer.proofs.Lists.{statements-step, statements-end, children-step, children-end}
-use Rattle.spl_typer.specs.Scope.{scope_view}
+use Rattle.expression_typer.specs.Scope.{scope_view}
 use Rattle.spl_typer.proofs.statement.+walked.Goals as goal
 
 pub along-loop-item-preserved : goal.along-loop-item-preserved

@@ -1,6 +1,6 @@
 use Rattle.std.proofs.Common.{◌≡◌, drop}
 use Rattle.spl_parser.specs.ProgramTree.{statements, statement_views, bodies, body_views}
-use Rattle.spl_typer.specs.Scope.{scope_view}
+use Rattle.expression_typer.specs.Scope.{scope_view}
 use Rattle.spl_typer.specs.Walk.{state}
 use Rattle.spl_typer.specs.Walking.{along, inside}
 use Rattle.spl_typer.specs.Row.{onto_statements, onto_children}

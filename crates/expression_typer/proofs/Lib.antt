@@ -1,0 +1,11 @@
+pub mod Limits
+pub mod Conjuncts
+pub mod Chaining
+pub mod Fits
+pub mod Holding
+pub mod Numerals
+pub mod Rising
+pub mod Sizes
+pub mod Tells
+pub mod Terms
+pub mod Texts

@@ -1,0 +1,10 @@
+pub mod Answers
+pub mod Scope
+pub mod Written
+pub mod Typing
+pub mod Row
+pub mod Chains
+pub mod Rules
+pub mod Told
+pub mod Placed
+pub mod Naming

@@ -1,5 +1,0 @@
-use Rattle.spl_typer.proofs.Tells.{told}
-use Rattle.spl_typer.proofs.laws.first_is_told.Goals as goal
-
-pub returns : goal.returns
-returns c = told

@@ -39,7 +39,7 @@ fn waiting(
     diagram: &Diagram,
     out: &mut Conditions,
 ) -> Result<(), VcFault>
-    requires ranks { RanksCanFall (plain_diagram diagram.now).nodes }
+    requires { RanksCanFall (plain_diagram diagram.now).nodes }
     ensures { Grows result (plain_list out.old) (plain_list out.new)
         (wait_list step (plain_system fts.now) (map plain lemmas.now) (plain p.now) (map plain goals.now) (plain_diagram diagram.now)) }
 {
@@ -74,7 +74,7 @@ fn chain(
     diagram: &Diagram,
     out: &mut Conditions,
 ) -> Result<(), VcFault>
-    requires ranks { RanksCanFall (plain_diagram diagram.now).nodes }
+    requires { RanksCanFall (plain_diagram diagram.now).nodes }
     ensures { Grows result (plain_list out.old) (plain_list out.new)
         (chain_list step (plain_system fts.now) (map plain lemmas.now) (plain p.now) (plain q.now) bound.now (plain_diagram diagram.now)) }
 {
@@ -138,7 +138,7 @@ fn waiting_by(
     diagram: &Diagram,
     out: &mut Conditions,
 ) -> Result<(), VcFault>
-    requires ranks { RanksCanFall (plain_diagram diagram.now).nodes }
+    requires { RanksCanFall (plain_diagram diagram.now).nodes }
     ensures { Grows result (plain_list out.old) (plain_list out.new)
         (waiting_asks diagram.now.kind step (plain_system fts.now) (map plain lemmas.now) (plain p.now) (map plain goals.now) (plain_diagram diagram.now)) }
 {

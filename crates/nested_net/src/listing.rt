@@ -217,7 +217,7 @@ fn move_from(
     node: &NestedNode,
     out: &mut Conditions,
 ) -> Result<(), VcFault>
-    requires modest { NodeModest (plain_nested_node node.now) }
+    requires { NodeModest (plain_nested_node node.now) }
     ensures { Grows result (plain_list out.old) (plain_list out.new) (nested_move step (plain_system fts.now) (map plain lemmas.now) (map plain_nested_node nodes.now) (plain end.now) index (plain_nested_node node.now)) }
 {
     let groups = group_cases(alloc, fts, end, nodes, node)?;

@@ -115,7 +115,7 @@ fn modes_fall(
     levels: &[Form],
     out: &mut Conditions,
 ) -> Result<(), VcFault>
-    requires few { length levels.now ≤ 64 }
+    requires { length levels.now ≤ 64 }
     ensures { Grows result (plain_list out.old) (plain_list out.new) (move_list step (plain_system fts.now) (map plain lemmas.now) (map plain levels.now)) }
 {
     for index in 1..levels.len() {

@@ -10,5 +10,5 @@ pub returns : goal.returns
 returns c e = (
   helper-fits (plain_system c.args.fts.now) c.args.node.now.helper (sym c.is_unfair.ensures ∙ c.if-is_unfair.false),
   levels-fit (plain_system c.args.fts.now) (map plain_level c.args.node.now.levels.items)
-  (subst (λ ls. some_uncompassionate (plain_system c.args.fts.now) (map plain_level ls) ≡ false) c.deref.ensures.value (sym c.some_uncompassionate.ensures ∙ c.if-some_uncompassionate.false)),
+      (subst (λ ls. some_uncompassionate (plain_system c.args.fts.now) (map plain_level ls) ≡ false) c.deref.ensures.value (sym c.some_uncompassionate.ensures ∙ c.if-some_uncompassionate.false)),
 )

@@ -1,0 +1,5 @@
+mod Walking
+mod Ending
+mod Workers
+mod NamedForms
+mod Stated

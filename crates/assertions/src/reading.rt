@@ -38,7 +38,8 @@ pub fn read_form(
     Ok(as_truth(formula.place, value)?)
 }
 
-/// Reads the longest integer expression, as `read_form` reads a formula.
+/// Reads an integer expression at the front of the tokens, as `read_form` reads a formula: what its definition reads. No law
+/// says of sums that the longest is read.
 #[tactic(auto, unfolding(crate::specs::Reading::linear_of))]
 pub fn read_linear(
     alloc: Global,

@@ -19,10 +19,11 @@ use st_program::{Child, Program};
 use std::alloc::Global;
 use transition_system::Fts;
 
-/// A program as a fair transition system, whose steps and runs are the program's: its transitions in order (idling, then
-/// by occurrence, an entry directly before its exit), each with its fairness, and what holds at the beginning. Source:
-/// Manna and Pnueli, *Temporal Verification of Reactive Systems: Safety*, sections 0.3 and 0.5. `Memory` for want of
-/// memory.
+/// A program as a fair transition system: its transitions in order (idling, then by occurrence, an entry directly before
+/// its exit), each with its fairness, and what holds at the beginning. Its steps are the program's, both ways, and each run
+/// of the program is one of the system; the system has further runs, since control may begin anywhere beside the
+/// beginnings of the processes. Source: Manna and Pnueli, *Temporal Verification of Reactive Systems: Safety*, sections
+/// 0.3 and 0.5. `Memory` for want of memory.
 pub fn translate(alloc: Global, program: &Program) -> Result<Fts, Memory>
     ensures exact { IfOk result (λ fts. plain_system fts
         ≡ translation program.now.variables (plain program.now.initial) (plain_children program.now.processes) program.now.locations) }

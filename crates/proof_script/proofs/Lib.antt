@@ -1,0 +1,11 @@
+pub mod Refusals
+pub mod Counting
+pub mod Inverses
+pub mod Unbroken
+pub mod Stepping
+pub mod Scripts
+pub mod Citing
+pub mod Fitting
+pub mod Speech
+pub mod Sizes
+pub mod Lookups

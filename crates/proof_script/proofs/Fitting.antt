@@ -16,6 +16,7 @@ use Rattle.temporal_goals.specs.declared.diagrams.DiagramKind.{DiagramKind}
 use Rattle.temporal_goals.specs.declared.diagrams.DiagramKind.TheVariants.{Wait, Chain, Rank}
 use Rattle.rule_laws.specs.Fitting.{NodesFit, DrawnNodesFit, LevelsExist}
 use Rattle.ranked_net.proofs.Faultless.{nodes-fit}
+use Rattle.nested_net.proofs.Faultless.{nodes-fit as nested-fit}
 use Rattle.response_rules.specs.Forms.{by_rank, chain_nodes, ranked_nodes, fair_nodes, fair_under}
 use Rattle.diagram_reader.specs.declared.fault.DiagramFault.{DiagramFault}
 use Rattle.diagram_reader.specs.Drawn.{Setting as DrawingSetting}
@@ -31,12 +32,13 @@ use Rattle.proof_script.specs.declared.fault.ScriptKind.TheVariants as kinds
 use Rattle.proof_script.specs.declared.fault.ScriptFault.{ScriptFault}
 use Rattle.proof_script.specs.Faults.{drawn}
 use Rattle.proof_script.specs.Listing.{Setting, Reader, unless, optional, behind_mark, listed, bracketed, formula_of, sum_of, listed_formula_of, further_counted, compassionate_of}
-use Rattle.proof_script.specs.Rules.{helped_of, ranked_of, fair_of, node_of, manner_in, kind_in, just_nodes_of, chain_nodes_of, ranked_nodes_of, fair_nodes_of, nodes_of, response_diagram_of, as_net, ruled_of, rule_of}
+use Rattle.proof_script.specs.Rules.{helped_of, ranked_of, fair_of, node_of, manner_in, kind_in, just_nodes_of, chain_nodes_of, ranked_nodes_of, fair_nodes_of, nodes_of, nested_nodes_of, net_rule_of, response_diagram_of, as_net, ruled_of, rule_of}
 use Rattle.proof_script.specs.Steps.{invariance_rule, ends_rule, earlier_of, new_name_of, citations_of, matched_of, invariance_of, waiting_goal_of, levels_of, wait_diagram_of, waiting_by_of, waiting_of, response_of, claimed_of, step_of}
 use Rattle.proof_script.specs.Script.{script_spelled}
 use Rattle.proof_script.specs.Obeying.{FitsInvariance, FitsWaiting, FitsResponse, RuleFits}
-use Rattle.proof_script.proofs.Inverses.{given, allowed, behind_it, operated, listed_few, further_some}
+use Rattle.proof_script.proofs.Inverses.{given, allowed, behind_it, operated, listed_few, listed_fits, further_some}
 use Rattle.proof_script.proofs.Unbroken.{helped_sound, chain_sound, ranked_sound, fair_sound, written_sound}
+use Rattle.proof_script.proofs.Grouping.{nested_sound, few_groups}
 use Rattle.proof_script.proofs.Scripts.{setting_for, script_keeps}
 
 pub drawn_is : {A : Type 0} (r : Read DiagramFault A) (x : A) (rest : Stream) → drawn r ≡ Ok (x, rest) → r ≡ Ok (x, rest)
@@ -98,7 +100,8 @@ module _ (g : Setting) where
   levels_fit place count rule s rest h =
       let a = both (listed marks.Comma (listed_formula_of g) s) _ (rule, rest) h in
       let m = matched_read place count a.value.0 rule a.value.1 rest a.second in
-      subst (FitsWaiting count) m.1 m.0
+      let few = (listed_fits marks.Comma (listed_formula_of g) (λ f. Unit {0}) (λ n f m r k. (listed_few g n m f r k, tt)) a.value.0 s a.value.1 a.first).0 in
+      subst (FitsWaiting count) m.1 (m.0, few)
 
   waiting_by_fits : (count place : ℕ) → 0 < count → (rule : PlainRule) (s rest : Stream) → waiting_by_of g count place s ≡ Ok (rule, rest) → FitsWaiting count rule
   unfolding waiting_by_of
@@ -188,13 +191,28 @@ module _ (g : Setting) where
       let apart = kind_apart s o.0 o.1 in
       subst (FitsResponse g.system) (given (diagram b.value.0) rule b.value.1 rest b.second) ((λ e. apart (sym d.same_kind ∙ e)), response_fits o.0 0 g.system b.value.0.nodes apart d.nodes)
 
+  nested_rule_fits : (rule : PlainRule) (s rest : Stream) → then_reads (nested_nodes_of g) (λ ns. gives (nested ns)) s ≡ Ok (rule, rest) → FitsResponse g.system rule
+  unfolding nested_nodes_of
+  nested_rule_fits rule s rest h =
+      let a = both (nested_nodes_of g s) _ (rule, rest) h in
+      let f = nested_sound g a.value.0 s a.value.1 a.first in
+      subst (FitsResponse g.system) (given (nested a.value.0) rule a.value.1 rest a.second) (f.0, nested-fit g.system 0 a.value.0 f.1, few_groups g.system a.value.0 f.2)
+
+  net_rule_fits : (rule : PlainRule) (s rest : Stream) → net_rule_of g s ≡ Ok (rule, rest) → FitsResponse g.system rule
+  unfolding net_rule_of
+  net_rule_fits rule s rest h = at_test (is (ahead s) marks.Group) h
+    where
+      at_test : (b : Bool) → cond b (then_reads (nested_nodes_of g) (λ ns. gives (nested ns)) (behind s)) (as_net (nodes_of g) s) ≡ Ok (rule, rest) → FitsResponse g.system rule
+      at_test true h = nested_rule_fits rule (behind s) rest h
+      at_test false h = net_fits (nodes_of g) nodes_fit rule s rest h
+
   ruled_fits : (m : Manner) (rule : PlainRule) (s rest : Stream) → ruled_of g m s ≡ Ok (rule, rest) → FitsResponse g.system rule
   unfolding ruled_of
   ruled_fits manners.Just rule s rest h = net_fits (just_nodes_of g) just_nodes_fit rule s rest h
   ruled_fits manners.Chain rule s rest h = net_fits (chain_nodes_of g) chain_nodes_fit rule s rest h
   ruled_fits manners.Ranked rule s rest h = net_fits (ranked_nodes_of g) ranked_nodes_fit rule s rest h
   ruled_fits manners.Fair rule s rest h = net_fits (fair_nodes_of g) fair_nodes_fit rule s rest h
-  ruled_fits manners.Net rule s rest h = net_fits (nodes_of g) nodes_fit rule s rest h
+  ruled_fits manners.Net rule s rest h = net_rule_fits rule s rest h
   ruled_fits manners.Diagram rule s rest h = response_diagram_fits rule s rest h
 
   rule_fits : (rule : PlainRule) (s rest : Stream) → rule_of g s ≡ Ok (rule, rest) → FitsResponse g.system rule

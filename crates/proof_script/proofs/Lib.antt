@@ -2,6 +2,7 @@ pub mod Refusals
 pub mod Counting
 pub mod Inverses
 pub mod Unbroken
+pub mod Grouping
 pub mod Stepping
 pub mod Scripts
 pub mod Citing

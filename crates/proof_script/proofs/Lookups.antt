@@ -9,7 +9,6 @@ use Rattle.std.specs.declared.string.String.{String}
 use Rattle.std.proofs.lemmas.List.{map-append}
 use Rattle.std.proofs.lemmas.Option.{slice_get-map}
 use Rattle.st_tokens.specs.Stream.{Stream}
-use Rattle.st_tokens.specs.declared.limit.LimitKind.TheVariants as limits
 use Rattle.st_reading.specs.Reading.{Read, ◌>>=◌, named as named_ahead, then_reads, Label}
 use Rattle.indexmap.specs.IndexMap.{insert_entry}
 use Rattle.st_program.specs.Names.{as_bytes, named}
@@ -60,9 +59,7 @@ module _ {Z : Type 0} (es : List (String Z × Bool)) (l : Label) (s rest : Strea
   judged b is =
       let t = as_text es l.text text told in
       let taken : is_taken (as_bytes es) l.text ≡ b = ap is_some (sym (lookup-named l.text es)) ∙ ap (λ n. is_some (lookup (λ k. bytes_eq n (string_bytes k)) es)) (sym t.0) ∙ sym is in
-      ap (λ (r : Read ScriptFault Label). r >>= λ n. then_reads (unless (not (is_text n.0.text)) (kinds.Limit limits.Text) n.0.place n.0.text) (λ name. unless (is_taken (as_bytes es) name) kinds.Twice n.0.place name) n.1) read
-      ∙ ap (λ b. then_reads (unless (not b) (kinds.Limit limits.Text) l.place l.text) (λ name. unless (is_taken (as_bytes es) name) kinds.Twice l.place name) rest) t.1
-      ∙ ap (λ b. unless b kinds.Twice l.place l.text rest) taken
+      ap (λ (r : Read ScriptFault Label). r >>= λ n. unless (is_taken (as_bytes es) n.0.text) kinds.Twice n.0.place n.0.text n.1) read ∙ ap (λ b. unless b kinds.Twice l.place l.text rest) taken
 
   pub name_taken : true ≡ is_some (lookup (λ k. bytes_eq text (string_bytes k)) es) → new_name_of (as_bytes es) s ≡ Err (stop_at kinds.Twice l.place)
   name_taken is = judged true is

@@ -13,7 +13,7 @@ use Rattle.st_program.specs.Names.{Names}
 use Rattle.st_program.specs.Types.{LinearFits}
 use Rattle.expression_parser.specs.Reading.{below, expression_of, sum_of as plain_sum_of}
 use Rattle.transition_system.specs.Systems.{System}
-use Rattle.temporal_goals.specs.Texts.{PlainGoal, invariant, waiting, response, PlainNode, PlainRule, net, levels, diagram, PlainStep}
+use Rattle.temporal_goals.specs.Texts.{PlainGoal, invariant, waiting, response, PlainNode, PlainLevel, PlainNestedNode, PlainRule, net, levels, diagram, nested, PlainStep}
 use Rattle.temporal_goals.specs.declared.diagrams.DiagramKind.TheVariants.{Wait}
 use Rattle.response_rules.specs.Forms.{by_rank, chain_nodes, ranked_nodes, fair_nodes, fair_under}
 use Rattle.expression_typer.specs.Naming.{names_of}
@@ -32,12 +32,13 @@ use Rattle.proof_script.specs.declared.fault.ScriptKind.TheVariants as kinds
 use Rattle.proof_script.specs.declared.fault.ScriptFault.{ScriptFault}
 use Rattle.proof_script.specs.Faults.{unit_of, drawn, one_too_many}
 use Rattle.proof_script.specs.Listing.{Setting, Reader, unless, optional, behind_mark, listed, bracketed, formula_of, sum_of, listed_formula_of, further_counted, compassionate_of}
-use Rattle.proof_script.specs.Rules.{wanted_helper_of, helper_of, group_of, weight_of, helped_of, ranked_of, fair_of, completed_of, node_of, manner_in, kind_in, just_nodes_of, chain_nodes_of, ranked_nodes_of, fair_nodes_of, nodes_of, as_net, response_diagram_of, ruled_of, rule_of}
+use Rattle.proof_script.specs.Rules.{wanted_helper_of, helper_of, group_of, weight_of, helped_of, ranked_of, fair_of, completed_of, node_of, group_level_of, group_levels_of, nested_node_of, manner_in, kind_in, just_nodes_of, chain_nodes_of, ranked_nodes_of, fair_nodes_of, nodes_of, nested_nodes_of, net_rule_of, as_net, response_diagram_of, ruled_of, rule_of}
 use Rattle.proof_script.specs.Steps.{invariance_rule, ends_rule, earlier_of, new_name_of, citations_of, matched_of, invariance_of, waiting_goal_of, levels_of, wait_diagram_of, waiting_by_of, waiting_of, response_of, claimed_of, step_of}
 use Rattle.proof_script.specs.Script.{script_spelled}
-use Rattle.proof_script.specs.Speaking.{SmallOver, GoalOver, NetNodeOver, RuleOver, StepOver}
+use Rattle.proof_script.specs.Speaking.{SmallOver, GoalOver, NetNodeOver, LevelOver, NestedNodeOver, RuleOver, StepOver}
 use Rattle.proof_script.proofs.Inverses.{given, allowed, behind_it, optionally, operated, listed_few, few_listed, listed_fits, further_fits, bracketed_fits}
 use Rattle.proof_script.proofs.Unbroken.{completed_fits}
+use Rattle.proof_script.proofs.Grouping.{groups_keep, nested_completed_fits}
 use Rattle.proof_script.proofs.Fitting.{drawn_is, matched_is}
 use Rattle.proof_script.proofs.Scripts.{setting_for, script_keeps}
 
@@ -137,6 +138,30 @@ module _ (vs : List Variable) (locations : ℕ) where
         let read : NetNodeOver vs locations made = record { form = f.1; base = weight_over marks.Base a.value.1 b.value.0 b.value.1 b.first; delay = weight_over marks.Delay b.value.1 c.value.0 c.value.1 c.first; top = weight_over marks.Top c.value.1 d.value.0 d.value.1 d.first } in
         (f.0, subst (NetNodeOver vs locations) k.1 read)
 
+    group_level_over : (l : PlainLevel) (s rest : Stream) → group_level_of g s ≡ Ok (l, rest) → LevelOver vs locations l
+    unfolding group_level_of
+    group_level_over l s rest e =
+        let a = both (sum_of g s) _ (l, rest) e in
+        let b = both (weight_of g marks.Top a.value.1) _ (l, rest) a.second in
+        let c = both (behind_mark marks.Group (compassionate_of g) b.value.1) _ (l, rest) b.second in
+        let made : PlainLevel = record { base = a.value.0; top = b.value.0; group = c.value.0 } in
+        let read : LevelOver vs locations made = record { base = sum_over s a.value.0 a.value.1 a.first; top = weight_over marks.Top a.value.1 b.value.0 b.value.1 b.first } in
+        subst (LevelOver vs locations) (given made l c.value.1 rest c.second) read
+
+    nested_node_over : (before : ℕ) (n : PlainNestedNode) (s rest : Stream) → nested_node_of g before s ≡ Ok (n, rest) → (before < 64) × NestedNodeOver vs locations n
+    unfolding nested_node_of
+    nested_node_over before n s rest e =
+        let a = both (listed_formula_of g before s) _ (n, rest) e in
+        let b = both (group_levels_of g 4 [] a.value.1) _ (n, rest) a.second in
+        let c = both (weight_of g marks.Delay b.value.1) _ (n, rest) b.second in
+        let d = both (helper_of g c.value.1) _ (n, rest) c.second in
+        let made : PlainNestedNode = record { form = a.value.0; levels = b.value.0; delay = c.value.0; helper = d.value.0 } in
+        let k = nested_completed_fits (place_of s) made n d.value.1 rest d.second in
+        let f = listed_over before a.value.0 s a.value.1 a.first in
+        let ls = (groups_keep g (LevelOver vs locations) group_level_over 4 [] b.value.0 a.value.1 b.value.1 b.first (All-nil (LevelOver vs locations))).0 in
+        let read : NestedNodeOver vs locations made = record { form = f.1; levels = ls; delay = weight_over marks.Delay b.value.1 c.value.0 c.value.1 c.first } in
+        (f.0, subst (NestedNodeOver vs locations) k.1 read)
+
     abbrev Nodes : List PlainNode → Type 0
     Nodes ns = All (NetNodeOver vs locations) ns
 
@@ -189,13 +214,27 @@ module _ (vs : List Variable) (locations : ℕ) where
         subst Ruled (given (diagram b.value.0) rule b.value.1 rest b.second)
         (diagram_over vs locations (record { kind = o.0; levels = 0; names = g.names; system = g.system }) over (behind s) b.value.0 b.value.1 (drawn_is (diagram_of o.0 0 g.names g.system (behind s)) b.value.0 b.value.1 b.first))
 
+    nested_rule_over : (rule : PlainRule) (s rest : Stream) → then_reads (nested_nodes_of g) (λ ns. gives (nested ns)) s ≡ Ok (rule, rest) → Ruled rule
+    unfolding nested_nodes_of
+    nested_rule_over rule s rest h =
+        let a = both (nested_nodes_of g s) _ (rule, rest) h in
+        subst Ruled (given (nested a.value.0) rule a.value.1 rest a.second) (bracketed_fits (nested_node_of g) (NestedNodeOver vs locations) nested_node_over a.value.0 s a.value.1 a.first).1
+
+    net_rule_over : (rule : PlainRule) (s rest : Stream) → net_rule_of g s ≡ Ok (rule, rest) → Ruled rule
+    unfolding net_rule_of
+    net_rule_over rule s rest h = at_test (is (ahead s) marks.Group) h
+      where
+        at_test : (b : Bool) → cond b (then_reads (nested_nodes_of g) (λ ns. gives (nested ns)) (behind s)) (as_net (nodes_of g) s) ≡ Ok (rule, rest) → Ruled rule
+        at_test true h = nested_rule_over rule (behind s) rest h
+        at_test false h = net_over (nodes_of g) nodes_over rule s rest h
+
     ruled_over : (m : Manner) (rule : PlainRule) (s rest : Stream) → ruled_of g m s ≡ Ok (rule, rest) → Ruled rule
     unfolding ruled_of
     ruled_over manners.Just rule s rest h = net_over (just_nodes_of g) just_nodes_over rule s rest h
     ruled_over manners.Chain rule s rest h = net_over (chain_nodes_of g) chain_nodes_over rule s rest h
     ruled_over manners.Ranked rule s rest h = net_over (ranked_nodes_of g) ranked_nodes_over rule s rest h
     ruled_over manners.Fair rule s rest h = net_over (fair_nodes_of g) fair_nodes_over rule s rest h
-    ruled_over manners.Net rule s rest h = net_over (nodes_of g) nodes_over rule s rest h
+    ruled_over manners.Net rule s rest h = net_rule_over rule s rest h
     ruled_over manners.Diagram rule s rest h = response_diagram_over rule s rest h
 
     rule_over : (rule : PlainRule) (s rest : Stream) → rule_of g s ≡ Ok (rule, rest) → Ruled rule

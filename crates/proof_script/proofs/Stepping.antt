@@ -1,18 +1,16 @@
 -- The loop over the steps of a script: what a step is read to, and what the names of the earlier ones are then.
-use Rattle.std.proofs.Common.{◌≡◌, ℕ, suc, ◌+◌, ◌≤◌, Bool, true, false, not, All, List, [], ◌∷◌, ◌++◌, length, map, Option, Some, None, Ok, refl, sym, ap, subst, ◌∙◌, arith}
+use Rattle.std.proofs.Common.{◌≡◌, ℕ, suc, ◌+◌, ◌≤◌, Bool, true, false, All, List, [], ◌∷◌, ◌++◌, length, map, Option, Some, None, Ok, refl, sym, ap, subst, ◌∙◌, arith}
 use Rattle.std.specs.String.{string_bytes}
 use Rattle.std.specs.declared.string.String.{String}
 use Rattle.std.proofs.lemmas.List.{length-map, length-append}
 use Rattle.std.proofs.lemmas.List.Elements.{All-nil, All-push}
 use Rattle.st_tokens.specs.Stream.{Stream, ends, breaks, more, behind}
-use Rattle.st_tokens.specs.declared.limit.LimitKind.TheVariants as limits
 use Rattle.st_reading.specs.declared.mark.Mark.TheVariants as marks
 use Rattle.st_reading.specs.Reading.{Stop, Read, IsStop, ahead, place_of, expected, named, gives, goes, size}
 use Rattle.st_reading.proofs.Chains.{Running, running_next, running_ends, running_fails}
 use Rattle.st_reading.proofs.Loops.{mapped, map_fails}
 use Rattle.st_form.specs.Formula.{Formula}
 use Rattle.st_program.specs.Names.{as_bytes}
-use Rattle.expression_typer.specs.Naming.{is_text}
 use Rattle.temporal_goals.specs.Texts.{PlainStep}
 use Rattle.diagram_reader.proofs.Inverses.{both}
 use Rattle.proof_script.specs.declared.steps.Claim.{Claim}
@@ -27,8 +25,7 @@ name_new : (earlier : Earlier) (n : List ℕ) (s rest : Stream) → new_name_of 
 unfolding new_name_of
 name_new earlier n s rest h =
     let a = both (named {X = ScriptFault} s) _ (n, rest) h in
-    let b = both (unless (not (is_text a.value.0.text)) (kinds.Limit limits.Text) a.value.0.place a.value.0.text a.value.1) _ (n, rest) a.second in
-    let c = allowed (is_taken earlier b.value.0) kinds.Twice a.value.0.place b.value.0 n b.value.1 rest b.second in
+    let c = allowed (is_taken earlier a.value.0.text) kinds.Twice a.value.0.place a.value.0.text n a.value.1 rest a.second in
     subst (λ m. is_taken earlier m ≡ false) c.1 c.0
 
 -- one token fewer is left behind the first token of a step

@@ -69,7 +69,7 @@ module _ (g : Setting) where
       let b = allowed (is_unfair g.system (Some a.value.0.0)) kinds.UnfairHelper a.value.0.1 a.value.0.0 h a.value.1 rest a.second in
       subst (λ n. is_unfair g.system (Some n) ≡ false) b.1 b.0
 
-  compassionate_fits : (s : Stream) (h : ℕ) (rest : Stream) → compassionate_of g s ≡ Ok (h, rest) → is_uncompassionate g.system (Some h) ≡ false
+  pub compassionate_fits : (s : Stream) (h : ℕ) (rest : Stream) → compassionate_of g s ≡ Ok (h, rest) → is_uncompassionate g.system (Some h) ≡ false
   unfolding compassionate_of
   compassionate_fits s h rest e =
       let a = both (transition_of g s) _ (h, rest) e in
@@ -80,7 +80,7 @@ module _ (g : Setting) where
   unfolding wanted_helper_of
   wanted_fits s h rest e = let a = behind_it marks.Helper (just_of g) h s rest e in just_fits a.0 h rest a.1
 
-  helper_fits : (s : Stream) (h : Option ℕ) (rest : Stream) → helper_of g s ≡ Ok (h, rest) → is_unfair g.system h ≡ false
+  pub helper_fits : (s : Stream) (h : Option ℕ) (rest : Stream) → helper_of g s ≡ Ok (h, rest) → is_unfair g.system h ≡ false
   unfolding helper_of
   helper_fits s h rest e = optionally marks.Helper (just_of g) (λ o. is_unfair g.system o ≡ false) refl (λ x m r k. just_fits m x r k) h s rest e
 

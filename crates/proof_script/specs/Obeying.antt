@@ -7,7 +7,7 @@ use Rattle.st_program.specs.Names.{Names}
 use Rattle.transition_system.specs.Systems.{System}
 use Rattle.temporal_goals.specs.Texts.{PlainGoal, invariant, waiting, response, PlainRule, basic, stronger, levels, net, diagram, nested, PlainStep}
 use Rattle.temporal_goals.specs.declared.diagrams.DiagramKind.TheVariants.{Wait}
-use Rattle.rule_laws.specs.Fitting.{NodesFit, DrawnNodesFit, LevelsExist}
+use Rattle.rule_laws.specs.Fitting.{NodesFit, NestedFit, DrawnNodesFit, LevelsExist}
 use Rattle.proof_script.specs.Script.{script_spelled}
 
 -- the earlier step with this number is an invariance
@@ -28,23 +28,25 @@ FitsInvariance (net ns) = ⊥
 FitsInvariance (diagram d) = ⊥
 FitsInvariance (nested ns) = ⊥
 
--- a rule for nested waiting-for with so many formulas: as many levels, or a wait diagram whose nodes are levels of the goal
+-- a rule for nested waiting-for with so many formulas: as many levels, at most 64, or a wait diagram whose nodes are levels of
+-- the goal
 abbrev pub FitsWaiting : ℕ → PlainRule → Type 0
 FitsWaiting count basic = ⊥
 FitsWaiting count (stronger f) = ⊥
-FitsWaiting count (levels ls) = length ls ≡ count
+FitsWaiting count (levels ls) = (length ls ≡ count) × (length ls ≤ 64)
 FitsWaiting count (net ns) = ⊥
 FitsWaiting count (diagram d) = (d.kind ≡ Wait) × LevelsExist count d.nodes
 FitsWaiting count (nested ns) = ⊥
 
--- a rule for a response: at most 64 nodes with just helpers and compassionate groups, or a chain or rank diagram with just helpers
+-- a rule for a response: at most 64 nodes with just helpers and compassionate groups, in a nested net at most four for a node,
+-- or a chain or rank diagram with just helpers
 abbrev pub FitsResponse : System → PlainRule → Type 0
 FitsResponse system basic = ⊥
 FitsResponse system (stronger f) = ⊥
 FitsResponse system (levels ls) = ⊥
 FitsResponse system (net ns) = (length ns ≤ 64) × NodesFit system ns
 FitsResponse system (diagram d) = (d.kind ≢ Wait) × DrawnNodesFit system d.nodes
-FitsResponse system (nested ns) = ⊥
+FitsResponse system (nested ns) = (length ns ≤ 64) × NestedFit system ns × All (λ n. length n.levels ≤ 4) ns
 
 abbrev pub RuleFits : System → PlainGoal → PlainRule → Type 0
 RuleFits system (invariant p) rule = FitsInvariance rule

@@ -1,6 +1,6 @@
--- How the rule of a response is read: by one helper, a chain of helpers, ranks, the compassion of one transition, a net, or a
--- diagram. The short forms are nets (`response_rules`).
-use Rattle.std.specs.Prelude.{ℕ, Bool, ◌&&◌, ◌||◌, cond, List, [], ◌∷◌, Option, Some, None, is_none, Ok, Err}
+-- How the rule of a response is read: by one helper, a chain of helpers, ranks, the compassion of one transition, a net, a net
+-- of nodes in groups one inside the other, or a diagram. The short forms are nets (`response_rules`).
+use Rattle.std.specs.Prelude.{ℕ, zero, suc, Bool, ◌&&◌, ◌||◌, cond, nat_eq, List, [], ◌∷◌, ◌++◌, length, Option, Some, None, is_none, Ok, Err}
 use Rattle.st_tokens.specs.Stream.{Stream, behind}
 use Rattle.st_reading.specs.declared.mark.Mark.{Mark}
 use Rattle.st_reading.specs.declared.mark.Mark.TheVariants as marks
@@ -9,7 +9,7 @@ use Rattle.st_reading.specs.Sign.{is}
 use Rattle.st_reading.specs.Reading.{Read, ahead, place_of, refusal, expected, gives, then_reads, on_operator}
 use Rattle.st_linear.specs.Linear.{Linear}
 use Rattle.st_form.specs.Formula.{Formula}
-use Rattle.temporal_goals.specs.Texts.{PlainNode, PlainRule, net, diagram}
+use Rattle.temporal_goals.specs.Texts.{PlainNode, PlainLevel, PlainNestedNode, PlainRule, net, diagram, nested}
 use Rattle.temporal_goals.specs.declared.diagrams.DiagramKind.{DiagramKind}
 use Rattle.temporal_goals.specs.declared.diagrams.DiagramKind.TheVariants as drawings
 use Rattle.diagram_reader.specs.Drawing.{diagram_of}
@@ -37,6 +37,10 @@ ends_item g = is g marks.Semicolon || is g marks.CloseBlock
 -- A node that begins at the place has a group or a helper; that it has neither is found at its end.
 unfoldable pub completed_of : ℕ → PlainNode → Reader PlainNode
 completed_of place n s = cond (ends_item (ahead s)) (unless (is_none n.group && is_none n.helper) kinds.NoHelper place n s) (Err (refusal s))
+
+-- The same of a node of a nested net.
+unfoldable pub nested_completed_of : ℕ → PlainNestedNode → Reader PlainNestedNode
+nested_completed_of place n s = cond (ends_item (ahead s)) (unless (nat_eq (length n.levels) 0 && is_none n.helper) kinds.NoHelper place n s) (Err (refusal s))
 
 abbrev pub as_net : Reader (List PlainNode) → Reader PlainRule
 as_net r = then_reads r (λ ns. gives (net ns))
@@ -74,6 +78,21 @@ module _ (g : Setting) where
       then_reads (listed_formula_of g before) (λ f. then_reads (weight_of marks.Base) (λ b. then_reads (weight_of marks.Delay) (λ d. then_reads (weight_of marks.Top) (λ t.
       then_reads group_of (λ c. then_reads helper_of (λ h. completed_of (place_of s) (record { form = f; base = b; delay = d; top = t; group = c; helper = h }))))))) s
 
+  -- "base" sum "top" sum "group" trans, behind "base"
+  unfoldable pub group_level_of : Reader PlainLevel
+  group_level_of = then_reads (sum_of g) (λ b. then_reads (weight_of marks.Top) (λ t. then_reads (behind_mark marks.Group (compassionate_of g)) (λ c. gives (record { base = b; top = t; group = c }))))
+
+  -- at most so many further groups, each inside those before it
+  unfoldable pub group_levels_of : ℕ → List PlainLevel → Reader (List PlainLevel)
+  group_levels_of zero ls s = Ok (ls, s)
+  group_levels_of (suc n) ls s = cond (is (ahead s) marks.Base) (then_reads group_level_of (λ l. group_levels_of n (ls ++ l ∷ [])) (behind s)) (Ok (ls, s))
+
+  -- expr { "base" sum "top" sum "group" trans } "delay" sum [ "helper" trans ], with at most four groups
+  unfoldable pub nested_node_of : ℕ → Reader PlainNestedNode
+  nested_node_of before s =
+      then_reads (listed_formula_of g before) (λ f. then_reads (group_levels_of 4 []) (λ ls. then_reads (weight_of marks.Delay) (λ d. then_reads helper_of (λ h.
+      nested_completed_of (place_of s) (record { form = f; levels = ls; delay = d; helper = h }))))) s
+
   -- one node with its helper, as a chain of one
   unfoldable pub just_nodes_of : Reader (List PlainNode)
   just_nodes_of = then_reads (helped_of 0) (λ x. gives (chain_nodes (x ∷ [])))
@@ -87,6 +106,14 @@ module _ (g : Setting) where
 
   unfoldable pub nodes_of : Reader (List PlainNode)
   nodes_of = bracketed node_of
+
+  -- behind "net" "group"
+  unfoldable pub nested_nodes_of : Reader (List PlainNestedNode)
+  nested_nodes_of = bracketed nested_node_of
+
+  -- a net, or behind "group" a nested one
+  unfoldable pub net_rule_of : Reader PlainRule
+  net_rule_of s = cond (is (ahead s) marks.Group) (then_reads nested_nodes_of (λ ns. gives (nested ns)) (behind s)) (as_net nodes_of s)
 
   -- trans "[" .. "]", behind "fair"
   unfoldable pub fair_nodes_of : Reader (List PlainNode)
@@ -102,7 +129,7 @@ module _ (g : Setting) where
   ruled_of manners.Chain s = as_net chain_nodes_of s
   ruled_of manners.Ranked s = as_net ranked_nodes_of s
   ruled_of manners.Fair s = as_net fair_nodes_of s
-  ruled_of manners.Net s = as_net nodes_of s
+  ruled_of manners.Net s = net_rule_of s
   ruled_of manners.Diagram s = response_diagram_of s
 
   unfoldable pub rule_of : Reader PlainRule

@@ -6,7 +6,7 @@ use Rattle.st_form.specs.declared.variables.Variable.{Variable}
 use Rattle.st_program.specs.Names.{Names}
 use Rattle.st_program.specs.Types.{LinearFits}
 use Rattle.transition_system.specs.Systems.{System}
-use Rattle.temporal_goals.specs.Texts.{PlainGoal, invariant, waiting, response, PlainNode, PlainRule, basic, stronger, levels, net, diagram, nested, PlainStep}
+use Rattle.temporal_goals.specs.Texts.{PlainGoal, invariant, waiting, response, PlainNode, PlainLevel, PlainNestedNode, PlainRule, basic, stronger, levels, net, diagram, nested, PlainStep}
 use Rattle.expression_typer.specs.Naming.{names_of}
 use Rattle.expression_typer.specs.Naming.{NamesOver}
 use Rattle.assertions.specs.Over.{FormulaOver}
@@ -29,14 +29,22 @@ module _ (vs : List Variable) (locations : ℕ) where
     pub delay : SmallOver n.delay
     pub top : SmallOver n.top
 
-  -- no nested net is read
+  pub record LevelOver (l : PlainLevel) : Type 0 where
+    pub base : SmallOver l.base
+    pub top : SmallOver l.top
+
+  pub record NestedNodeOver (n : PlainNestedNode) : Type 0 where
+    pub form : FormulaOver vs locations n.form
+    pub levels : All LevelOver n.levels
+    pub delay : SmallOver n.delay
+
   abbrev pub RuleOver : PlainRule → Type 0
   RuleOver basic = ⊤
   RuleOver (stronger f) = FormulaOver vs locations f
   RuleOver (levels ls) = All (FormulaOver vs locations) ls
   RuleOver (net ns) = All NetNodeOver ns
   RuleOver (diagram d) = DiagramOver vs locations d
-  RuleOver (nested ns) = ⊥
+  RuleOver (nested ns) = All NestedNodeOver ns
 
   abbrev pub StepOver : PlainStep → Type 0
   StepOver s = GoalOver s.goal × RuleOver s.rule

@@ -1,7 +1,6 @@
 -- How a step is read: what it claims, its rule, and the earlier steps that it cites.
 use Rattle.std.specs.Prelude.{ℕ, Bool, true, false, not, cond, ◌||◌, ◌-◌, nat_eq, if◌then◌else◌, List, [], ◌∷◌, length, map, Option, Some, None, is_some, Ok, Err}
 use Rattle.st_tokens.specs.Stream.{Stream, behind}
-use Rattle.st_tokens.specs.declared.limit.LimitKind.TheVariants as limits
 use Rattle.st_reading.specs.declared.mark.Mark.TheVariants as marks
 use Rattle.st_reading.specs.declared.sign.Sign.{Sign}
 use Rattle.st_reading.specs.Sign.{is}
@@ -53,10 +52,9 @@ invariance_rule (Some f) = stronger f
 abbrev pub is_taken : Earlier → List ℕ → Bool
 is_taken earlier name = is_some (tables.named name earlier)
 
--- The name of a step, which no earlier one has. A name is text.
+-- the name of a step, which no earlier one has
 unfoldable pub new_name_of : Earlier → Reader (List ℕ)
-new_name_of earlier =
-    then_reads named (λ n. then_reads (unless (not (is_text n.text)) (kinds.Limit limits.Text) n.place n.text) (λ name. unless (is_taken earlier name) kinds.Twice n.place name))
+new_name_of earlier = then_reads named (λ n. unless (is_taken earlier n.text) kinds.Twice n.place n.text)
 
 -- an earlier invariance, by its name
 unfoldable pub cited_of : Earlier → Reader ℕ

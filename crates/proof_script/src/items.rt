@@ -115,7 +115,7 @@ impl Item for (Form, Option<u32>) {
 }
 
 /// Whether an item ends there.
-fn ends_item(sign: Sign) -> bool
+pub fn ends_item(sign: Sign) -> bool
     ensures { result ≡ ends_item sign }
 {
     is(sign, Mark::Semicolon) || is(sign, Mark::CloseBlock)

@@ -10,6 +10,7 @@ pub mod laws;
 mod lists;
 mod marks;
 mod naming;
+mod nested;
 mod nets;
 mod parts;
 mod reading;

@@ -14,7 +14,7 @@ use crate::marks::name;
 use assertions::text_of;
 use indexmap::IndexMap;
 use st_reading::{Mark, advance, ahead, is};
-use st_tokens::{LimitKind, Tokens};
+use st_tokens::Tokens;
 use std::alloc::Global;
 
 /// The number of the earlier step with this name, and whether it is an invariance.
@@ -28,7 +28,7 @@ fn step_named(earlier: &IndexMap<String, bool>, name: &[u8]) -> Option<(u32, boo
     Some((number as u32, *invariance))
 }
 
-/// Reads the name of a step, which no earlier one has.
+/// Reads the name of a step, which no earlier one has. The names of tokens are text, so that nothing but memory can be wanted.
 #[tactic(auto, unfolding(crate::specs::Steps::new_name_of))]
 pub fn new_name(
     alloc: Global,
@@ -40,7 +40,7 @@ pub fn new_name(
 {
     let name = name(tokens)?;
     let Some(text) = text_of(name.text) else {
-        return Err(ScriptFault::At(ScriptKind::Limit(LimitKind::Text), name.place));
+        return Err(ScriptFault::Memory);
     };
     if earlier.contains_key(text) {
         return Err(ScriptFault::At(ScriptKind::Twice, name.place));

@@ -6,11 +6,11 @@ ghost use Rattle.st_reading.specs.Reading.{Reads, size};
 ghost use Rattle.temporal_goals.specs.Plain.{plain_rule};
 ghost use Rattle.proof_script.specs.Faults.{see};
 ghost use Rattle.proof_script.specs.Listing.{setting_view};
-ghost use Rattle.proof_script.specs.Rules.{manner_in, kind_in, response_diagram_of, ruled_of, rule_of};
+ghost use Rattle.proof_script.specs.Rules.{manner_in, kind_in, net_rule_of, response_diagram_of, ruled_of, rule_of};
 
 use crate::fault::ScriptFault;
 use crate::marks::refusal;
-use crate::nets::{chain_net, fair_net, just_net, ranked_net, written_net};
+use crate::nets::{chain_net, fair_net, just_net, nested_net, ranked_net, written_net};
 use crate::setting::Setting;
 use diagram_reader::read_diagram;
 use st_reading::{Mark, Sign, advance, ahead, is};
@@ -63,6 +63,23 @@ fn kind_in(sign: Sign) -> Option<DiagramKind>
     }
 }
 
+/// A net, or behind `group` a nested one.
+#[tactic(auto, unfolding(crate::specs::Rules::net_rule_of))]
+fn net_rule(
+    alloc: Global,
+    setting: &Setting<'_>,
+    tokens: &mut Tokens<'_>,
+) -> Result<RuleText, ScriptFault>
+    ensures reads { Reads see plain_rule result (stream tokens.new) (net_rule_of (setting_view setting.now) (stream tokens.old)) }
+    ensures shrinks { IfOk result (λ _. size (stream tokens.new) ≤ size (stream tokens.old)) }
+{
+    if !is(ahead(tokens), Mark::Group) {
+        return Ok(RuleText::Net(written_net(alloc, setting, tokens)?));
+    }
+    advance(tokens);
+    Ok(RuleText::Nested(nested_net(alloc, setting, tokens)?))
+}
+
 /// A chain or rank diagram.
 #[tactic(auto, unfolding(crate::specs::Rules::response_diagram_of))]
 fn response_diagram(
@@ -97,7 +114,7 @@ fn ruled(
         Manner::Chain => Ok(RuleText::Net(chain_net(alloc, setting, tokens)?)),
         Manner::Ranked => Ok(RuleText::Net(ranked_net(alloc, setting, tokens)?)),
         Manner::Fair => Ok(RuleText::Net(fair_net(alloc, setting, tokens)?)),
-        Manner::Net => Ok(RuleText::Net(written_net(alloc, setting, tokens)?)),
+        Manner::Net => net_rule(alloc, setting, tokens),
         Manner::Diagram => response_diagram(alloc, setting, tokens),
     }
 }

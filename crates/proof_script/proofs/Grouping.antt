@@ -3,7 +3,7 @@
 use Rattle.std.proofs.Common.{◌≡◌, ℕ, zero, suc, ◌+◌, ◌-◌, ◌<◌, ◌≤◌, Bool, true, false, cond, ◌&&◌, ◌||◌, nat_eq, All, List, [], ◌∷◌, ◌++◌, length, length-append, Option, Some, None, is_none, Result, Ok, Err, refl, sym, ap, subst, ◌∙◌, arith}
 use Rattle.std.specs.Result.{ForErr}
 use Rattle.std.proofs.lemmas.Option.{none-some}
-use Rattle.std.proofs.lemmas.List.Elements.{All-nil, All-cons, All-push, All-head, All-tail}
+use Rattle.std.proofs.lemmas.List.Elements.{All-nil, All-push, All-head, All-tail, All-weaker}
 use Rattle.st_tokens.specs.Stream.{Stream, behind}
 use Rattle.st_reading.specs.declared.mark.Mark.TheVariants as marks
 use Rattle.st_reading.specs.Sign.{is}
@@ -126,5 +126,4 @@ nested_never_fails system ns sound (Err f) h e is = absurd (none-some f (sym sou
 
 -- the groups of nodes are few
 pub few_groups : (system : System) (ns : List PlainNestedNode) → All (NestedUnbroken system) ns → All (λ n. length n.levels ≤ 4) ns
-few_groups system [] h = All-nil (λ n. length n.levels ≤ 4)
-few_groups system (n ∷ ns) h = All-cons (λ n. length n.levels ≤ 4) n ns (All-head (NestedUnbroken system) n ns h).3 (few_groups system ns (All-tail (NestedUnbroken system) n ns h))
+few_groups system ns h = All-weaker (NestedUnbroken system) (λ n. length n.levels ≤ 4) (λ n u. u.3) ns h

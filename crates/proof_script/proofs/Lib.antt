@@ -3,6 +3,7 @@ pub mod Counting
 pub mod Inverses
 pub mod Unbroken
 pub mod Grouping
+pub mod Numbering
 pub mod Stepping
 pub mod Scripts
 pub mod Citing

@@ -21,6 +21,7 @@ use Rattle.expression_typer.specs.Naming.{NamesOver}
 use Rattle.assertions.specs.Over.{FormulaOver}
 use Rattle.assertions.specs.Reading.{Answer, form_of, linear_of}
 use Rattle.assertions.proofs.Over.{form_over, linear_over}
+use Rattle.diagram_reader.specs.Drawn.{Setting as DrawingSetting}
 use Rattle.diagram_reader.specs.Drawing.{diagram_of}
 use Rattle.diagram_reader.proofs.Inverses.{both}
 use Rattle.diagram_reader.proofs.Speaking.{diagram_over}
@@ -39,6 +40,7 @@ use Rattle.proof_script.specs.Speaking.{SmallOver, GoalOver, NetNodeOver, LevelO
 use Rattle.proof_script.proofs.Inverses.{given, allowed, behind_it, optionally, operated, listed_few, few_listed, listed_fits, further_fits, bracketed_fits}
 use Rattle.proof_script.proofs.Unbroken.{completed_fits}
 use Rattle.proof_script.proofs.Grouping.{groups_keep, nested_completed_fits}
+use Rattle.proof_script.proofs.Numbering.{diagram_numbered}
 use Rattle.proof_script.proofs.Fitting.{drawn_is, matched_is}
 use Rattle.proof_script.proofs.Scripts.{setting_for, script_keeps}
 
@@ -211,8 +213,9 @@ module _ (vs : List Variable) (locations : ℕ) where
     response_diagram_over rule s rest h =
         let o = operated (kind_in (ahead s)) (refusal s) (λ k. then_reads (λ t. drawn (diagram_of k 0 g.names g.system t)) (λ d. gives (diagram d)) (behind s)) (rule, rest) h in
         let b = both (drawn (diagram_of o.0 0 g.names g.system (behind s))) _ (rule, rest) o.2 in
-        subst Ruled (given (diagram b.value.0) rule b.value.1 rest b.second)
-        (diagram_over vs locations (record { kind = o.0; levels = 0; names = g.names; system = g.system }) over (behind s) b.value.0 b.value.1 (drawn_is (diagram_of o.0 0 g.names g.system (behind s)) b.value.0 b.value.1 b.first))
+        let read = drawn_is (diagram_of o.0 0 g.names g.system (behind s)) b.value.0 b.value.1 b.first in
+        let for_it : DrawingSetting = record { kind = o.0; levels = 0; names = g.names; system = g.system } in
+        subst Ruled (given (diagram b.value.0) rule b.value.1 rest b.second) (diagram_over vs locations for_it over (behind s) b.value.0 b.value.1 read, diagram_numbered for_it (behind s) b.value.0 b.value.1 read)
 
     nested_rule_over : (rule : PlainRule) (s rest : Stream) → then_reads (nested_nodes_of g) (λ ns. gives (nested ns)) s ≡ Ok (rule, rest) → Ruled rule
     unfolding nested_nodes_of
@@ -279,8 +282,9 @@ module _ (vs : List Variable) (locations : ℕ) where
     wait_diagram_over count rule s rest h =
         let a = behind_it marks.Wait (then_reads (λ t. drawn (diagram_of Wait (count - 1) g.names g.system t)) (λ d. gives (diagram d))) rule s rest h in
         let b = both (drawn (diagram_of Wait (count - 1) g.names g.system a.0)) _ (rule, rest) a.1 in
-        subst Ruled (given (diagram b.value.0) rule b.value.1 rest b.second)
-        (diagram_over vs locations (record { kind = Wait; levels = count - 1; names = g.names; system = g.system }) over a.0 b.value.0 b.value.1 (drawn_is (diagram_of Wait (count - 1) g.names g.system a.0) b.value.0 b.value.1 b.first))
+        let read = drawn_is (diagram_of Wait (count - 1) g.names g.system a.0) b.value.0 b.value.1 b.first in
+        let for_it : DrawingSetting = record { kind = Wait; levels = count - 1; names = g.names; system = g.system } in
+        subst Ruled (given (diagram b.value.0) rule b.value.1 rest b.second) (diagram_over vs locations for_it over a.0 b.value.0 b.value.1 read, diagram_numbered for_it a.0 b.value.0 b.value.1 read)
 
     waiting_by_over : (count place : ℕ) (rule : PlainRule) (s rest : Stream) → waiting_by_of g count place s ≡ Ok (rule, rest) → Ruled rule
     unfolding waiting_by_of

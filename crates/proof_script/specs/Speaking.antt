@@ -1,6 +1,6 @@
 -- What the goals and rules of a script speak of: a program's variables, each by its type, and its locations, with numbers that
 -- are small.
-use Rattle.std.specs.Prelude.{◌≡◌, ℕ, suc, ◌^◌, List, All, Ok, ⊤}
+use Rattle.std.specs.Prelude.{◌≡◌, ℕ, suc, ◌^◌, ◌≤◌, List, All, Ok, ⊤}
 use Rattle.st_linear.specs.Linear.{Linear}
 use Rattle.st_form.specs.declared.variables.Variable.{Variable}
 use Rattle.st_program.specs.Names.{Names}
@@ -43,7 +43,7 @@ module _ (vs : List Variable) (locations : ℕ) where
   RuleOver (stronger f) = FormulaOver vs locations f
   RuleOver (levels ls) = All (FormulaOver vs locations) ls
   RuleOver (net ns) = All NetNodeOver ns
-  RuleOver (diagram d) = DiagramOver vs locations d
+  RuleOver (diagram d) = DiagramOver vs locations d × All (λ n. n.number ≤ 2 ^ 30) d.nodes
   RuleOver (nested ns) = All NestedNodeOver ns
 
   abbrev pub StepOver : PlainStep → Type 0

@@ -2,3 +2,4 @@ pub mod Pieces
 pub mod Along
 pub mod Levels
 pub mod Numbers
+pub mod Owed

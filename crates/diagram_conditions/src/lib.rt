@@ -8,6 +8,7 @@
 
 mod cases;
 mod ends;
+pub mod guards;
 mod leaving;
 mod moves;
 mod nodes;

@@ -4,10 +4,11 @@
 ghost use Rattle.std.specs.Prelude.{◌≡◌, ◌<◌, ◌-◌, ◌^◌, map, length};
 ghost use Rattle.st_form.specs.Plain.{plain};
 ghost use Rattle.transition_system.specs.Plain.{plain_mode, plain_transition, plain_system};
+ghost use Rattle.transition_system.specs.Systems.{FewModes};
 ghost use Rattle.temporal_goals.specs.Plain.{plain_drawn_node, plain_diagram};
 ghost use Rattle.vc_generator.specs.Plain.{plain_list, plain_case};
 ghost use Rattle.vc_generator.specs.Refusing.{Grows};
-ghost use Rattle.vc_generator.specs.Walks.{numbered_from, FewModes, HasFewModes};
+ghost use Rattle.vc_generator.specs.Walks.{numbered_from};
 ghost use Rattle.rule_laws.specs.Diagrams.{drawn_rank};
 ghost use Rattle.diagram_conditions.specs.Asked.{CanFall};
 ghost use Rattle.diagram_conditions.specs.Leaving.{leaving_from, step_cases as step_cases_of};
@@ -121,8 +122,7 @@ pub fn steps_lead(
     diagram: &Diagram,
     out: &mut Conditions,
 ) -> Result<(), VcFault>
-    requires few { HasFewModes (plain_system fts.now) }
-    requires falls { CanFall (drawn_rank (plain_drawn_node origin.now.node.now)) }
+    requires { CanFall (drawn_rank (plain_drawn_node origin.now.node.now)) }
     ensures { Grows result (plain_list out.old) (plain_list out.new)
         (leads_of origin.now.step (plain_system fts.now) (map plain origin.now.lemmas.now) (plain_drawn_node origin.now.node.now)
         (step_cases_of origin.now.kind (plain origin.now.terminal.now) (plain_drawn_node origin.now.node.now)

@@ -21,13 +21,10 @@ pub trait PerNode {
     ghost use Rattle.rule_laws.specs.Diagrams.{drawn_rank};
     ghost use Rattle.diagram_conditions.specs.Asked.{CanFall};
 
-    ghost fits: { Self → Type 0 } = { λ _. Unit {0} };
-
     ghost asks: { Self → PlainDrawnNode → List Draft };
 
     fn append(&self, alloc: Global, node: &DiagramNode, out: &mut Conditions) -> Result<(), VcFault>
-        requires fitting { fits self.now }
-        requires falls { CanFall (drawn_rank (plain_drawn_node node.now)) }
+        requires { CanFall (drawn_rank (plain_drawn_node node.now)) }
         ensures { Grows result (plain_list out.old) (plain_list out.new) (asks self.now (plain_drawn_node node.now)) };
 }
 
@@ -38,8 +35,7 @@ pub fn each_node<P: PerNode>(
     rule: &P,
     out: &mut Conditions,
 ) -> Result<(), VcFault>
-    requires fitting { P.fits rule.now }
-    requires fall { RanksCanFall (plain_diagram diagram.now).nodes }
+    requires { RanksCanFall (plain_diagram diagram.now).nodes }
     ensures { Grows result (plain_list out.old) (plain_list out.new) (each_node_of (P.asks rule.now) (plain_diagram diagram.now).nodes) }
 {
     for index in 0..diagram.nodes.len() {

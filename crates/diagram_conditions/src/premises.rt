@@ -131,10 +131,7 @@ impl PerNode for Steps<'_> {
     ghost use Rattle.st_form.specs.Plain.{plain};
     ghost use Rattle.transition_system.specs.Plain.{plain_system};
     ghost use Rattle.temporal_goals.specs.Plain.{plain_diagram};
-    ghost use Rattle.vc_generator.specs.Walks.{HasFewModes};
     ghost use Rattle.diagram_conditions.specs.Moves.{cases_of, leads_of};
-
-    ghost fits = { λ r. HasFewModes (plain_system r.fts.now) };
 
     ghost asks = { λ r n. leads_of r.step (plain_system r.fts.now) (map plain r.lemmas.now) n (cases_of r.kind (plain_diagram r.diagram.now) n) };
 

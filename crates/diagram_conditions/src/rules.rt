@@ -6,11 +6,11 @@ ghost use Rattle.transition_system.specs.Plain.{plain_system};
 ghost use Rattle.temporal_goals.specs.Plain.{plain_diagram};
 ghost use Rattle.vc_generator.specs.Plain.{plain_list};
 ghost use Rattle.vc_generator.specs.Refusing.{Grows};
-ghost use Rattle.vc_generator.specs.Walks.{HasFewModes};
 ghost use Rattle.rule_laws.specs.Diagrams.{wait_list, chain_list, rank_list};
 ghost use Rattle.diagram_conditions.specs.Asked.{CanFall, RanksCanFall, waiting_asks, response_asks};
 
 use crate::ends::{covers_chain, covers_ranks, covers_waiting, ends_response, implies_level};
+use crate::guards::fits;
 use crate::nodes::each_node;
 use crate::premises::{Helps, Levels, Ranks, Steps};
 use st_form::Form;
@@ -39,8 +39,7 @@ fn waiting(
     diagram: &Diagram,
     out: &mut Conditions,
 ) -> Result<(), VcFault>
-    requires modes { HasFewModes (plain_system fts.now) }
-    requires ranks { RanksCanFall (plain_diagram diagram.now).nodes }
+    requires { RanksCanFall (plain_diagram diagram.now).nodes }
     ensures { Grows result (plain_list out.old) (plain_list out.new)
         (wait_list step (plain_system fts.now) (map plain lemmas.now) (plain p.now) (map plain goals.now) (plain_diagram diagram.now)) }
 {
@@ -75,8 +74,7 @@ fn chain(
     diagram: &Diagram,
     out: &mut Conditions,
 ) -> Result<(), VcFault>
-    requires modes { HasFewModes (plain_system fts.now) }
-    requires ranks { RanksCanFall (plain_diagram diagram.now).nodes }
+    requires { RanksCanFall (plain_diagram diagram.now).nodes }
     ensures { Grows result (plain_list out.old) (plain_list out.new)
         (chain_list step (plain_system fts.now) (map plain lemmas.now) (plain p.now) (plain q.now) bound.now (plain_diagram diagram.now)) }
 {
@@ -107,7 +105,6 @@ fn ranked(
     diagram: &Diagram,
     out: &mut Conditions,
 ) -> Result<(), VcFault>
-    requires modes { HasFewModes (plain_system fts.now) }
     requires bound { CanFall bound.now }
     requires ranks { RanksCanFall (plain_diagram diagram.now).nodes }
     ensures { Grows result (plain_list out.old) (plain_list out.new)
@@ -141,8 +138,7 @@ fn waiting_by(
     diagram: &Diagram,
     out: &mut Conditions,
 ) -> Result<(), VcFault>
-    requires modes { HasFewModes (plain_system fts.now) }
-    requires ranks { RanksCanFall (plain_diagram diagram.now).nodes }
+    requires { RanksCanFall (plain_diagram diagram.now).nodes }
     ensures { Grows result (plain_list out.old) (plain_list out.new)
         (waiting_asks diagram.now.kind step (plain_system fts.now) (map plain lemmas.now) (plain p.now) (map plain goals.now) (plain_diagram diagram.now)) }
 {
@@ -164,7 +160,6 @@ fn response_by(
     diagram: &Diagram,
     out: &mut Conditions,
 ) -> Result<(), VcFault>
-    requires modes { HasFewModes (plain_system fts.now) }
     requires bound { CanFall bound.now }
     requires ranks { RanksCanFall (plain_diagram diagram.now).nodes }
     ensures { Grows result (plain_list out.old) (plain_list out.new)
@@ -194,6 +189,10 @@ impl Rule for Drawn {
 
     fn goal(&self) -> &Goal {
         &self.goal
+    }
+
+    fn is_fit(&self, fts: &Fts) -> bool {
+        fits(fts, &self.goal, &self.diagram)
     }
 
     fn conditions(

@@ -7,7 +7,6 @@ ghost use Rattle.st_form.specs.Plain.{plain};
 ghost use Rattle.transition_system.specs.Plain.{plain_system};
 ghost use Rattle.vc_generator.specs.Plain.{plain_list};
 ghost use Rattle.vc_generator.specs.Refusing.{Grows};
-ghost use Rattle.vc_generator.specs.Walks.{HasFewModes};
 ghost use Rattle.rule_laws.specs.Invariance.{kept_always, invariance_list};
 ghost use Rattle.invariance_rules.specs.Asked.{plain_stronger};
 
@@ -81,7 +80,6 @@ fn keep_always(
     form: &Form,
     out: &mut Conditions,
 ) -> Result<(), VcFault>
-    requires { HasFewModes (plain_system fts.now) }
     ensures { Grows result (plain_list out.old) (plain_list out.new) (kept_always step (plain_system fts.now) (map plain lemmas.now) (plain form.now)) }
 {
     let name = plainly(step, Premise::Start, None);
@@ -99,7 +97,6 @@ fn invariant(
     form: &Form,
     out: &mut Conditions,
 ) -> Result<(), VcFault>
-    requires { HasFewModes (plain_system fts.now) }
     ensures { Grows result (plain_list out.old) (plain_list out.new) (invariance_list step (plain_system fts.now) (map plain rule.now.lemmas.items) (plain form.now) (plain_stronger rule.now.stronger)) }
 {
     match &rule.stronger {
@@ -129,6 +126,13 @@ impl Rule for Invariance {
 
     fn goal(&self) -> &Goal {
         &self.goal
+    }
+
+    fn is_fit(&self, _fts: &Fts) -> bool {
+        match &self.goal {
+            Goal::Invariant(_) => true,
+            Goal::Waiting(..) | Goal::Response(..) => false,
+        }
     }
 
     fn conditions(

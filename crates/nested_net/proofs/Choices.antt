@@ -17,7 +17,7 @@ use Rattle.rule_laws.specs.RankedNet.{case_end, cases_if}
 use Rattle.rule_laws.specs.NestedNet.{none_of, each_depth, falls_at, frees_at, nested_stay, nested_cases, nested_move}
 use Rattle.ranked_net.specs.Asked.{moves}
 use Rattle.ranked_net.proofs.Choices.{first-part}
-use Rattle.nested_net.specs.Asked.{outside, falls_to, frees_to, depth_cases, stay_cases, listed_depths, chosen}
+use Rattle.nested_net.specs.Asked.{outside, fall_cases, free_cases, depth_cases, stay_cases, listed_depths, chosen}
 use Rattle.nested_net.proofs.Depths.{passed, met, outside-within, list-at, cut}
 
 if-true : (b : Bool) (cs : List PlainCase) → b ≡ true → cases_if b cs ≡ cs
@@ -27,25 +27,25 @@ if-false : (b : Bool) (cs : List PlainCase) → b ≡ false → cases_if b cs �
 if-false b cs e = ap (λ z. cases_if z cs) e
 
 module _ (system : System) (nodes : List PlainNestedNode) (q : Formula) (n : PlainNestedNode) (number : ℕ) where
-  falls-cut : each_depth (falls_at nodes n number) 0 (suc (length n.levels)) ≡ each_depth (falls_to nodes n) 0 (suc (outside number n.levels))
+  falls-cut : each_depth (falls_at nodes n number) 0 (suc (length n.levels)) ≡ each_depth (fall_cases nodes n) 0 (suc (outside number n.levels))
   falls-cut =
       let within = outside-within number n.levels in
-      cut (falls_at nodes n number) (falls_to nodes n) 0 (suc (outside number n.levels)) (suc (length n.levels)) (omega arith)
-      (λ j a b. if-true (none_of number j n.levels) (falls_to nodes n j) (passed number j n.levels (omega arith)))
-      (λ j a b. if-false (none_of number j n.levels) (falls_to nodes n j) (met number j n.levels (omega arith) (omega arith)))
+      cut (falls_at nodes n number) (fall_cases nodes n) 0 (suc (outside number n.levels)) (suc (length n.levels)) (omega arith)
+      (λ j a b. if-true (none_of number j n.levels) (fall_cases nodes n j) (passed number j n.levels (omega arith)))
+      (λ j a b. if-false (none_of number j n.levels) (fall_cases nodes n j) (met number j n.levels (omega arith) (omega arith)))
 
-  frees-cut : each_depth (frees_at system nodes n number) 0 (length n.levels) ≡ each_depth (frees_to system nodes n) 0 (outside number n.levels)
+  frees-cut : each_depth (frees_at system nodes n number) 0 (length n.levels) ≡ each_depth (free_cases system nodes n) 0 (outside number n.levels)
   frees-cut =
       let within = outside-within number n.levels in
-      cut (frees_at system nodes n number) (frees_to system nodes n) 0 (outside number n.levels) (length n.levels) within
-      (λ j a b. if-true (none_of number (suc j) n.levels) (frees_to system nodes n j) (passed number (suc j) n.levels (omega arith)))
-      (λ j a b. if-false (none_of number (suc j) n.levels) (frees_to system nodes n j) (met number (suc j) n.levels (omega arith) (omega arith)))
+      cut (frees_at system nodes n number) (free_cases system nodes n) 0 (outside number n.levels) (length n.levels) within
+      (λ j a b. if-true (none_of number (suc j) n.levels) (free_cases system nodes n j) (passed number (suc j) n.levels (omega arith)))
+      (λ j a b. if-false (none_of number (suc j) n.levels) (free_cases system nodes n j) (met number (suc j) n.levels (omega arith) (omega arith)))
 
   abbrev falls : List PlainCase
-  falls = each_depth (falls_to nodes n) 0 (suc (outside number n.levels))
+  falls = each_depth (fall_cases nodes n) 0 (suc (outside number n.levels))
 
   abbrev frees : List PlainCase
-  frees = each_depth (frees_to system nodes n) 0 (outside number n.levels)
+  frees = each_depth (free_cases system nodes n) 0 (outside number n.levels)
 
   abbrev stays : List PlainCase
   stays = cases_if (none_of number (length n.levels) n.levels && not (is_name n.helper number)) (nested_stay n ∷ [])

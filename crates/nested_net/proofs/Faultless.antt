@@ -20,7 +20,7 @@ neither : (a b : Bool) → a || b ≡ false → (a ≡ false) × (b ≡ false)
 neither true b e = absurd (false≢true (sym e))
 neither false b e = (refl, e)
 
-levels-fit : (system : System) (ls : List PlainLevel) → some_uncompassionate system ls ≡ false → LevelsFit system ls
+pub levels-fit : (system : System) (ls : List PlainLevel) → some_uncompassionate system ls ≡ false → LevelsFit system ls
 levels-fit system [] e = tt
 levels-fit system (l ∷ ls) e =
     let both = neither (is_uncompassionate system (Some l.group)) (some_uncompassionate system ls) e in

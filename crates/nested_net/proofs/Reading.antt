@@ -15,7 +15,7 @@ use Rattle.rule_laws.specs.NestedNet.{top_at, base_at, group_at, agree, agreeing
 use Rattle.ranked_net.specs.Asked.{IsModest}
 use Rattle.transition_system.specs.Systems.{System}
 use Rattle.rule_laws.specs.Names.{enabled_of}
-use Rattle.nested_net.specs.Asked.{LevelsModest, free_within, frees_to, plain_lists}
+use Rattle.nested_net.specs.Asked.{LevelsModest, free_within, free_cases, plain_lists}
 
 -- the numbers and the group at a depth
 pub top_some : (ls : List Level) (k : ℕ) (l : Level) (d : Linear) → slice_get ls k ≡ Some l → l.top ≡ top_at k (map plain_level ls) d
@@ -142,7 +142,7 @@ list_none (x ∷ xs) (suc i) e = list_none xs i e
 
 -- free steps at a depth are those within one group more
 pub frees-by : (system : System) (nodes : List PlainNestedNode) (n : PlainNestedNode) (k count : ℕ) (enabled : Formula) → count ≡ suc k → enabled ≡ enabled_of system (group_at k n.levels)
-    → map (free_within enabled count n) (agreeing count n.levels nodes) ≡ frees_to system nodes n k
+    → map (free_within enabled count n) (agreeing count n.levels nodes) ≡ free_cases system nodes n k
 frees-by system nodes n k count enabled counts is =
     ap (λ c. map (free_within enabled c n) (agreeing c n.levels nodes)) counts ∙ ap (λ f. map (free_within f (suc k) n) (agreeing (suc k) n.levels nodes)) is
 

@@ -49,16 +49,16 @@ outside number (l ∷ ls) = if l.group == number then 0 else suc (outside number
 abbrev pub free_within : Formula → ℕ → PlainNestedNode → PlainNestedNode → PlainCase
 free_within enabled count n j = record { now = enabled; behind = j.form; falls = pairs_below count n.levels j.levels }
 
-abbrev pub falls_to : List PlainNestedNode → PlainNestedNode → ℕ → List PlainCase
-falls_to nodes n k = map (nested_fall k n) (agreeing k n.levels nodes)
+abbrev pub fall_cases : List PlainNestedNode → PlainNestedNode → ℕ → List PlainCase
+fall_cases nodes n k = map (nested_fall k n) (agreeing k n.levels nodes)
 
-abbrev pub frees_to : System → List PlainNestedNode → PlainNestedNode → ℕ → List PlainCase
-frees_to system nodes n k = map (nested_free system k n) (agreeing (suc k) n.levels nodes)
+abbrev pub free_cases : System → List PlainNestedNode → PlainNestedNode → ℕ → List PlainCase
+free_cases system nodes n k = map (nested_free system k n) (agreeing (suc k) n.levels nodes)
 
 -- where a step may lead, but for staying, that is a step of the group at this depth; of a transition that is no group where
 -- the depth is how many groups there are
 abbrev pub depth_cases : System → List PlainNestedNode → Formula → PlainNestedNode → ℕ → List PlainCase
-depth_cases system nodes q n depth = case_end q ∷ (each_depth (falls_to nodes n) 0 (suc depth) ++ each_depth (frees_to system nodes n) 0 depth)
+depth_cases system nodes q n depth = case_end q ∷ (each_depth (fall_cases nodes n) 0 (suc depth) ++ each_depth (free_cases system nodes n) 0 depth)
 
 abbrev pub stay_cases : PlainNestedNode → List PlainCase
 stay_cases n = nested_stay n ∷ []

@@ -10,7 +10,7 @@ ghost use Rattle.transition_system.specs.Plain.{plain_system};
 ghost use Rattle.temporal_goals.specs.Plain.{plain_level, plain_nested_node};
 ghost use Rattle.vc_generator.specs.Plain.{plain_case};
 ghost use Rattle.rule_laws.specs.NestedNet.{agreeing, each_depth, nested_fall, nested_stay};
-ghost use Rattle.nested_net.specs.Asked.{NodeModest, free_within, falls_to, frees_to, depth_cases as depth_cases_of, stay_cases, plain_lists, listed_depths, chosen as chosen_of};
+ghost use Rattle.nested_net.specs.Asked.{NodeModest, free_within, fall_cases, free_cases, depth_cases as depth_cases_of, stay_cases, plain_lists, listed_depths, chosen as chosen_of};
 
 use crate::levels::{agree, base_at, group_at, outside, push_pairs, top_at};
 use ranked_net::cases::end_case;
@@ -99,7 +99,7 @@ fn push_falls(
 ) -> Result<(), Memory>
     requires { NodeModest (plain_nested_node node.now) }
     ensures { OnOk result (map plain_case cases.new.items
-        ≡ map plain_case cases.old.items ++ falls_to (map plain_nested_node nodes.now) (plain_nested_node node.now) depth) }
+        ≡ map plain_case cases.old.items ++ fall_cases (map plain_nested_node nodes.now) (plain_nested_node node.now) depth) }
 {
     for next in nodes {
         if agree(depth, &node.levels, &next.levels) {
@@ -139,7 +139,7 @@ fn push_frees(
 ) -> Result<(), Memory>
     requires { depth < length node.now.levels.items }
     ensures { OnOk result (map plain_case cases.new.items
-        ≡ map plain_case cases.old.items ++ frees_to (plain_system fts.now) (map plain_nested_node nodes.now) (plain_nested_node node.now) depth) }
+        ≡ map plain_case cases.old.items ++ free_cases (plain_system fts.now) (map plain_nested_node nodes.now) (plain_nested_node node.now) depth) }
 {
     let group = group_at(depth, &node.levels);
     let enabled = enabled_of(alloc, fts, group)?;
@@ -155,7 +155,7 @@ fn push_all_falls(
 ) -> Result<(), Memory>
     requires { NodeModest (plain_nested_node node.now) }
     ensures { OnOk result (map plain_case cases.new.items
-        ≡ map plain_case cases.old.items ++ each_depth (falls_to (map plain_nested_node nodes.now) (plain_nested_node node.now)) 0 count) }
+        ≡ map plain_case cases.old.items ++ each_depth (fall_cases (map plain_nested_node nodes.now) (plain_nested_node node.now)) 0 count) }
 {
     for depth in 0..count {
         push_falls(alloc, nodes, node, depth, cases)?;
@@ -173,7 +173,7 @@ fn push_all_frees(
 ) -> Result<(), Memory>
     requires { count ≤ length node.now.levels.items }
     ensures { OnOk result (map plain_case cases.new.items
-        ≡ map plain_case cases.old.items ++ each_depth (frees_to (plain_system fts.now) (map plain_nested_node nodes.now) (plain_nested_node node.now)) 0 count) }
+        ≡ map plain_case cases.old.items ++ each_depth (free_cases (plain_system fts.now) (map plain_nested_node nodes.now) (plain_nested_node node.now)) 0 count) }
 {
     for depth in 0..count {
         push_frees(alloc, fts, nodes, node, depth, cases)?;

@@ -5,6 +5,7 @@
 
 mod cases;
 mod faults;
+pub mod guards;
 mod levels;
 mod listing;
 mod making;

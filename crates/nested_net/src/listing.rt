@@ -9,7 +9,7 @@ ghost use Rattle.temporal_goals.specs.Plain.{plain_level, plain_nested_node};
 ghost use Rattle.vc_generator.specs.Building.{at_least as at_least_of, at_least_both as at_least_both_of};
 ghost use Rattle.vc_generator.specs.Plain.{plain_list};
 ghost use Rattle.vc_generator.specs.Refusing.{Grows};
-ghost use Rattle.vc_generator.specs.Walks.{HasFewModes, numbered_from};
+ghost use Rattle.vc_generator.specs.Walks.{numbered_from};
 ghost use Rattle.rule_laws.specs.NestedNet.{top_at as top_at_of, nested_starts, ranked_forms as ranked_forms_of, enabled_groups, nested_helped, nested_rank, nested_help, nested_move, nested_list};
 ghost use Rattle.ranked_net.specs.Asked.{IsModest};
 ghost use Rattle.nested_net.specs.Asked.{NodeModest, AreModest};
@@ -217,8 +217,7 @@ fn move_from(
     node: &NestedNode,
     out: &mut Conditions,
 ) -> Result<(), VcFault>
-    requires modes { HasFewModes (plain_system fts.now) }
-    requires modest { NodeModest (plain_nested_node node.now) }
+    requires { NodeModest (plain_nested_node node.now) }
     ensures { Grows result (plain_list out.old) (plain_list out.new) (nested_move step (plain_system fts.now) (map plain lemmas.now) (map plain_nested_node nodes.now) (plain end.now) index (plain_nested_node node.now)) }
 {
     let groups = group_cases(alloc, fts, end, nodes, node)?;
@@ -248,7 +247,6 @@ fn push_moves(
     nodes: &[NestedNode],
     out: &mut Conditions,
 ) -> Result<(), VcFault>
-    requires modes { HasFewModes (plain_system fts.now) }
     requires few { length nodes.now < 2 ^ 32 }
     requires modest { AreModest (map plain_nested_node nodes.now) }
     ensures { Grows result (plain_list out.old) (plain_list out.new) (numbered_from (nested_move step (plain_system fts.now) (map plain lemmas.now) (map plain_nested_node nodes.now) (plain end.now)) 0 (map plain_nested_node nodes.now)) }
@@ -282,7 +280,6 @@ pub(crate) fn push_all(
     nodes: &[NestedNode],
     out: &mut Conditions,
 ) -> Result<(), VcFault>
-    requires modes { HasFewModes (plain_system fts.now) }
     requires bound { IsModest bound.now }
     requires few { length nodes.now < 2 ^ 32 }
     requires modest { AreModest (map plain_nested_node nodes.now) }

@@ -1,6 +1,8 @@
 //! The rule.
 
+use crate::guards::{are_modest, nodes_fit};
 use crate::listing::push_all;
+use ranked_net::guards::is_modest;
 use st_form::Form;
 use std::alloc::Global;
 use temporal_goals::{Goal, NestedNet};
@@ -32,6 +34,19 @@ impl Rule for Nested {
 
     fn goal(&self) -> &Goal {
         &self.goal
+    }
+
+    fn is_fit(&self, fts: &Fts) -> bool {
+        let nodes = &self.net.nodes;
+        match &self.goal {
+            Goal::Response(_, _, bound) => {
+                is_modest(bound)
+                    && nodes.len() <= u32::MAX as usize
+                    && are_modest(nodes)
+                    && nodes_fit(fts, nodes)
+            }
+            Goal::Invariant(..) | Goal::Waiting(..) => false,
+        }
     }
 
     fn conditions(

@@ -1,4 +1,3 @@
 pub mod Enough
 pub mod Sizes
 pub mod NarrowLists
-pub mod FewModes

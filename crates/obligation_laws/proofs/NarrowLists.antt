@@ -6,7 +6,7 @@ use Rattle.st_form.specs.Exchange.{exchanged}
 use Rattle.st_form.specs.declared.conditions.Premise.TheVariants.{Keep}
 use Rattle.farkas_check.specs.Limits.{IsNarrow, AreNarrow}
 use Rattle.transition_system.specs.Systems.{PlainMode, PlainTransition, System}
-use Rattle.transition_system.specs.Meaning.{conditions_of}
+use Rattle.transition_system.specs.Meaning.{enabling_of}
 use Rattle.transition_system.specs.Bounds.{IsSystem, ModeWithin, FormulaWithin, LinearWithin}
 use Rattle.vc_generator.specs.Building.{Draft, listed, conjuncts, triple_of}
 use Rattle.vc_generator.specs.Walks.{numbered_from, by_mode}
@@ -88,7 +88,7 @@ module _ (system : System) (within : IsSystem system) where
       → AreNarrowDrafts (triple_of m lemmas f f (truth_value false) (by_mode step Keep None t.name k) ∷ [])
   kept-narrow step lemmas f ls w t k m h = (
     (
-      formulas-narrow (lemmas ++ f ∷ conditions_of m) (narrow-append lemmas (f ∷ conditions_of m) (lemmas-narrow lemmas ls) (written-narrow f w, at-narrow m.at m.guard (narrow-within system.truths system.locations (2 ^ 69) m.guard (omega arith) h.guard))),
+      formulas-narrow (lemmas ++ f ∷ enabling_of m) (narrow-append lemmas (f ∷ enabling_of m) (lemmas-narrow lemmas ls) (written-narrow f w, at-narrow m.at m.guard (narrow-within system.truths system.locations (2 ^ 69) m.guard (omega arith) h.guard))),
       after-by m h f w (exchanged m.change f) refl,
     ),
     tt,

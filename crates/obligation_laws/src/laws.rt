@@ -3,7 +3,6 @@
 ghost use Rattle.st_form.specs.Plain.{plain};
 ghost use Rattle.st_program.specs.Plain.{plain_children};
 ghost use Rattle.spl_translation.specs.Translation.{translation};
-ghost use Rattle.vc_generator.specs.Walks.{HasFewModes};
 ghost use Rattle.obligation_laws.specs.Narrow.{InvarianceIsNarrow};
 ghost use Rattle.obligation_laws.specs.Obligations.{ValidIsEnough};
 
@@ -25,10 +24,3 @@ pub fn valid_is_enough(program: &Program)
 pub fn invariances_are_narrow()
     ensures { InvarianceIsNarrow }
 {}
-
-/// Each transition of the program's translation has few modes, as rules ask: a group has at most 64 paths.
-pub fn modes_are_few(program: &Program)
-    ensures { HasFewModes (translation program.now.variables (plain program.now.initial) (plain_children program.now.processes) program.now.locations) }
-{
-    let _ = &program.processes;
-}

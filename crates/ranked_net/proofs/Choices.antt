@@ -14,7 +14,7 @@ use Rattle.vc_generator.specs.Walks.{each_mode}
 use Rattle.vc_generator.specs.declared.faults.VcFault.{VcFault}
 use Rattle.vc_generator.specs.declared.building.Case.{Case}
 use Rattle.rule_laws.specs.Names.{is_name, same_group}
-use Rattle.rule_laws.specs.RankedNet.{case_free, case_inner, grouped, cases_if, step_cases, move_of}
+use Rattle.rule_laws.specs.RankedNet.{case_free, case_inner, grouped, cases_if, net_cases, move_of}
 use Rattle.ranked_net.specs.Asked.{own_cases, group_cases, stay_cases, chosen, moves}
 
 -- the next node of a walk over a group
@@ -41,7 +41,7 @@ by-tests false false false own frees inners stay = append_assoc own inners stay
 
 pub chosen-cases : (system : System) (nodes : List PlainNode) (q : Formula) (n : PlainNode) (number : ℕ)
     → chosen n.group n.helper (own_cases nodes q n) (own_cases nodes q n ++ group_cases system nodes n) ((own_cases nodes q n ++ group_cases system nodes n) ++ stay_cases n) number
-    ≡ step_cases system nodes q n number
+    ≡ net_cases system nodes q n number
 chosen-cases system nodes q n number =
     by-tests (is_some n.group) (is_name n.group number) (is_name n.helper number) (own_cases nodes q n)
     (map (case_free system n) (grouped n.group nodes)) (map (case_inner n) (grouped n.group nodes)) (stay_cases n)

@@ -6,6 +6,7 @@
 pub mod cases;
 pub mod fairness;
 mod faults;
+pub mod guards;
 mod listing;
 mod making;
 mod rule;

@@ -14,7 +14,7 @@ ghost use Rattle.temporal_goals.specs.Plain.{plain_node};
 ghost use Rattle.vc_generator.specs.Building.{at_least as at_least_of};
 ghost use Rattle.vc_generator.specs.Plain.{plain_list};
 ghost use Rattle.vc_generator.specs.Refusing.{Grows};
-ghost use Rattle.vc_generator.specs.Walks.{HasFewModes, numbered_from};
+ghost use Rattle.vc_generator.specs.Walks.{numbered_from};
 ghost use Rattle.rule_laws.specs.RankedNet.{starts_on as starts_on_of, ranked_form as ranked_form_of, helped_form as helped_form_of, rank_of, help_of, move_of, ranked_list};
 ghost use Rattle.ranked_net.specs.Asked.{IsModest, AreModest};
 
@@ -172,7 +172,6 @@ fn move_from(
     node: &Node,
     out: &mut Conditions,
 ) -> Result<(), VcFault>
-    requires modes { HasFewModes (plain_system fts.now) }
     requires base { IsModest node.now.base }
     requires delay { IsModest node.now.delay }
     ensures { Grows result (plain_list out.old) (plain_list out.new) (move_of step (plain_system fts.now) (map plain lemmas.now) (map plain_node nodes.now) (plain end.now) index (plain_node node.now)) }
@@ -205,7 +204,6 @@ fn push_moves(
     nodes: &[Node],
     out: &mut Conditions,
 ) -> Result<(), VcFault>
-    requires modes { HasFewModes (plain_system fts.now) }
     requires few { length nodes.now < 2 ^ 32 }
     requires modest { AreModest (map plain_node nodes.now) }
     ensures { Grows result (plain_list out.old) (plain_list out.new) (numbered_from (move_of step (plain_system fts.now) (map plain lemmas.now) (map plain_node nodes.now) (plain end.now)) 0 (map plain_node nodes.now)) }
@@ -239,7 +237,6 @@ pub fn push_all(
     nodes: &[Node],
     out: &mut Conditions,
 ) -> Result<(), VcFault>
-    requires modes { HasFewModes (plain_system fts.now) }
     requires bound { IsModest bound.now }
     requires few { length nodes.now < 2 ^ 32 }
     requires modest { AreModest (map plain_node nodes.now) }

@@ -1,5 +1,6 @@
 //! The rule.
 
+use crate::guards::{are_modest, is_modest, nodes_fit};
 use crate::listing::push_all;
 use st_form::Form;
 use std::alloc::Global;
@@ -32,6 +33,19 @@ impl Rule for Ranked {
 
     fn goal(&self) -> &Goal {
         &self.goal
+    }
+
+    fn is_fit(&self, fts: &Fts) -> bool {
+        let nodes = &self.net.nodes;
+        match &self.goal {
+            Goal::Response(_, _, bound) => {
+                is_modest(bound)
+                    && nodes.len() <= u32::MAX as usize
+                    && are_modest(nodes)
+                    && nodes_fit(fts, nodes)
+            }
+            Goal::Invariant(..) | Goal::Waiting(..) => false,
+        }
     }
 
     fn conditions(

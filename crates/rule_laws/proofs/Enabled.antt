@@ -5,7 +5,7 @@ use Rattle.std.specs.List.{list_any, list_all}
 use Rattle.st_form.specs.Formula.{Formula, Situation, truth, every_truth, some_truth, at, every, formulas}
 use Rattle.observations.specs.RankedNet.{IsAmong}
 use Rattle.transition_system.specs.Systems.{PlainMode, PlainTransition, System}
-use Rattle.transition_system.specs.Meaning.{can_go, is_enabled, enabled_in, enabled_form, conditions_of}
+use Rattle.transition_system.specs.Meaning.{can_go, is_enabled, enabled_in, enabled_form, enabling_of}
 use Rattle.rule_laws.specs.Names.{enabled_if, enabled_of}
 
 module _ (s : Situation) where
@@ -21,9 +21,9 @@ module _ (s : Situation) where
       and-assoc true b c = refl
       and-assoc false b c = refl
 
-  modes-truth : (ms : List PlainMode) → some_truth s (formulas (map (λ m. every (formulas (conditions_of m))) ms)) ≡ list_any (λ m. can_go m s) ms
+  modes-truth : (ms : List PlainMode) → some_truth s (formulas (map (λ m. every (formulas (enabling_of m))) ms)) ≡ list_any (λ m. can_go m s) ms
   modes-truth [] = refl
-  modes-truth (m ∷ ms) = ap (λ b. b || some_truth s (formulas (map (λ m. every (formulas (conditions_of m))) ms))) (conditions-truth m.at m.guard) ∙ ap (λ b. can_go m s || b) (modes-truth ms)
+  modes-truth (m ∷ ms) = ap (λ b. b || some_truth s (formulas (map (λ m. every (formulas (enabling_of m))) ms))) (conditions-truth m.at m.guard) ∙ ap (λ b. can_go m s || b) (modes-truth ms)
 
   -- the formula says what it is for
   pub enabled-truth : (t : PlainTransition) → truth s (enabled_form t) ≡ is_enabled t s

@@ -27,7 +27,7 @@ use Rattle.vc_generator.proofs.Leading.{entails-true, moved-leads, CaseHolds, Al
 use Rattle.vc_generator.proofs.Walking.{mode-holds, numbered-hold, first-hold, others-hold}
 use Rattle.vc_generator.proofs.Running.{step-at, enabled-at}
 use Rattle.rule_laws.specs.Names.{is_name, enabled_of}
-use Rattle.rule_laws.specs.RankedNet.{starts_on, ranked_form, helped_form, kept_pairs, case_end, case_drop, case_free, case_inner, case_stay, grouped, cases_if, step_cases, rank_of, help_of, move_of, ranked_list}
+use Rattle.rule_laws.specs.RankedNet.{starts_on, ranked_form, helped_form, kept_pairs, case_end, case_drop, case_free, case_inner, case_stay, grouped, cases_if, net_cases, rank_of, help_of, move_of, ranked_list}
 use Rattle.rule_laws.specs.Fitting.{NodeFits, NodesFit}
 use Rattle.rule_laws.proofs.Enabled.{enabled-among}
 use Rattle.rule_laws.proofs.Among.{Among, among-split, among-map, map-among, among-single, among-if, other-name, among-grouped}
@@ -100,7 +100,7 @@ module _ (system : System) (nodes : List PlainNode) (q : Formula) (n : PlainNode
   abbrev stays : List PlainCase
   stays = cases_if (not (is_name n.group number) && not (is_name n.helper number)) (case_stay n ∷ [])
 
-  case-leads : (c : PlainCase) → CaseHolds m s c → Among (step_cases system nodes q n number) c → Leads
+  case-leads : (c : PlainCase) → CaseHolds m s c → Among (net_cases system nodes q n number) c → Leads
   case-leads c holds a =
       elim (among-split (case_end q ∷ []) (drops ++ (frees ++ (inners ++ stays))) c a) [
         | inl ends ↦ inl (subst (CaseHolds m s) (sym (among-single (case_end q) c ends)) holds).behind
@@ -185,8 +185,8 @@ module _ (step : ℕ) (system : System) (lemmas : List Formula) (o : Observation
       let x = seen s n on in
       let went = step-at system o k name run taken in
       let own = numbered-hold s (move_of step system lemmas nodes q) 0 nodes x.1.place x.0 x.1.listed (others-hold s helps moves (others-hold s ranks (helps ++ moves) (all k h).1)) in
-      let claim = mode-holds s (λ number t j m. moved_of m lemmas x.0.form (step_cases system nodes q x.0 number) (by_mode step premises.Move (Some (0 + x.1.place)) t.name j) ∷ []) system name went.place went.transition went.mode went.numbered went.placed own in
-      let case = moved-leads went.mode s lemmas x.0.form (step_cases system nodes q x.0 name) (by_mode step premises.Move (Some (0 + x.1.place)) went.transition.name (1 + went.place)) claim.0 (cited k h) x.2 went.goes in
+      let claim = mode-holds s (λ number t j m. moved_of m lemmas x.0.form (net_cases system nodes q x.0 number) (by_mode step premises.Move (Some (0 + x.1.place)) t.name j) ∷ []) system name went.place went.transition went.mode went.numbered went.placed own in
+      let case = moved-leads went.mode s lemmas x.0.form (net_cases system nodes q x.0 name) (by_mode step premises.Move (Some (0 + x.1.place)) went.transition.name (1 + went.place)) claim.0 (cited k h) x.2 went.goes in
       let leads = case-leads system nodes q x.0 x.1 name went.mode s case.case case.holds (record { place = case.place; listed = case.listed }) in
       subst (λ z. HoldsAt (test_of q) o (suc k) ⊎ Move (map node_of nodes) (moment_at o k).enabled name z s (state_at o (suc k))) x.3
       (subst (λ en. HoldsAt (test_of q) o (suc k) ⊎ Move (map node_of nodes) en name (node_of x.0) s (state_at o (suc k))) (sym (enabled-at system o k run))

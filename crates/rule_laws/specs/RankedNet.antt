@@ -54,8 +54,8 @@ abbrev pub cases_if : Bool → List PlainCase → List PlainCase
 cases_if b cs = if b then cs else []
 
 -- the cases of a step of the transition with this number from node n
-abbrev pub step_cases : System → List PlainNode → Formula → PlainNode → ℕ → List PlainCase
-step_cases system nodes q n number =
+abbrev pub net_cases : System → List PlainNode → Formula → PlainNode → ℕ → List PlainCase
+net_cases system nodes q n number =
     case_end q ∷ (map (case_drop n) nodes
     ++ (cases_if (is_some n.group && not (is_name n.group number)) (map (case_free system n) (grouped n.group nodes))
     ++ (cases_if (not (is_name n.group number)) (map (case_inner n) (grouped n.group nodes))
@@ -73,7 +73,7 @@ help_of step system lemmas i n = entails_of lemmas n.form (helped_form system n)
 
 abbrev pub move_of : ℕ → System → List Formula → List PlainNode → Formula → ℕ → PlainNode → List Draft
 move_of step system lemmas nodes q i n =
-    each_mode (λ number t k m. moved_of m lemmas n.form (step_cases system nodes q n number) (by_mode step Move (Some i) t.name k) ∷ []) system
+    each_mode (λ number t k m. moved_of m lemmas n.form (net_cases system nodes q n number) (by_mode step Move (Some i) t.name k) ∷ []) system
 
 abbrev pub ranked_list : ℕ → System → List Formula → Formula → Formula → Linear → List PlainNode → List Draft
 ranked_list step system lemmas p q e nodes =

@@ -2,6 +2,7 @@ pub mod Bounded
 pub mod Corresponding
 pub mod Eachs
 pub mod Entries
+pub mod FewModes
 pub mod Fitted
 pub mod Insertions
 pub mod Named

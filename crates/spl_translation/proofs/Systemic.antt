@@ -12,6 +12,7 @@ use Rattle.spl_semantics.specs.Control.{starts}
 use Rattle.spl_translation.specs.Translation.{all_transitions, always, translation}
 use Rattle.spl_translation.proofs.Corresponding.{corresponds}
 use Rattle.spl_translation.proofs.Named.{distinct, few}
+use Rattle.spl_translation.proofs.FewModes.{few_modes}
 use Rattle.spl_translation.proofs.Fitted.{types, formula_within, append_within, opened_within, located_within}
 use Rattle.spl_translation.proofs.Rises.{none_within, moving_within}
 use Rattle.spl_translation.proofs.Owned.{ModesWithin, spots_within}
@@ -30,6 +31,7 @@ translation_is_system vs initial p locations statements h =
     record {
       distinct = distinct p h.well.numbered (all_transitions p) (corresponds vs initial p locations h.well h.typed h.start).names;
       few = let n = few (all_spots p) in let e = h.statement_count in let q = h.few_statements in omega arith;
+      few_modes = few_modes vs initial p locations statements h;
       few_variables = let e = map_length (λ v. v.truth) vs in let q = h.few_variables in omega arith;
       initial = append_within (types vs) locations (2 ^ 32) (formulas (map (λ l. at l) (starts p))) (opened initial)
           (located_within (types vs) locations (2 ^ 32) (starts p) at_starts)

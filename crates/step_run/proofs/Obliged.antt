@@ -10,7 +10,6 @@ use Rattle.control_facts.specs.Alternatives.{control_of}
 use Rattle.farkas_check.specs.Meaning.{IsValidCondition}
 use Rattle.transition_system.specs.Systems.{System}
 use Rattle.vc_generator.specs.Building.{Draft}
-use Rattle.vc_generator.specs.Walks.{HasFewModes}
 use Rattle.vc_generator.specs.declared.faults.VcFault.{VcFault}
 use Rattle.vc_generator.specs.declared.faults.VcFault.TheVariants as faults
 use Rattle.vc_generator.specs.Refusing.{weight_in, weights, Refuses, else_refusal, refusals}
@@ -33,7 +32,6 @@ use Rattle.step_run.specs.ProofText.{Goal, IsGoal}
 use Rattle.step_run.specs.Conditions.{system_of, drafts, conditions_of, AreNarrow}
 use Rattle.step_run.proofs.Typed.{well_typed}
 use Rattle.step_run.proofs.Claimed.{claim_within}
-use Rattle.obligation_laws.proofs.FewModes.{few_modes}
 
 narrow_list : (ds : List Draft) → AreNarrowDrafts ds → AreNarrow (map (λ d. d.condition) ds)
 narrow_list [] h = tt
@@ -46,10 +44,6 @@ narrow p g spelled goal =
     narrow_list (drafts p g)
     (invariance-narrow 0 (system_of p) [] g.claim None (translation_is_system p.variables p.initial p.processes p.locations p.statements (well_typed p spelled)) tt
     (claim_within p g spelled goal) tt)
-
-pub modes_few : (p : Typed) → IsSpelled p → HasFewModes (system_of p)
-unfolding system_of
-modes_few p spelled = few_modes p.variables p.initial p.processes p.locations p.statements (well_typed p spelled)
 
 -- the conditions that the rule appends, for the program's system
 asked : (p : Typed) (g : Goal) (system : System) (lemmas : List Formula) → system ≡ system_of p → lemmas ≡ [] → invariance_list 0 system lemmas g.claim None ≡ drafts p g
@@ -74,9 +68,6 @@ refusing p g system lemmas old fault is cited empty h =
 pub system_is : (p : Typed) (system : System) → system ≡ translation p.variables p.initial p.processes p.locations → system ≡ system_of p
 unfolding system_of
 system_is p system e = e
-
-pub system_few : (p : Typed) (system : System) → system ≡ translation p.variables p.initial p.processes p.locations → IsSpelled p → HasFewModes system
-system_few p system e spelled = subst HasFewModes (sym (system_is p system e)) (modes_few p spelled)
 
 -- at most 20,000 conditions are appended
 one_more : (b wide heavy : Bool) (more : Option VcFault) → else_refusal (if b then Some faults.TooMany else (if wide then Some faults.TooWide else (if heavy then Some faults.TooHeavy else None))) more ≡ None → (b ≡ false) × (more ≡ None)

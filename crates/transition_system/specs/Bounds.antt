@@ -3,7 +3,7 @@ use Rattle.std.specs.Prelude.{◌≡◌, ℕ, suc, ◌+◌, ◌^◌, ◌<◌, �
 use Rattle.st_linear.specs.Linear.{Linear, AreEntries}
 use Rattle.st_form.specs.Formula.{Formula, Formulas, truth_value, row, equal, bool_var, at, negation, every, some, none, more}
 use Rattle.st_form.specs.Exchange.{Exchange}
-use Rattle.transition_system.specs.Systems.{PlainMode, PlainTransition, System}
+use Rattle.transition_system.specs.Systems.{PlainMode, PlainTransition, System, HasFewModes}
 
 -- each entry is of an integer variable and below the bound in size
 abbrev pub EntriesWithin : List Bool → ℕ → List (ℕ × ℤ) → Type 0
@@ -56,6 +56,7 @@ AreDistinct ts = (i j : ℕ) (x y : PlainTransition) → slice_get ts i ≡ Some
 pub record IsSystem (system : System) : Type 0 where
   pub distinct : AreDistinct system.transitions
   pub few : length system.transitions < 2 ^ 32
+  pub few_modes : HasFewModes system
   pub few_variables : length system.truths ≤ 64
   pub initial : FormulaWithin system.truths system.locations (2 ^ 32) system.initial
   pub modes : All (λ t. All (ModeWithin system.truths system.locations) t.modes) system.transitions

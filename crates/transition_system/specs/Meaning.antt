@@ -41,13 +41,13 @@ pub record IsRun (system : System) (o : Observation Situation) : Type 0 where
   pub initial : IsTrue (truth o.first.state system.initial)
   pub observed : IsObserved (map (λ t. t.fairness) system.transitions) (enabled_in system) (Goes system) o
 
--- a mode's conditions as formulas: control is at each of its locations, and the guard holds
-abbrev pub conditions_of : PlainMode → List Formula
-conditions_of m = map (λ l. at l) m.at ++ m.guard ∷ []
+-- what enables a mode, as formulas: control is at each of its locations, and the guard holds
+abbrev pub enabling_of : PlainMode → List Formula
+enabling_of m = map (λ l. at l) m.at ++ m.guard ∷ []
 
 -- the formula that holds where the transition is enabled
 abbrev pub enabled_form : PlainTransition → Formula
-enabled_form t = some (formulas (map (λ m. every (formulas (conditions_of m))) t.modes))
+enabled_form t = some (formulas (map (λ m. every (formulas (enabling_of m))) t.modes))
 
 -- the transition with this number has the name
 abbrev pub IsNamed : System → ℕ → TransName → Type 0

@@ -3,7 +3,7 @@
 -- A transition has one or more modes. A mode is guarded: it can be taken where control is at each of its locations and
 -- its guard holds. It replaces variables at once, leaves its locations and enters others. The systems are those of Manna
 -- and Pnueli, *Temporal Verification of Reactive Systems: Safety*, section 0.1, with control kept apart from the store.
-use Rattle.std.specs.Prelude.{ℕ, Bool, List}
+use Rattle.std.specs.Prelude.{ℕ, ◌-◌, ◌^◌, ◌<◌, Bool, List, [], ◌∷◌, length, ⊤}
 use Rattle.st_form.specs.Formula.{Formula}
 use Rattle.st_form.specs.Exchange.{Exchange}
 use Rattle.st_form.specs.declared.conditions.TransName.{TransName}
@@ -25,3 +25,11 @@ pub record System : Type 0 where
   pub truths : List Bool
   pub initial : Formula
   pub transitions : List PlainTransition
+
+-- the modes of a transition are numbered from 1 by 32 bits
+abbrev pub FewModes : List PlainTransition → Type 0
+FewModes [] = ⊤
+FewModes (t ∷ ts) = (length t.modes < 2 ^ 32 - 1) × FewModes ts
+
+abbrev pub HasFewModes : System → Type 0
+HasFewModes system = FewModes system.transitions

@@ -7,7 +7,8 @@ use std::marker::Model;
 /// A fair transition system: how many locations it has, whether each variable is boolean, what holds at the beginning,
 /// and its transitions in order.
 ///
-/// Names are distinct, numbers in range, and variables used by their types. There are at most 64 variables. Entries are
+/// Names are distinct, numbers in range, and variables used by their types. Transitions, and the modes of each, are numbered by
+/// 32 bits. There are at most 64 variables. Entries are
 /// below 2^32 in the initial condition, below 2^69 in guards and in truth values of changes, and at most 2^30 in numbers of
 /// changes, whose variables rise.
 #[derive(Drop)]

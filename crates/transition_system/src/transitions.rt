@@ -6,7 +6,7 @@ ghost use Rattle.st_form.specs.Exchange.{exchanged};
 ghost use Rattle.st_form.specs.Formula.{Situation, formulas, every, truth};
 ghost use Rattle.st_form.specs.Plain.{plain, plain_change};
 ghost use Rattle.transition_system.specs.Bounds.{Suits};
-ghost use Rattle.transition_system.specs.Meaning.{enabled_form, conditions_of, gone, is_enabled};
+ghost use Rattle.transition_system.specs.Meaning.{enabled_form, enabling_of, gone, is_enabled};
 ghost use Rattle.transition_system.specs.Plain.{plain_mode, plain_transition};
 
 use observations::Fairness;
@@ -67,7 +67,7 @@ pub fn enabled(alloc: Global, transition: &Transition) -> Result<Form, Memory>
 /// The formula that holds where the mode can be taken.
 #[tactic(auto, using(st_form::proofs::Nodes::nodes))]
 fn mode_enabled(alloc: Global, mode: &Mode) -> Result<Form, Memory>
-    ensures { IfOk result (λ f. plain f ≡ every (formulas (conditions_of (plain_mode mode.now)))) }
+    ensures { IfOk result (λ f. plain f ≡ every (formulas (enabling_of (plain_mode mode.now)))) }
 {
     let mut parts = Vec::new(alloc);
     for location in &mode.at {

@@ -3,7 +3,7 @@ use Rattle.std.proofs.Common.{◌≡◌, sym, subst, arith, ℕ, zero, suc, ◌-
 use Rattle.std.proofs.lemmas.List.{length-map}
 use Rattle.transition_system.specs.Plain.{plain_mode, plain_transition}
 use Rattle.transition_system.specs.declared.transitions.Transition.{Transition}
-use Rattle.vc_generator.specs.Walks.{FewModes}
+use Rattle.transition_system.specs.Systems.{FewModes}
 
 pub few-at : (xs : List Transition) (i : ℕ) (x d : Transition) → i < length xs → x ≡ get_or xs i d → FewModes (map plain_transition xs) → length x.modes.items < 2 ^ 32 - 1
 few-at [] i x d below is few = absurd (omega arith)

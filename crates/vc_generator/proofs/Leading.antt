@@ -16,7 +16,7 @@ use Rattle.std.proofs.lemmas.Int.{ints}
 use Rattle.std.proofs.lemmas.Bool.{and_parts}
 use Rattle.st_form.proofs.Truths.{truth-exchanged}
 use Rattle.transition_system.specs.Systems.{PlainMode, System}
-use Rattle.transition_system.specs.Meaning.{can_go, gone, conditions_of}
+use Rattle.transition_system.specs.Meaning.{can_go, gone, enabling_of}
 use Rattle.vc_generator.specs.Building.{at_least, at_least_both, conjuncts, start_of, entails_of, after, behind_or, triple_of, moved_of, case_of, falls_to, unless_true, together}
 use Rattle.vc_generator.specs.Atoms.{PlainCase}
 use Rattle.vc_generator.specs.Validity.{HoldsIn, AllTrueIn}
@@ -68,13 +68,13 @@ module _ (m : PlainMode) (s : Situation) where
   pub after-true : (f : Formula) → IsTrue (truth s (after m f)) → IsTrue (truth (gone m s) f)
   after-true f h = after-by f (exchanged m.change f) refl h
 
-  pub goes-given : IsTrue (can_go m s) → AllTrueIn (conditions_of m) s
+  pub goes-given : IsTrue (can_go m s) → AllTrueIn (enabling_of m) s
   goes-given go =
       let parts = and_parts (list_all (λ l. s.located l) m.at) (truth s m.guard) go in
       true-append s (map (λ l. at l) m.at) (m.guard ∷ []) (true-locations s m.at parts.0) (parts.1, tt)
 
-  pub given-true : (lemmas : List Formula) (f : Formula) → AllTrueIn lemmas s → IsTrue (truth s f) → IsTrue (can_go m s) → IsTrue (truth s (every (formulas (lemmas ++ f ∷ conditions_of m))))
-  given-true lemmas f all holds go = every-true s (lemmas ++ f ∷ conditions_of m) (true-append s lemmas (f ∷ conditions_of m) all (holds, goes-given go))
+  pub given-true : (lemmas : List Formula) (f : Formula) → AllTrueIn lemmas s → IsTrue (truth s f) → IsTrue (can_go m s) → IsTrue (truth s (every (formulas (lemmas ++ f ∷ enabling_of m))))
+  given-true lemmas f all holds go = every-true s (lemmas ++ f ∷ enabling_of m) (true-append s lemmas (f ∷ enabling_of m) all (holds, goes-given go))
 
   -- the disjunction of a formula behind the mode and one before it
   two-true : (behind now : Formula) → IsTrue (truth s (some (formulas (after m behind ∷ now ∷ [])))) → IsTrue (truth (gone m s) behind) ⊎ IsTrue (truth s now)

@@ -12,7 +12,7 @@ use Rattle.st_form.specs.Exchange.{exchanged}
 use Rattle.st_form.specs.Condition.{Implication}
 use Rattle.st_form.specs.declared.conditions.CondName.{CondName}
 use Rattle.transition_system.specs.Systems.{PlainMode, System}
-use Rattle.transition_system.specs.Meaning.{conditions_of}
+use Rattle.transition_system.specs.Meaning.{enabling_of}
 use Rattle.vc_generator.specs.Atoms.{PlainCase, start_atoms, entails_atoms, triple_atoms, moved_atoms}
 
 -- the formula that holds before the mode exactly where f holds behind it; false where a number of it would be 2^100 or
@@ -38,14 +38,8 @@ listed (more f fs) = f ∷ listed fs
 
 -- the parts of a conjunction; of another formula itself
 abbrev pub conjuncts : Formula → List Formula
-conjuncts (truth_value b) = truth_value b ∷ []
-conjuncts (row f) = row f ∷ []
-conjuncts (equal f) = equal f ∷ []
-conjuncts (bool_var v) = bool_var v ∷ []
-conjuncts (at l) = at l ∷ []
-conjuncts (negation f) = negation f ∷ []
 conjuncts (every fs) = listed fs
-conjuncts (some fs) = some fs ∷ []
+conjuncts f = f ∷ []
 
 -- a condition, and how many atoms it has
 pub record Draft : Type 0 where
@@ -66,30 +60,16 @@ entails_of lemmas given shown name = draft (entails_atoms lemmas given shown) (l
 -- behind the mode, or now; a `now` that is false isn't written
 abbrev pub behind_or : PlainMode → Formula → Formula → Formula
 behind_or m behind (truth_value false) = after m behind
-behind_or m behind (truth_value true) = some (formulas (after m behind ∷ truth_value true ∷ []))
-behind_or m behind (row f) = some (formulas (after m behind ∷ row f ∷ []))
-behind_or m behind (equal f) = some (formulas (after m behind ∷ equal f ∷ []))
-behind_or m behind (bool_var v) = some (formulas (after m behind ∷ bool_var v ∷ []))
-behind_or m behind (at l) = some (formulas (after m behind ∷ at l ∷ []))
-behind_or m behind (negation f) = some (formulas (after m behind ∷ negation f ∷ []))
-behind_or m behind (every fs) = some (formulas (after m behind ∷ every fs ∷ []))
-behind_or m behind (some fs) = some (formulas (after m behind ∷ some fs ∷ []))
+behind_or m behind now = some (formulas (after m behind ∷ now ∷ []))
 
 -- from `before` each step by the mode leads to `behind`, unless `now` held before it
 abbrev pub triple_of : PlainMode → List Formula → Formula → Formula → Formula → CondName → Draft
-triple_of m lemmas before behind now name = draft (triple_atoms m lemmas before behind now) (lemmas ++ before ∷ conditions_of m) (behind_or m behind now) name
+triple_of m lemmas before behind now name = draft (triple_atoms m lemmas before behind now) (lemmas ++ before ∷ enabling_of m) (behind_or m behind now) name
 
 -- a `now` that is true isn't written
 abbrev pub unless_true : Formula → List Formula
 unless_true (truth_value true) = []
-unless_true (truth_value false) = truth_value false ∷ []
-unless_true (row f) = row f ∷ []
-unless_true (equal f) = equal f ∷ []
-unless_true (bool_var v) = bool_var v ∷ []
-unless_true (at l) = at l ∷ []
-unless_true (negation f) = negation f ∷ []
-unless_true (every fs) = every fs ∷ []
-unless_true (some fs) = some fs ∷ []
+unless_true f = f ∷ []
 
 -- a single part is that part
 abbrev pub together : List Formula → Formula
@@ -102,4 +82,4 @@ case_of m c = together (unless_true c.now ++ after m c.behind ∷ map (falls_to 
 
 -- from `before` each step by the mode leads as one of the cases says
 abbrev pub moved_of : PlainMode → List Formula → Formula → List PlainCase → CondName → Draft
-moved_of m lemmas before cases name = draft (moved_atoms m lemmas before cases) (lemmas ++ before ∷ conditions_of m) (some (formulas (map (case_of m) cases))) name
+moved_of m lemmas before cases name = draft (moved_atoms m lemmas before cases) (lemmas ++ before ∷ enabling_of m) (some (formulas (map (case_of m) cases))) name

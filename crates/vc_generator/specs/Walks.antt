@@ -1,5 +1,5 @@
 -- The conditions of a rule go over the modes of a system: over the transitions in their order, and each one's modes.
-use Rattle.std.specs.Prelude.{ℕ, ◌+◌, ◌-◌, ◌^◌, ◌<◌, None, Some, List, [], ◌∷◌, ◌++◌, length, ⊤}
+use Rattle.std.specs.Prelude.{ℕ, ◌+◌, None, Some, List, [], ◌∷◌, ◌++◌}
 use Rattle.vc_generator.specs.Building.{Draft}
 use Rattle.st_form.specs.declared.conditions.CondName.{CondName}
 use Rattle.st_form.specs.declared.conditions.Premise.{Premise}
@@ -22,11 +22,3 @@ plainly step premise node = record { step = step; premise = premise; node = node
 
 abbrev pub by_mode : ℕ → Premise → Option ℕ → TransName → ℕ → CondName
 by_mode step premise node trans mode = record { step = step; premise = premise; node = node; trans = Some trans; mode = mode }
-
--- modes are numbered by 32 bits
-abbrev pub FewModes : List PlainTransition → Type 0
-FewModes [] = ⊤
-FewModes (t ∷ ts) = (length t.modes < 2 ^ 32 - 1) × FewModes ts
-
-abbrev pub HasFewModes : System → Type 0
-HasFewModes system = FewModes system.transitions

@@ -5,7 +5,7 @@ ghost use Rattle.st_form.specs.Formula.{Formula, atoms};
 ghost use Rattle.transition_system.specs.Systems.{PlainMode};
 ghost use Rattle.st_form.specs.Plain.{plain, plain_condition};
 ghost use Rattle.transition_system.specs.Plain.{plain_mode, plain_system};
-ghost use Rattle.transition_system.specs.Meaning.{conditions_of};
+ghost use Rattle.transition_system.specs.Meaning.{enabling_of};
 ghost use Rattle.vc_generator.specs.Building.{start_of, entails_of, triple_of, moved_of, case_of, behind_or, conjuncts, unless_true, together, after as after_of, falls_to as falls_to_of};
 ghost use Rattle.vc_generator.specs.Atoms.{mode_atoms, cases_atoms};
 ghost use Rattle.vc_generator.specs.Plain.{plain_list, plain_case};
@@ -209,7 +209,7 @@ fn given_before(
     lemmas: &[Form],
     before: &Form,
 ) -> Result<Vec<Form>, Memory>
-    ensures { IfOk result (λ v. map plain v.items ≡ map plain lemmas.now ++ plain before.now ∷ conditions_of (plain_mode mode.now)) }
+    ensures { IfOk result (λ v. map plain v.items ≡ map plain lemmas.now ++ plain before.now ∷ enabling_of (plain_mode mode.now)) }
 {
     let mut given = copy_all(alloc, lemmas)?;
     given.push(before.copy(alloc)?)?;

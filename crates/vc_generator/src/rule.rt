@@ -8,10 +8,12 @@ use transition_system::Fts;
 
 /// A rule for a goal: the conditions that it generates for a system, and the law that they are enough.
 ///
-/// Its meaning is its goal, the formulas of the steps that it cites, whether it fits a system (numbers in range, variables
-/// used by their types, helpers just, groups compassionate), and the list of its conditions.
+/// Its meaning is its goal, the formulas of the steps that it cites, whether it fits a system (its goal is of its kind, what it
+/// gives for each formula of the goal is there, helpers are just, groups compassionate, and numbers far from the limit of
+/// forms), and the list of its conditions. Conditions are generated, and the law holds, whatever variables and locations its
+/// formulas name.
 pub trait Rule {
-    ghost use Rattle.std.specs.Prelude.{◌≡◌, ℕ, List};
+    ghost use Rattle.std.specs.Prelude.{◌≡◌, ℕ, List, true};
     ghost use Rattle.st_form.specs.Formula.{Formula, Situation};
     ghost use Rattle.observations.specs.Observation.{Observation};
     ghost use Rattle.transition_system.specs.Systems.{System};
@@ -24,7 +26,6 @@ pub trait Rule {
     ghost use Rattle.vc_generator.specs.Plain.{plain_list};
     ghost use Rattle.vc_generator.specs.Refusing.{AppendsAll};
     ghost use Rattle.vc_generator.specs.Validity.{HoldThroughout, TrueThroughout};
-    ghost use Rattle.vc_generator.specs.Walks.{HasFewModes};
 
     ghost aim: { Self → PlainGoal };
 
@@ -38,6 +39,10 @@ pub trait Rule {
     fn goal(&self) -> &Goal
         ensures { plain_goal result.now ≡ aim self.now };
 
+    /// Whether the rule fits the system. A true answer is a proof of it.
+    fn is_fit(&self, fts: &Fts) -> bool
+        ensures { result ≡ true → fits self.now (plain_system fts.now) };
+
     /// Appends the rule's conditions for the system, as those of the step of this number. After a refusal, which comes at
     /// the first condition that may not be appended, the list is as before.
     fn conditions(
@@ -47,8 +52,7 @@ pub trait Rule {
         step: u32,
         out: &mut Conditions,
     ) -> Result<(), VcFault>
-        requires fitting { fits self.now (plain_system fts.now) }
-        requires few { HasFewModes (plain_system fts.now) }
+        requires { fits self.now (plain_system fts.now) }
         ensures { AppendsAll result (plain_list out.old) (plain_list out.new) (asked self.now (plain_system fts.now) step) };
 
     ghost sound: { (rule : Self) (system : System) (step : ℕ) (o : Observation Situation) →

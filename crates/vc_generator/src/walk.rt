@@ -2,9 +2,10 @@
 
 ghost use Rattle.std.specs.Prelude.{◌<◌, ◌-◌, ◌^◌, map, length};
 ghost use Rattle.transition_system.specs.Plain.{plain_mode, plain_transition, plain_system};
+ghost use Rattle.transition_system.specs.Systems.{FewModes};
 ghost use Rattle.vc_generator.specs.Plain.{plain_list};
 ghost use Rattle.vc_generator.specs.Refusing.{Grows};
-ghost use Rattle.vc_generator.specs.Walks.{numbered_from, each_mode as each_mode_of, FewModes, HasFewModes};
+ghost use Rattle.vc_generator.specs.Walks.{numbered_from, each_mode as each_mode_of};
 
 use crate::conditions::Conditions;
 use crate::faults::VcFault;
@@ -42,7 +43,6 @@ pub fn each_mode<P: PerMode>(
     rule: &P,
     out: &mut Conditions,
 ) -> Result<(), VcFault>
-    requires { HasFewModes (plain_system fts.now) }
     ensures { Grows result (plain_list out.old) (plain_list out.new) (each_mode_of (P.asks rule.now) (plain_system fts.now)) }
 {
     each_transition(alloc, &fts.transitions, rule, out)

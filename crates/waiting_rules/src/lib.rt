@@ -8,7 +8,6 @@ ghost use Rattle.st_form.specs.Plain.{plain};
 ghost use Rattle.transition_system.specs.Plain.{plain_system};
 ghost use Rattle.vc_generator.specs.Plain.{plain_list};
 ghost use Rattle.vc_generator.specs.Refusing.{Grows};
-ghost use Rattle.vc_generator.specs.Walks.{HasFewModes};
 ghost use Rattle.rule_laws.specs.WaitingFor.{level_list, move_list, waiting_list};
 
 use st_form::{CondName, Form, Premise, copy_all};
@@ -19,6 +18,9 @@ use transition_system::{Fts, Mode, Transition};
 use vc_generator::{
     Conditions, PerMode, Rule, VcFault, each_mode, entails, plainly, take_back, triple,
 };
+
+/// How many levels there may be.
+const MOST: usize = 64;
 
 /// Nested waiting-for, with a formula for each level, the highest first, and the formulas of the steps that it cites.
 #[derive(Drop)]
@@ -113,8 +115,7 @@ fn modes_fall(
     levels: &[Form],
     out: &mut Conditions,
 ) -> Result<(), VcFault>
-    requires modes { HasFewModes (plain_system fts.now) }
-    requires few { length levels.now ≤ 64 }
+    requires { length levels.now ≤ 64 }
     ensures { Grows result (plain_list out.old) (plain_list out.new) (move_list step (plain_system fts.now) (map plain lemmas.now) (map plain levels.now)) }
 {
     for index in 1..levels.len() {
@@ -142,7 +143,6 @@ fn waiting(
     levels: &[Form],
     out: &mut Conditions,
 ) -> Result<(), VcFault>
-    requires modes { HasFewModes (plain_system fts.now) }
     requires same { length levels.now ≡ length goals.now }
     requires few { length levels.now ≤ 64 }
     ensures { Grows result (plain_list out.old) (plain_list out.new) (waiting_list step (plain_system fts.now) (map plain lemmas.now) (plain p.now) (map plain goals.now) (map plain levels.now)) }
@@ -171,6 +171,15 @@ impl Rule for WaitingFor {
 
     fn goal(&self) -> &Goal {
         &self.goal
+    }
+
+    fn is_fit(&self, _fts: &Fts) -> bool {
+        match &self.goal {
+            Goal::Waiting(_, goals) => {
+                self.levels.len() == goals.len() && self.levels.len() <= MOST
+            }
+            Goal::Invariant(..) | Goal::Response(..) => false,
+        }
     }
 
     fn conditions(

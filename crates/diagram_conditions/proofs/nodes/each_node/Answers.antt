@@ -4,10 +4,10 @@ use Rattle.vc_generator.proofs.Growing.{left-refused, left-on}
 use Rattle.diagram_conditions.proofs.Pieces.{node-next, fall-at}
 use Rattle.diagram_conditions.proofs.nodes.each_node.Goals as goal
 
-pub append-requires-clause-falls : goal.append-requires-clause-falls
-append-requires-clause-falls g c =
+pub append-requires : goal.append-requires
+append-requires g c =
     let below : c.loop-index.index < length c.args.diagram.now.nodes.items = omega (arith, c.loop-index-test.true, c.len-index-end.ensures) in
-    fall-at c.args.diagram.now.nodes.items c.loop-index.index c.index-node.result.now _ below c.index-node.ensures c.requires.fall
+    fall-at c.args.diagram.now.nodes.items c.loop-index.index c.index-node.result.now _ below c.index-node.ensures c.requires
 
 pub returns-in_err-append : goal.returns-in_err-append
 returns-in_err-append g c =

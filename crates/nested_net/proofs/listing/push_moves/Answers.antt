@@ -8,8 +8,8 @@ use Rattle.rule_laws.specs.NestedNet.{nested_move}
 use Rattle.nested_net.proofs.Walked.{modest-at}
 use Rattle.nested_net.proofs.listing.push_moves.Goals as goal
 
-pub move_from-requires-clause-modest : goal.move_from-requires-clause-modest
-move_from-requires-clause-modest c = modest-at c.args.nodes.now c.loop-index.index c.index-nodes-index.result _ c.loop-index-test.true c.index-nodes-index.is c.requires.modest
+pub move_from-requires : goal.move_from-requires
+move_from-requires c = modest-at c.args.nodes.now c.loop-index.index c.index-nodes-index.result _ c.loop-index-test.true c.index-nodes-index.is c.requires.modest
 
 pub returns-in_err-move_from : goal.returns-in_err-move_from
 returns-in_err-move_from c =

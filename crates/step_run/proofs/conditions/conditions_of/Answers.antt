@@ -3,11 +3,8 @@ use Rattle.vc_generator.specs.Plain.{View}
 use Rattle.st_form.specs.Plain.{plain, plain_condition}
 use Rattle.step_run.specs.SourceView.{source_view}
 use Rattle.step_run.specs.GoalView.{goal_of}
-use Rattle.step_run.proofs.Obliged.{system_few, system_is, appended, refusing}
+use Rattle.step_run.proofs.Obliged.{system_is, appended, refusing}
 use Rattle.step_run.proofs.conditions.conditions_of.Goals as goal
-
-pub conditions-requires-clause-few : goal.conditions-requires-clause-few
-conditions-requires-clause-few c = system_few (source_view c.args.source.now) _ c.in_ok-system.ensures.exact c.requires
 
 pub returns-in-Ok : goal.returns-in-Ok
 returns-in-Ok c =

@@ -1,5 +1,5 @@
 -- The map of the names of the earlier steps, as contracts see it.
-use Rattle.std.proofs.Common.{◌≡◌, ℕ, Bool, true, false, not, List, [], ◌∷◌, ◌++◌, position, slice_get, Option, Some, None, Ok, Err, refl, sym, ap, ◌∙◌}
+use Rattle.std.proofs.Common.{◌≡◌, ℕ, Bool, true, false, List, [], ◌∷◌, ◌++◌, position, slice_get, Option, Some, None, Ok, Err, refl, sym, ap, ◌∙◌}
 use Rattle.std.specs.Prelude.{is_some, if◌then◌else◌}
 use Rattle.std.specs.Option.{option_map}
 use Rattle.std.specs.Map.{keys_of, lookup}
@@ -9,7 +9,7 @@ use Rattle.std.specs.declared.string.String.{String}
 use Rattle.std.proofs.lemmas.List.{map-append}
 use Rattle.std.proofs.lemmas.Option.{slice_get-map}
 use Rattle.st_tokens.specs.Stream.{Stream}
-use Rattle.st_reading.specs.Reading.{Read, ◌>>=◌, named as named_ahead, then_reads, Label}
+use Rattle.st_reading.specs.Reading.{Read, ◌>>=◌, named as named_ahead, Label}
 use Rattle.indexmap.specs.IndexMap.{insert_entry}
 use Rattle.st_program.specs.Names.{as_bytes, named}
 use Rattle.st_program.proofs.Lookups.{position-is, lookup-named}

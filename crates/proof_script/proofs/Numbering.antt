@@ -1,5 +1,5 @@
 -- The numbers of a diagram's nodes are at most 2^30, as all numerals are.
-use Rattle.std.proofs.Common.{◌≡◌, ℕ, ◌^◌, ◌≤◌, Bool, true, false, cond, ◌==◌, ◌&&◌, nat_lt, if◌then◌else◌, All, List, [], ◌∷◌, ◌++◌, length, Option, Some, None, is_none, Ok, Err, refl, ap, subst, ◌∙◌, arith}
+use Rattle.std.proofs.Common.{◌≡◌, ℕ, ◌^◌, ◌≤◌, Bool, true, false, cond, ◌==◌, ◌&&◌, nat_lt, if◌then◌else◌, All, List, [], ◌∷◌, length, Option, Some, None, is_none, Ok, Err, refl, ap, subst, ◌∙◌, arith}
 use Rattle.std.specs.Prelude.{IfSome}
 use Rattle.std.proofs.lemmas.Bool.Decides.{nat_tests}
 use Rattle.std.proofs.lemmas.List.Elements.{All-nil, All-push}
@@ -103,9 +103,9 @@ module _ (g : Setting) where
       let z = allowed (has_helpers g.kind && is_none e.value.0) (faults.NoHelper a.value.0.1) made n f.value.1 rest f.second in
       subst IsNumbered z.1 (new_small nodes s a.value.0 a.value.1 a.first)
 
-  node : (place : ℕ) (nodes : List PlainDrawnNode) (s : Stream) (n : PlainDrawnNode) (rest : Stream) → node_of g place nodes s ≡ Ok (n, rest) → IsNumbered n
+  node_numbered : (place : ℕ) (nodes : List PlainDrawnNode) (s : Stream) (n : PlainDrawnNode) (rest : Stream) → node_of g place nodes s ≡ Ok (n, rest) → IsNumbered n
   unfolding node_of
-  node place nodes s n rest h = at_test (nat_lt (length nodes) 64) h
+  node_numbered place nodes s n rest h = at_test (nat_lt (length nodes) 64) h
     where
       at_test : (b : Bool) → cond b (numbered_node_of g nodes s) (Err (other (faults.Nodes place))) ≡ Ok (n, rest) → IsNumbered n
       at_test true h = numbered nodes s n rest h
@@ -114,16 +114,16 @@ module _ (g : Setting) where
   abbrev AreNumbered : Drawing → Type 0
   AreNumbered d = All IsNumbered d.nodes
 
-  item : (item : Item) (place : ℕ) (d e : Drawing) (s rest : Stream) → AreNumbered d → item_of g item place d s ≡ Ok (e, rest) → AreNumbered e
+  item_numbered : (item : Item) (place : ℕ) (d e : Drawing) (s rest : Stream) → AreNumbered d → item_of g item place d s ≡ Ok (e, rest) → AreNumbered e
   unfolding item_of
-  item items.Terminal place d e s rest h r = let a = both (terminal_of g place d.terminal s) _ (e, rest) r in subst AreNumbered (given (with_terminal a.value.0 d) e a.value.1 rest a.second) h
-  item items.Node place d e s rest h r =
+  item_numbered items.Terminal place d e s rest h r = let a = both (terminal_of g place d.terminal s) _ (e, rest) r in subst AreNumbered (given (with_terminal a.value.0 d) e a.value.1 rest a.second) h
+  item_numbered items.Node place d e s rest h r =
       let a = both (node_of g place d.nodes s) _ (e, rest) r in
-      subst AreNumbered (given (with_node a.value.0 d) e a.value.1 rest a.second) (All-push IsNumbered d.nodes a.value.0 h (node place d.nodes s a.value.0 a.value.1 a.first))
-  item items.Edge place d e s rest h r = let a = both (edge_of g place d.nodes s) _ (e, rest) r in subst AreNumbered (given (with_edge a.value.0 d) e a.value.1 rest a.second) h
+      subst AreNumbered (given (with_node a.value.0 d) e a.value.1 rest a.second) (All-push IsNumbered d.nodes a.value.0 h (node_numbered place d.nodes s a.value.0 a.value.1 a.first))
+  item_numbered items.Edge place d e s rest h r = let a = both (edge_of g place d.nodes s) _ (e, rest) r in subst AreNumbered (given (with_edge a.value.0 d) e a.value.1 rest a.second) h
 
   pub diagram_numbered : (s : Stream) (x : PlainDiagram) (rest : Stream) → drawing_of g s ≡ Ok (x, rest) → All IsNumbered x.nodes
   diagram_numbered s x rest h =
-      let d = drawn g AreNumbered item s x rest (All-nil IsNumbered) h in
+      let d = drawn g AreNumbered item_numbered s x rest (All-nil IsNumbered) h in
       let is_numbered = d.2 in
       subst (λ (y : PlainDiagram). All IsNumbered y.nodes) d.4 is_numbered

@@ -16,7 +16,7 @@ use Rattle.diagram_reader.proofs.Inverses.{both}
 use Rattle.proof_script.specs.declared.steps.Claim.{Claim}
 use Rattle.proof_script.specs.declared.fault.ScriptKind.TheVariants as kinds
 use Rattle.proof_script.specs.declared.fault.ScriptFault.{ScriptFault}
-use Rattle.proof_script.specs.Listing.{Setting, unless, behind_mark, formula_of, listed_formula_of, further_counted}
+use Rattle.proof_script.specs.Listing.{Setting, behind_mark, formula_of, listed_formula_of, further_counted}
 use Rattle.proof_script.specs.Steps.{Earlier, earlier_of, is_taken, claim_in, new_name_of, citations_of, claimed_of, waiting_goal_of, step_of}
 use Rattle.proof_script.specs.Script.{step_turn, ended}
 use Rattle.proof_script.proofs.Inverses.{given, allowed, behind_it, listed_few, further_fits}

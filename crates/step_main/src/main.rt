@@ -14,7 +14,7 @@ use std::{env, io};
 use step_run::{Status, step_run};
 
 /// Bytes of stack. A group of 398 assignments, each of which nests the value before it 32 levels deep, composes formulas
-/// that are some 30,000 nodes deep; a call for each node takes less than 4 KiB.
+/// that are some 30,000 nodes deep, over which calls recurse: this is 8 KiB for each.
 const STACK: usize = 1 << 28;
 
 /// The words, the program's name first. Where one of them is no text there are none, which is a faulty command line.

@@ -1,5 +1,5 @@
 -- Goals of an invariance, of nested waiting-for and of a response, each with its rule: read exactly where they are spelled.
-use Rattle.std.proofs.Common.{Bool, List, [], arith, false, length, nat_eq, not, refl, subst, sym, true, ℕ, ◌++◌, ◌-◌, ◌<◌, ◌||◌, ◌∷◌, ◌≡◌, ◌≤◌}
+use Rattle.std.proofs.Common.{Bool, List, None, Some, [], append-nil, arith, false, length, nat_eq, not, refl, subst, sym, true, ℕ, ◌++◌, ◌-◌, ◌<◌, ◌||◌, ◌∷◌, ◌≡◌, ◌≤◌}
 use Rattle.std.proofs.lemmas.Bool.Decides.{nat_tests}
 use Rattle.st_tokens.specs.Stream.{Lexeme}
 use Rattle.st_reading.proofs.ListCompleteness.{Complete}
@@ -13,7 +13,7 @@ use Rattle.st_reading.specs.declared.mark.Mark.TheVariants as marks
 use Rattle.st_reading.specs.declared.sign.Sign.{Sign}
 use Rattle.st_reading.specs.declared.sign.Sign.TheVariants as signs
 use Rattle.st_form.specs.Formula.{Formula}
-use Rattle.temporal_goals.specs.Texts.{PlainGoal, PlainRule, diagram, invariant, levels, response, waiting}
+use Rattle.temporal_goals.specs.Texts.{PlainGoal, PlainRule, basic, diagram, invariant, levels, response, stronger, waiting}
 use Rattle.temporal_goals.specs.declared.diagrams.DiagramKind.TheVariants as drawings
 use Rattle.expression_parser.specs.Calm.{calm}
 use Rattle.expression_parser.specs.ExpressionTree.{joined}
@@ -22,8 +22,8 @@ use Rattle.proof_script.specs.Listing.{Setting}
 use Rattle.proof_script.specs.Steps.{ends_rule, invariance_of, invariance_rule, levels_of, matched_of, response_of, wait_diagram_of, waiting_by_of, waiting_goal_of, waiting_of}
 use Rattle.proof_script.specs.declared.fault.ScriptFault.{ScriptFault}
 use Rattle.proof_script.specs.declared.fault.ScriptKind.TheVariants as kinds
-use Rattle.proof_grammar.specs.Grammar.{IsInvariance, IsResponse, IsWaiting, IsWaitingGoal, IsWaitingRule, by_levels, by_wait_diagram, invariance, responds, waiting_goal, waits}
-use Rattle.proof_grammar.specs.Phrases.{After, after_mark}
+use Rattle.proof_grammar.specs.Grammar.{IsInvariance, IsResponse, IsWaiting, IsWaitingGoal, IsWaitingRule, by_itself, by_levels, by_stronger, by_wait_diagram, responds, waiting_goal, waits}
+use Rattle.proof_grammar.specs.Phrases.{After, after_mark, left_out, put_in}
 use Rattle.proof_grammar.specs.Units.{IsTruth}
 use Rattle.proof_grammar.proofs.Choices.{behind_mark, either_front, either_phrase, judge_phrase, judged, optional_phrase, without_mark}
 use Rattle.proof_grammar.proofs.Counted.{Few, further_phrase, listed_phrase}
@@ -107,10 +107,12 @@ module _ (g : Setting) where
       map_phrase (among (marks.By ∷ marks.Using ∷ marks.Semicolon ∷ [])) ending (λ f. (invariant p, invariance_rule f)) (optional_phrase marks.By undrawn calm ending unlike_by ending_calm (truth_phrase g)))
 
   pub to_invariance : (ts : List Lexeme) (x : PlainGoal × PlainRule) → invariance_parts.language ts x → IsInvariance g ts x
-  to_invariance ts x (behind_it a c p x1 l (made b f m)) = invariance a b p f l m
+  to_invariance ts x (behind_it a c p x1 l (made b f (put_in t us q e m))) = by_stronger a (t ∷ us) p q l (after_mark t us q e m)
+  to_invariance ts x (behind_it a c p x1 l (made b f left_out)) = subst (λ (us : List Lexeme). IsInvariance g us (invariant p, basic)) (sym (append-nil a)) (by_itself a p l)
 
   pub from_invariance : (ts : List Lexeme) (x : PlainGoal × PlainRule) → IsInvariance g ts x → invariance_parts.language ts x
-  from_invariance ts x (invariance a b p f l m) = behind_it a b p _ l (made b f m)
+  from_invariance ts x (by_itself a p l) = subst (λ (us : List Lexeme). invariance_parts.language us (invariant p, basic)) (append-nil a) (behind_it a [] p (invariant p, basic) l (made [] None left_out))
+  from_invariance ts x (by_stronger a b p f l (after_mark t us q e m)) = behind_it a (t ∷ us) p (invariant p, stronger q) l (made (t ∷ us) (Some q) (put_in t us q e m))
 
   abbrev pub invariance_as : Phrase ScriptFault (PlainGoal × PlainRule) undrawn ending
   invariance_as = as_phrase undrawn ending invariance_parts (IsInvariance g) to_invariance from_invariance

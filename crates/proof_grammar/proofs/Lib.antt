@@ -4,6 +4,7 @@ mod Choices
 mod Rows
 mod Counted
 mod Formulas
+mod Lookups
 mod Names
 mod Transitions
 mod Nets

@@ -10,6 +10,7 @@ use Rattle.st_reading.specs.Reading.{Read, Turn, ahead, at_end, chain, gives, go
 use Rattle.st_reading.specs.Sign.{is, sign_of}
 use Rattle.st_reading.specs.Spelling.{Links, Sound, ended as last_link, left, linked}
 use Rattle.st_reading.specs.Steady.{anything}
+use Rattle.st_program.specs.Names.{AreApart}
 use Rattle.temporal_goals.specs.Texts.{PlainStep}
 use Rattle.proof_script.specs.Listing.{Setting}
 use Rattle.proof_script.specs.Script.{alone, ended, script_spelled, step_turn, steps_of}
@@ -17,14 +18,15 @@ use Rattle.proof_script.specs.Steps.{Earlier, claim_in, earlier_of, step_of}
 use Rattle.proof_script.specs.declared.fault.ScriptFault.{ScriptFault}
 use Rattle.proof_script.specs.declared.steps.Claim.{Claim}
 use Rattle.proof_script.specs.declared.steps.Claim.TheVariants as claims
-use Rattle.proof_grammar.specs.Grammar.{IsNamed, IsScript, a_further_step, invariance_step, no_further_step, response_step, waiting_step}
+use Rattle.proof_grammar.specs.Grammar.{IsInvariance, IsResponse, IsScript, IsWaiting, a_further_step, invariance_step, no_further_step, response_step, waiting_step}
 use Rattle.proof_grammar.specs.Theorems.{ReadScriptsAreSpelled, ScriptsReadOnce, SpelledScriptsAreRead}
+use Rattle.proof_grammar.specs.Units.{names_of_steps}
 use Rattle.proof_grammar.proofs.Phrases.{Phrase, made, map_phrase}
-use Rattle.proof_grammar.proofs.Steps.{Claimed, Claims, claim_found, step_complete, step_sound, whole_step}
+use Rattle.proof_grammar.proofs.Steps.{Claimed, Claims, IsRead, claim_found, from_named, step_complete, step_sound, still_apart, whole_step}
 
 module _ (g : Setting) where
   abbrev pub one_step : Claim → Earlier → Phrase ScriptFault PlainStep anything anything
-  one_step claim earlier = record { reader = step_of g claim earlier; language = IsNamed (Claimed g claim) earlier; sound = step_sound g claim earlier; complete = step_complete g claim earlier; begins = λ ts x l after h. refl }
+  one_step claim earlier = record { reader = step_of g claim earlier; language = IsRead (Claimed g claim) earlier; sound = step_sound g claim earlier; complete = step_complete g claim earlier; begins = λ ts x l after h. refl }
 
   abbrev pub turn : Claim → ℕ → List PlainStep → Phrase ScriptFault (Turn (List PlainStep) (List PlainStep)) anything anything
   turn claim place steps = map_phrase anything anything (λ x. goes (steps ++ x ∷ [])) (one_step claim (earlier_of steps))
@@ -41,7 +43,7 @@ module _ (g : Setting) where
   pub to_script : (before : List PlainStep) (ts : List Lexeme) (steps : List PlainStep) → Links claim_in (λ claim place xs. (turn claim place xs).language) Given before ts steps → IsScript g before ts steps
   to_script before ts steps (last_link xs us zs given) = no_further_step xs
   to_script before ts steps (left xs t o us zs e l) = elim l [ ]
-  to_script before ts steps (linked xs ys t o a b zs e (made us s l) rest) = a_further_step xs (t ∷ us) b s zs (whole_step g o (earlier_of xs) t us s e l) (to_script (xs ++ s ∷ []) b zs rest)
+  to_script before ts steps (linked xs ys t o a b zs e (made us s l) rest) = a_further_step xs (t ∷ us) b s zs (whole_step g o xs t us s e l) (to_script (xs ++ s ∷ []) b zs rest)
 
   pub script_sound : (before : List PlainStep) → Sound (steps_of g before) (IsScript g before)
   unfolding steps_of
@@ -50,7 +52,7 @@ module _ (g : Setting) where
       record { text = c.text; is = c.is; spells = to_script before c.text steps c.spells }
 
   -- one step, and what stands behind it
-  pub one_more_step : (claim : Claim) (xs : List PlainStep) (t : Lexeme) (a b : List Lexeme) (s : PlainStep) (zs : List PlainStep) (q : ℕ) → Claims (sign_of t) claim → IsNamed (Claimed g claim) (earlier_of xs) a s
+  pub one_more_step : (claim : Claim) (xs : List PlainStep) (t : Lexeme) (a b : List Lexeme) (s : PlainStep) (zs : List PlainStep) (q : ℕ) → Claims (sign_of t) claim → IsRead (Claimed g claim) (earlier_of xs) a s
       → steps_of g (xs ++ s ∷ []) (b ++> ends q) ≡ Ok (zs, ends q) → steps_of g xs (((t ∷ a) ++ b) ++> ends q) ≡ Ok (zs, ends q)
   unfolding steps_of
   one_more_step claim xs t a b s zs q e l again =
@@ -63,14 +65,17 @@ module _ (g : Setting) where
   unfolding steps_of at_end
   no_more_step xs q = chain_none claim_in (step_turn g) ended (size (ends q)) xs (ends q) refl
 
-  pub script_complete : (before : List PlainStep) (ts : List Lexeme) (steps : List PlainStep) → IsScript g before ts steps → (q : ℕ) → steps_of g before (ts ++> ends q) ≡ Ok (steps, ends q)
-  script_complete before ts steps (no_further_step xs) q = no_more_step xs q
-  script_complete before ts steps (a_further_step xs a b s zs (invariance_step t us x e l) rest) q = one_more_step claims.Invariant xs t us b x zs q e l (script_complete (xs ++ x ∷ []) b zs rest q)
-  script_complete before ts steps (a_further_step xs a b s zs (waiting_step t us x e l) rest) q = one_more_step claims.Waiting xs t us b x zs q e l (script_complete (xs ++ x ∷ []) b zs rest q)
-  script_complete before ts steps (a_further_step xs a b s zs (response_step t us x e l) rest) q = one_more_step claims.Response xs t us b x zs q e l (script_complete (xs ++ x ∷ []) b zs rest q)
+  pub script_complete : (before : List PlainStep) (ts : List Lexeme) (steps : List PlainStep) → AreApart (names_of_steps before) → IsScript g before ts steps → (q : ℕ) → steps_of g before (ts ++> ends q) ≡ Ok (steps, ends q)
+  script_complete before ts steps apart (no_further_step xs) q = no_more_step xs q
+  script_complete before ts steps apart (a_further_step xs a b s zs (invariance_step t us x e l) rest) q =
+      one_more_step claims.Invariant xs t us b x zs q e (from_named xs apart (IsInvariance g) us x l) (script_complete (xs ++ x ∷ []) b zs (still_apart xs (IsInvariance g) us x apart l) rest q)
+  script_complete before ts steps apart (a_further_step xs a b s zs (waiting_step t us x e l) rest) q =
+      one_more_step claims.Waiting xs t us b x zs q e (from_named xs apart (IsWaiting g) us x l) (script_complete (xs ++ x ∷ []) b zs (still_apart xs (IsWaiting g) us x apart l) rest q)
+  script_complete before ts steps apart (a_further_step xs a b s zs (response_step t us x e l) rest) q =
+      one_more_step claims.Response xs t us b x zs q e (from_named xs apart (IsResponse g) us x l) (script_complete (xs ++ x ∷ []) b zs (still_apart xs (IsResponse g) us x apart l) rest q)
 
   pub script_read_once : (ts : List Lexeme) (xs ys : List PlainStep) → IsScript g [] ts xs → IsScript g [] ts ys → xs ≡ ys
-  script_read_once ts xs ys l m = (values (steps_of g [] (ts ++> ends 0)) xs ys (ends 0) (ends 0) (script_complete [] ts xs l 0) (script_complete [] ts ys m 0)).0
+  script_read_once ts xs ys l m = (values (steps_of g [] (ts ++> ends 0)) xs ys (ends 0) (ends 0) (script_complete [] ts xs tt l 0) (script_complete [] ts ys tt m 0)).0
 
   -- what is left is the text's end
   pub ended_ends : (steps zs : List PlainStep) (s rest : Stream) → ended steps s ≡ Ok (zs, rest) → (q : ℕ) × (rest ≡ ends q)
@@ -116,7 +121,7 @@ alone_read (Err f) x h = absurd cc
 pub spelled_scripts_are_read : SpelledScriptsAreRead
 unfolding script_spelled
 spelled_scripts_are_read g text steps l =
-    let r : steps_of g [] (text_stream text) ≡ Ok (steps, ends l.1) = ap (steps_of g []) l.2 ∙ script_complete g [] l.0 steps l.3 l.1 in
+    let r : steps_of g [] (text_stream text) ≡ Ok (steps, ends l.1) = ap (steps_of g []) l.2 ∙ script_complete g [] l.0 steps tt l.3 l.1 in
     ap alone r
 
 pub read_scripts_are_spelled : ReadScriptsAreSpelled

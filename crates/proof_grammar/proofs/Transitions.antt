@@ -117,6 +117,10 @@ pub there_is : (place : ℕ) (o : Option ℕ) (y : ℕ × ℕ) (s rest : Stream)
 there_is place None y s rest h = absurd cc
 there_is place (Some n) y s rest h = let v = values {X = DiagramFault} (gives (n, place) s) (n, place) y s rest refl h in (n, refl, v.0, v.1)
 
+-- one text behind another
+pub joined_text : (a b : List Lexeme) (s m n rest : Stream) → s ≡ a ++> m → m ≡ b ++> n → n ≡ rest → s ≡ (a ++ b) ++> rest
+joined_text a b s m n rest e f h = e ∙ ap (λ z. a ++> z) (f ∙ ap (λ z. b ++> z) h) ∙ sym (append_stream a b rest)
+
 module _ (g : Setting) where
   -- a transition, and the place of its first token
   pub data IsPlaced : List Lexeme → ℕ × ℕ → Type 0 where
@@ -136,9 +140,7 @@ module _ (g : Setting) where
       let b = split part_of (judge_name a.value) a.middle x rest a.second in
       let d = part_sound a.middle b.value b.middle b.first in
       let f = there_is a.value.place (transition_named g.names g.system a.value.text b.value) x b.middle rest b.second in
-      let second : a.middle ≡ d.text ++> rest = d.is ∙ ap (λ m. d.text ++> m) f.3 in
-      let whole : s ≡ c.text ++> (d.text ++> rest) = c.is ∙ ap (λ m. c.text ++> m) second in
-      let is : s ≡ (c.text ++ d.text) ++> rest = whole ∙ sym (append_stream c.text d.text rest) in
+      let is : s ≡ (c.text ++ d.text) ++> rest = joined_text c.text d.text s a.middle b.middle rest c.is d.is f.3 in
       record { text = c.text ++ d.text; is = is; spells = subst (IsPlaced (c.text ++ d.text)) f.2 (placed_from c.text d.text a.value b.value f.0 c.spells d.spells f.1) }
 
   pub named_complete : Complete no_dot (drawn_transition g.names g.system) IsPlaced

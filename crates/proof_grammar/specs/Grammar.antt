@@ -1,17 +1,16 @@
 -- The grammar of scripts: which token lists stand for which steps, production by production, over the names and the
 -- transitions of a program and the steps that stand before.
-use Rattle.std.specs.Prelude.{List, Option, [], length, ℕ, ◌++◌, ◌-◌, ◌∷◌, ◌≡◌, ◌≤◌}
+use Rattle.std.specs.Prelude.{List, [], length, ℕ, ◌++◌, ◌-◌, ◌∷◌, ◌≡◌, ◌≤◌}
 use Rattle.st_tokens.specs.Stream.{Lexeme, ends, text_stream, ◌++>◌}
 use Rattle.st_reading.specs.Spelling.{Is, Items, Row}
 use Rattle.st_reading.specs.declared.mark.Mark.TheVariants as marks
 use Rattle.st_linear.specs.Linear.{Linear}
 use Rattle.st_form.specs.Formula.{Formula}
-use Rattle.temporal_goals.specs.Texts.{PlainDiagram, PlainGoal, PlainRule, PlainStep, diagram, invariant, levels, response, waiting}
+use Rattle.temporal_goals.specs.Texts.{PlainDiagram, PlainGoal, PlainRule, PlainStep, basic, diagram, invariant, levels, response, stronger, waiting}
 use Rattle.temporal_goals.specs.declared.diagrams.DiagramKind.TheVariants.{Wait}
 use Rattle.proof_script.specs.Listing.{Setting}
-use Rattle.proof_script.specs.Steps.{Earlier, earlier_of, invariance_rule}
 use Rattle.proof_grammar.specs.Drawings.{IsDrawing}
-use Rattle.proof_grammar.specs.Phrases.{After, Optional}
+use Rattle.proof_grammar.specs.Phrases.{After}
 use Rattle.proof_grammar.specs.Rules.{IsRule}
 use Rattle.proof_grammar.specs.Units.{IsCited, IsNewName, IsNumber, IsTruth}
 
@@ -19,7 +18,8 @@ module _ (g : Setting) where
   -- GOALS, EACH WITH ITS RULE
   -- expr [ "by" expr ]
   pub data IsInvariance : List Lexeme → PlainGoal × PlainRule → Type 0 where
-    invariance : (a b : List Lexeme) (p : Formula) (f : Option Formula) → IsTruth g a p → Optional marks.By (IsTruth g) b f → IsInvariance (a ++ b) (invariant p, invariance_rule f)
+    by_itself : (a : List Lexeme) (p : Formula) → IsTruth g a p → IsInvariance a (invariant p, basic)
+    by_stronger : (a b : List Lexeme) (p f : Formula) → IsTruth g a p → After marks.By (IsTruth g) b f → IsInvariance (a ++ b) (invariant p, stronger f)
 
   -- expr "==>" expr "wait" expr { "wait" expr }, at most 64 formulas behind "==>"
   pub data IsWaitingGoal : List Lexeme → Formula × List Formula → Type 0 where
@@ -44,18 +44,18 @@ module _ (g : Setting) where
 
 -- STEPS
 -- [ "using" name { "," name } ]
-pub data IsUsing (earlier : Earlier) : List Lexeme → List ℕ → Type 0 where
+pub data IsUsing (earlier : List PlainStep) : List Lexeme → List ℕ → Type 0 where
   no_using : IsUsing earlier [] []
   using_names : (t : Lexeme) (ts : List Lexeme) (ns : List ℕ) → Is marks.Using t → Row marks.Comma (IsCited earlier) ts ns → IsUsing earlier (t ∷ ts) ns
 
 -- name ":" goal [ using ] ";"
-pub data IsNamed (claim : List Lexeme → PlainGoal × PlainRule → Type 0) (earlier : Earlier) : List Lexeme → PlainStep → Type 0 where
+pub data IsNamed (claim : List Lexeme → PlainGoal × PlainRule → Type 0) (earlier : List PlainStep) : List Lexeme → PlainStep → Type 0 where
   named_step : (a b c : List Lexeme) (u : Lexeme) (name : List ℕ) (x : PlainGoal × PlainRule) (cited : List ℕ)
       → IsNewName earlier a name → After marks.Colon claim b x → IsUsing earlier c cited → Is marks.Semicolon u
       → IsNamed claim earlier (a ++ (b ++ (c ++ u ∷ []))) (record { name = name; goal = x.0; rule = x.1; cited = cited })
 
 -- "invariant" .. | "waiting" .. | "response" ..
-pub data IsStep (g : Setting) (earlier : Earlier) : List Lexeme → PlainStep → Type 0 where
+pub data IsStep (g : Setting) (earlier : List PlainStep) : List Lexeme → PlainStep → Type 0 where
   invariance_step : (t : Lexeme) (ts : List Lexeme) (s : PlainStep) → Is marks.Invariant t → IsNamed (IsInvariance g) earlier ts s → IsStep g earlier (t ∷ ts) s
   waiting_step : (t : Lexeme) (ts : List Lexeme) (s : PlainStep) → Is marks.Waiting t → IsNamed (IsWaiting g) earlier ts s → IsStep g earlier (t ∷ ts) s
   response_step : (t : Lexeme) (ts : List Lexeme) (s : PlainStep) → Is marks.Response t → IsNamed (IsResponse g) earlier ts s → IsStep g earlier (t ∷ ts) s
@@ -64,7 +64,7 @@ pub data IsStep (g : Setting) (earlier : Earlier) : List Lexeme → PlainStep �
 -- { step }, behind steps that stand before
 pub data IsScript (g : Setting) : List PlainStep → List Lexeme → List PlainStep → Type 0 where
   no_further_step : (before : List PlainStep) → IsScript g before [] before
-  a_further_step : (before : List PlainStep) (a b : List Lexeme) (s : PlainStep) (steps : List PlainStep) → IsStep g (earlier_of before) a s → IsScript g (before ++ s ∷ []) b steps → IsScript g before (a ++ b) steps
+  a_further_step : (before : List PlainStep) (a b : List Lexeme) (s : PlainStep) (steps : List PlainStep) → IsStep g before a s → IsScript g (before ++ s ∷ []) b steps → IsScript g before (a ++ b) steps
 
 -- the text spells the script, over these names and transitions
 abbrev pub SpellsScript : Setting → List ℕ → List PlainStep → Type 0

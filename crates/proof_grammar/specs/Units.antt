@@ -1,6 +1,6 @@
 -- The units of a script: formulas, integer expressions, names of steps and names of transitions, over a program and the
 -- steps that stand before.
-use Rattle.std.specs.Prelude.{List, Some, [], false, true, ℕ, ◌∷◌, ◌≡◌}
+use Rattle.std.specs.Prelude.{List, Some, [], map, slice_get, true, ℕ, ◌∷◌, ◌≡◌}
 use Rattle.st_tokens.specs.Stream.{Lexeme}
 use Rattle.st_reading.specs.Spelling.{Is, IsName}
 use Rattle.st_reading.specs.declared.mark.Mark.TheVariants as marks
@@ -8,24 +8,36 @@ use Rattle.st_linear.specs.Linear.{Linear}
 use Rattle.st_form.specs.Formula.{Formula}
 use Rattle.st_form.specs.declared.conditions.Part.{Part}
 use Rattle.st_form.specs.declared.conditions.Part.TheVariants.{Whole}
+use Rattle.st_program.specs.Names.{IsNew}
 use Rattle.observations.specs.Observation.{IsCompassionate, IsJust}
+use Rattle.temporal_goals.specs.Texts.{PlainStep, invariant}
 use Rattle.expression_parser.specs.Grammar.{Inside, IsSum, SpellsWithin}
-use Rattle.expression_typer.specs.Naming.{names_of}
+use Rattle.expression_typer.specs.Naming.{is_text, names_of}
 use Rattle.assertions.specs.Reading.{number_of, truth_of}
 use Rattle.rule_laws.specs.Fitting.{fairness_of}
 use Rattle.diagram_reader.specs.Transitions.{part_named, transition_named}
 use Rattle.proof_script.specs.Listing.{Setting}
-use Rattle.proof_script.specs.Steps.{Earlier, is_taken, step_named}
 use Rattle.proof_grammar.specs.Phrases.{Typed}
 
 -- NAMES OF STEPS
--- a name that no earlier step has
-pub data IsNewName (earlier : Earlier) : List Lexeme → List ℕ → Type 0 where
-  new_name : (t : Lexeme) → IsName t → is_taken earlier t.text ≡ false → IsNewName earlier (t ∷ []) t.text
+abbrev pub names_of_steps : List PlainStep → List (List ℕ)
+names_of_steps steps = map (λ s. s.name) steps
 
--- the name of an earlier invariance, and which of the earlier steps it is
-pub data IsCited (earlier : Earlier) : List Lexeme → ℕ → Type 0 where
-  cited_name : (t : Lexeme) (n : ℕ) → IsName t → step_named earlier t.text ≡ Some (n, true) → IsCited earlier (t ∷ []) n
+-- a name that no earlier step has
+pub data IsNewName (earlier : List PlainStep) : List Lexeme → List ℕ → Type 0 where
+  new_name : (t : Lexeme) → IsName t → IsNew t.text (names_of_steps earlier) → IsNewName earlier (t ∷ []) t.text
+
+-- the earlier step of this number, counted from 0, has this name and is an invariance
+pub record IsLemma (earlier : List PlainStep) (name : List ℕ) (number : ℕ) : Type 0 where
+  pub step : PlainStep
+  pub formula : Formula
+  pub there : slice_get earlier number ≡ Some step
+  pub called : step.name ≡ name
+  pub claims : step.goal ≡ invariant formula
+
+-- the name of an earlier invariance, and its number; names are ASCII, as all are in a text
+pub data IsCited (earlier : List PlainStep) : List Lexeme → ℕ → Type 0 where
+  cited_name : (t : Lexeme) (n : ℕ) → IsName t → is_text t.text ≡ true → IsLemma earlier t.text n → IsCited earlier (t ∷ []) n
 
 -- [ "." ( "entry" | "exit" ) ]
 pub data IsPart : List Lexeme → Part → Type 0 where

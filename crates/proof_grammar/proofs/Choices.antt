@@ -19,7 +19,7 @@ module _ {X A : Type 0} (mark : Mark) (front inner next : Sign → Bool) (clear 
   abbrev pub perhaps : Stream → Read X (Option A)
   perhaps s = cond (is (ahead s) mark) (then_reads p.reader (λ x. gives (Some x)) (behind s)) (Ok (None, s))
 
-  pub begun : (s : Stream) (o : Option A) (rest : Stream) (b : Bool) → b ≡ is (ahead s) mark → cond b (then_reads p.reader (λ x. gives (Some x)) (behind s)) (Ok (None, s)) ≡ Ok (o, rest) → Cut (Optional mark p.language) s o rest
+  begun : (s : Stream) (o : Option A) (rest : Stream) (b : Bool) → b ≡ is (ahead s) mark → cond b (then_reads p.reader (λ x. gives (Some x)) (behind s)) (Ok (None, s)) ≡ Ok (o, rest) → Cut (Optional mark p.language) s o rest
   begun s o rest false e h = taken {X = X} (Optional mark p.language) [] (gives None s) None o s rest refl h left_out
   begun (ends place) o rest true e h = absurd cc
   begun (breaks f) o rest true e h = absurd cc
@@ -52,7 +52,7 @@ pub data Either {A : Type 0} (mark : Mark) (L M : List Lexeme → A → Type 0) 
   without_mark : (ts : List Lexeme) (x : A) → M ts x → Either mark L M ts x
 
 module _ {X A : Type 0} (mark : Mark) (front front2 next : Sign → Bool) (clear : Within front2 (but mark)) (p : Phrase X A front next) (q : Phrase X A front2 next) where
-  pub either_at : (s : Stream) (x : A) (rest : Stream) (b : Bool) → b ≡ is (ahead s) mark → cond b (p.reader (behind s)) (q.reader s) ≡ Ok (x, rest) → Cut (Either mark p.language q.language) s x rest
+  either_at : (s : Stream) (x : A) (rest : Stream) (b : Bool) → b ≡ is (ahead s) mark → cond b (p.reader (behind s)) (q.reader s) ≡ Ok (x, rest) → Cut (Either mark p.language q.language) s x rest
   either_at s x rest false e h = let c = q.sound s x rest h in record { text = c.text; is = c.is; spells = without_mark c.text x c.spells }
   either_at (ends place) x rest true e h = absurd cc
   either_at (breaks f) x rest true e h = absurd cc
@@ -71,7 +71,7 @@ module _ {X A : Type 0} (mark : Mark) (front front2 next : Sign → Bool) (clear
   abbrev pub either_front : Sign → Bool
   either_front g = is g mark || front2 g
 
-  pub in_second : (a b : Bool) → b ≡ true → (a || b) ≡ true
+  in_second : (a b : Bool) → b ≡ true → (a || b) ≡ true
   in_second true b h = refl
   in_second false b h = h
 
@@ -90,7 +90,7 @@ module _ {X O A : Type 0} (op : Sign → Option O) (nothing : None ≡ op signs.
   abbrev pub choice : Stream → Read X A
   choice s = on_operator (op (ahead s)) (Err (refusal s)) (λ o. r o (behind s))
 
-  pub chosen_at : (s : Stream) (x : A) (rest : Stream) (o : Option O) → o ≡ op (ahead s) → on_operator o (Err (refusal s)) (λ o. r o (behind s)) ≡ Ok (x, rest) → Cut (Chosen op L) s x rest
+  chosen_at : (s : Stream) (x : A) (rest : Stream) (o : Option O) → o ≡ op (ahead s) → on_operator o (Err (refusal s)) (λ o. r o (behind s)) ≡ Ok (x, rest) → Cut (Chosen op L) s x rest
   chosen_at s x rest None e h = absurd cc
   chosen_at (ends place) x rest (Some o) e h = absurd (none_some o (nothing ∙ sym e))
     where
@@ -127,7 +127,7 @@ none_chosen Q o h = absurd cc
 pub data Judged {A B : Type 0} (broken : A → Bool) (f : A → B) (L : List Lexeme → A → Type 0) : List Lexeme → B → Type 0 where
   judged : (ts : List Lexeme) (x : A) → L ts x → broken x ≡ false → Judged broken f L ts (f x)
 
-pub passed : {X B : Type 0} (b c : Bool) (fault stop : Stop X) (x y : B) (s rest : Stream) → cond {A = Read X B} b (cond c (Err fault) (Ok (x, s))) (Err stop) ≡ Ok (y, rest) → (c ≡ false) × (x ≡ y) × (s ≡ rest)
+passed : {X B : Type 0} (b c : Bool) (fault stop : Stop X) (x y : B) (s rest : Stream) → cond {A = Read X B} b (cond c (Err fault) (Ok (x, s))) (Err stop) ≡ Ok (y, rest) → (c ≡ false) × (x ≡ y) × (s ≡ rest)
 passed false c fault stop x y s rest h = absurd cc
 passed true true fault stop x y s rest h = absurd cc
 passed {X} true false fault stop x y s rest h = let v = values {X = X} (gives x s) x y s rest refl h in (refl, v.0, v.1)
@@ -180,7 +180,7 @@ abbrev pub If : {A : Type 0} → Bool → Bool → (List Lexeme → A → Type 0
 If b wanted L ts x = (b ≡ wanted) × L ts x
 
 module _ {X A : Type 0} (front next : Sign → Bool) (b : Bool) (fault : Stop X) (p : Phrase X A front next) where
-  pub unbroken_at : (c : Bool) → c ≡ b → (s : Stream) (x : A) (rest : Stream) → cond c (Err fault) (p.reader s) ≡ Ok (x, rest) → Cut (If b false p.language) s x rest
+  unbroken_at : (c : Bool) → c ≡ b → (s : Stream) (x : A) (rest : Stream) → cond c (Err fault) (p.reader s) ≡ Ok (x, rest) → Cut (If b false p.language) s x rest
   unbroken_at true e s x rest h = absurd cc
   unbroken_at false e s x rest h = let c = p.sound s x rest h in record { text = c.text; is = c.is; spells = (sym e, c.spells) }
 
@@ -193,7 +193,7 @@ module _ {X A : Type 0} (front next : Sign → Bool) (b : Bool) (fault : Stop X)
   abbrev pub unbroken_phrase : Phrase X A front next
   unbroken_phrase = record { reader = λ s. cond b (Err fault) (p.reader s); language = If b false p.language; sound = unbroken_sound; complete = unbroken_complete; begins = λ ts x l after h. p.begins ts x l.1 after h }
 
-  pub roomy_at : (c : Bool) → c ≡ b → (s : Stream) (x : A) (rest : Stream) → cond c (p.reader s) (Err fault) ≡ Ok (x, rest) → Cut (If b true p.language) s x rest
+  roomy_at : (c : Bool) → c ≡ b → (s : Stream) (x : A) (rest : Stream) → cond c (p.reader s) (Err fault) ≡ Ok (x, rest) → Cut (If b true p.language) s x rest
   roomy_at false e s x rest h = absurd cc
   roomy_at true e s x rest h = let c = p.sound s x rest h in record { text = c.text; is = c.is; spells = (sym e, c.spells) }
 
@@ -226,7 +226,7 @@ pub data Where {A : Type 0} (b : Bool) (L : List Lexeme → A → Type 0) (x : A
   where_not : b ≡ false → Where b L x [] x
 
 module _ {X A : Type 0} (front next : Sign → Bool) (b : Bool) (x : A) (wide : Within next front) (p : Phrase X A front next) where
-  pub where_at : (c : Bool) → c ≡ b → (s : Stream) (y : A) (rest : Stream) → cond c (p.reader s) (Ok (x, s)) ≡ Ok (y, rest) → Cut (Where b p.language x) s y rest
+  where_at : (c : Bool) → c ≡ b → (s : Stream) (y : A) (rest : Stream) → cond c (p.reader s) (Ok (x, s)) ≡ Ok (y, rest) → Cut (Where b p.language x) s y rest
   where_at true e s y rest h = let c = p.sound s y rest h in record { text = c.text; is = c.is; spells = where_so c.text y (sym e) c.spells }
   where_at false e s y rest h = taken {X = X} (Where b p.language x) [] (gives x s) x y s rest refl h (where_not (sym e))
 
@@ -249,7 +249,7 @@ module _ {X A : Type 0} (b : Bool) (mark : Mark) (front inner next : Sign → Bo
   abbrev pub allowed : Bool → Stream → Read X (Option A)
   allowed c s = cond (c && is (ahead s) mark) (then_reads p.reader (λ x. gives (Some x)) (behind s)) (Ok (None, s))
 
-  pub allowed_at : (c : Bool) → c ≡ b → (s : Stream) (o : Option A) (rest : Stream) → allowed c s ≡ Ok (o, rest) → Cut (Where b (Optional mark p.language) None) s o rest
+  allowed_at : (c : Bool) → c ≡ b → (s : Stream) (o : Option A) (rest : Stream) → allowed c s ≡ Ok (o, rest) → Cut (Where b (Optional mark p.language) None) s o rest
   allowed_at true e s o rest h = let c = optional_sound mark front inner next clear fewer p s o rest h in record { text = c.text; is = c.is; spells = where_so c.text o (sym e) c.spells }
   allowed_at false e s o rest h = taken {X = X} (Where b (Optional mark p.language) None) [] (gives None s) None o s rest refl h (where_not (sym e))
 

@@ -33,10 +33,10 @@ pub record Further {A : Type 0} (mark : Mark) (item : List Lexeme → A → Type
 abbrev pub FewRow : {A : Type 0} → Mark → (List Lexeme → A → Type 0) → List Lexeme → List A → Type 0
 FewRow mark item ts xs = Row mark item ts xs × (length xs ≤ 64)
 
-pub one_longer : {A : Type 0} (xs : List A) (x : A) → length xs < 64 → length (xs ++ x ∷ []) ≤ 64
+one_longer : {A : Type 0} (xs : List A) (x : A) → length xs < 64 → length (xs ++ x ∷ []) ≤ 64
 one_longer xs x h = omega (arith, h, length-append xs (x ∷ []))
 
-pub shorter : {A : Type 0} (xs : List A) (x : A) (zs : List A) → length (xs ++ x ∷ zs) ≤ 64 → length xs < 64
+shorter : {A : Type 0} (xs : List A) (x : A) (zs : List A) → length (xs ++ x ∷ zs) ≤ 64 → length xs < 64
 shorter xs x zs h = omega (arith, h, length-append xs (x ∷ zs))
 
 module _ {X A : Type 0} (mark : Mark) (L : List Lexeme → A → Type 0) (front inner next : Sign → Bool) (marked : inner (signs.Marked mark) ≡ true) (clear : Within next (but mark)) (fewer : Within next inner) (items : (before : ℕ) → Phrase X A front inner)
@@ -53,7 +53,7 @@ module _ {X A : Type 0} (mark : Mark) (L : List Lexeme → A → Type 0) (front 
   abbrev pub links : List A → Phrase X (List A) inner next
   links = chain_phrase front next inner next (only mark) refl stops fewer inner_mark fewer turning (λ xs. the_value next xs)
 
-  pub to_items : (xs : List A) (ts : List Lexeme) (zs : List A) → (links xs).language ts zs → length xs ≤ 64 → Further mark L xs ts zs
+  to_items : (xs : List A) (ts : List Lexeme) (zs : List A) → (links xs).language ts zs → length xs ≤ 64 → Further mark L xs ts zs
   to_items xs ts zs (ended ys us ws given) le = record { others = []; joined = sym (append-nil ys); spells = no_items; limited = le }
   to_items xs ts zs (left ys t o us ws e l) le = elim l [ ]
   to_items xs ts zs (linked ys ws t o a b vs e (made us x l) rest) le =
@@ -61,7 +61,7 @@ module _ {X A : Type 0} (mark : Mark) (L : List Lexeme → A → Type 0) (front 
       let again = to_items (ys ++ x ∷ []) b vs rest (one_longer ys x f.0) in
       record { others = x ∷ again.others; joined = again.joined ∙ append_assoc ys (x ∷ []) again.others; spells = item_more t us b x again.others (only_is mark (sign_of t) o e) f.1 again.spells; limited = again.limited }
 
-  pub from_items : (xs : List A) (ts : List Lexeme) (ys : List A) → Items mark L ts ys → length (xs ++ ys) ≤ 64 → (links xs).language ts (xs ++ ys)
+  from_items : (xs : List A) (ts : List Lexeme) (ys : List A) → Items mark L ts ys → length (xs ++ ys) ≤ 64 → (links xs).language ts (xs ++ ys)
   from_items xs ts ys no_items le = subst (λ (zs : List A). (links xs).language [] zs) (sym (append-nil xs)) (ended xs [] xs given)
   from_items xs ts ys (item_more t a b y zs e l rest) le =
       let longer : length ((xs ++ y ∷ []) ++ zs) ≤ 64 = subst (λ (vs : List A). length vs ≤ 64) (sym (append_assoc xs (y ∷ []) zs)) le in
@@ -87,7 +87,7 @@ module _ {X A : Type 0} (mark : Mark) (L : List Lexeme → A → Type 0) (front 
   pub to_rows : (ts : List Lexeme) (zs : List A) → first_and_others.language ts zs → FewRow mark L ts zs
   to_rows ts zs (behind_it a b x vs l k) = (subst (Row mark L (a ++ b)) (sym k.joined) (row a b x k.others (to_few 0 a x l).1 k.spells), k.limited)
 
-  pub from_row : (ts : List Lexeme) (zs : List A) → Row mark L ts zs → length zs ≤ 64 → first_and_others.language ts zs
+  from_row : (ts : List Lexeme) (zs : List A) → Row mark L ts zs → length zs ≤ 64 → first_and_others.language ts zs
   from_row ts zs (row a b x xs l items_are) le = behind_it a b x (x ∷ xs) (from_few 0 a x (omega arith, l)) (record { others = xs; joined = refl; spells = items_are; limited = le })
 
   pub from_rows : (ts : List Lexeme) (zs : List A) → FewRow mark L ts zs → first_and_others.language ts zs

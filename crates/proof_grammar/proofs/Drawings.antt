@@ -16,7 +16,7 @@ use Rattle.st_reading.specs.declared.sign.Sign.{Sign}
 use Rattle.st_reading.specs.declared.sign.Sign.TheVariants as signs
 use Rattle.temporal_goals.specs.Texts.{PlainDiagram, PlainRule, diagram}
 use Rattle.temporal_goals.specs.declared.diagrams.DiagramKind.{DiagramKind}
-use Rattle.diagram_reader.specs.Drawing.{closed_of, diagram_of, drawing_of, item_in, item_of, items_of, turn_of}
+use Rattle.diagram_reader.specs.Drawing.{closed_of, diagram_of, drawing_of, item_in, item_of, items_of}
 use Rattle.diagram_reader.specs.Drawn.{Drawing, diagram_with, nothing_drawn, with_edge, with_node, with_terminal}
 use Rattle.diagram_reader.specs.Transitions.{present}
 use Rattle.diagram_reader.specs.declared.fault.DiagramFault.{DiagramFault}
@@ -45,13 +45,13 @@ item_mark items.Edge = marks.Edge
 abbrev pub Begins : Sign → Item → Type 0
 Begins g item = is g (item_mark item) ≡ true
 
-pub item_is : (g : Sign) (item : Item) → item_in g ≡ Some item → Begins g item
+item_is : (g : Sign) (item : Item) → item_in g ≡ Some item → Begins g item
 item_is g item h =
     first_of (Begins g) (is g marks.Terminal) items.Terminal item (cond (is g marks.Node) (Some items.Node) (cond (is g marks.Edge) (Some items.Edge) None)) (λ e. e)
     (λ h. first_of (Begins g) (is g marks.Node) items.Node item (cond (is g marks.Edge) (Some items.Edge) None) (λ e. e)
     (λ h. first_of (Begins g) (is g marks.Edge) items.Edge item None (λ e. e) (λ h. none_chosen (Begins g item) item h) h) h) h
 
-pub item_found : (g : Sign) (item : Item) → Begins g item → item_in g ≡ Some item
+item_found : (g : Sign) (item : Item) → Begins g item → item_in g ≡ Some item
 unfolding number
 item_found g items.Terminal h = at_mark item_in (Some items.Terminal) marks.Terminal refl g h
 item_found g items.Node h = at_mark item_in (Some items.Node) marks.Node refl g h
@@ -67,11 +67,11 @@ no_item g h = at_mark item_in None marks.CloseBrace refl g (alone marks.CloseBra
 pub no_item_at_end : None ≡ item_in signs.Nothing
 no_item_at_end = refl
 
-pub is_free : {A : Type 0} (o : Option A) → is_some o ≡ false → o ≡ None
+is_free : {A : Type 0} (o : Option A) → is_some o ≡ false → o ≡ None
 is_free None h = refl
 is_free (Some x) h = absurd cc
 
-pub mapped_some : {A B : Type 0} (h : A → B) (o : Option A) (x : B) → option_map h o ≡ Some x → (y : A) × (o ≡ Some y) × (h y ≡ x)
+mapped_some : {A B : Type 0} (h : A → B) (o : Option A) (x : B) → option_map h o ≡ Some x → (y : A) × (o ≡ Some y) × (h y ≡ x)
 mapped_some h None x e = absurd cc
 mapped_some h (Some y) x e = (y, refl, inside (h y) x e)
   where
@@ -126,7 +126,7 @@ module _ (g : Setting) (kind : DiagramKind) (highest : ℕ) where
   abbrev pub item_links : Drawing → Phrase DiagramFault Drawing anything brace
   item_links = chain_phrase anything brace anything brace item_in no_item_at_end no_item (λ g h. refl) (λ g o e. refl) (λ g h. refl) item_turn (λ d. the_value brace d)
 
-  pub to_item : (item : Item) (d e : Drawing) (t : Lexeme) (ts : List Lexeme) → item_in (sign_of t) ≡ Some item → Itemed item d ts e → IsItem g kind highest d (t ∷ ts) e
+  to_item : (item : Item) (d e : Drawing) (t : Lexeme) (ts : List Lexeme) → item_in (sign_of t) ≡ Some item → Itemed item d ts e → IsItem g kind highest d (t ∷ ts) e
   to_item items.Terminal d e t ts f (made us x l) = terminal_item t us x (item_is (sign_of t) items.Terminal f) (is_free d.terminal l.0) l.1
   to_item items.Node d e t ts f (made us x l) = node_item t us x (item_is (sign_of t) items.Node f) (below_limit (length d.nodes) l.0) l.1
   to_item items.Edge d e t ts f (made us x l) = edge_item t us x (item_is (sign_of t) items.Edge f) l

@@ -66,10 +66,10 @@ pub closing_calm : Within closing calm
 unfolding number calm
 closing_calm = marks_within calm (marks.Semicolon ∷ []) refl
 
-pub true_not_false : (b : Bool) → b ≡ true → b ≡ false → ⊥
+true_not_false : (b : Bool) → b ≡ true → b ≡ false → ⊥
 true_not_false b e f = cc
 
-pub wants : {A : Type 0} (b : Bool) (o : Option A) → (b && is_none o) ≡ false → b ≡ true → o ≡ None → ⊥
+wants : {A : Type 0} (b : Bool) (o : Option A) → (b && is_none o) ≡ false → b ≡ true → o ≡ None → ⊥
 wants true None e f h = cc
 wants true (Some x) e f h = cc
 wants false o e f h = cc
@@ -130,11 +130,11 @@ module _ (g : Setting) (kind : DiagramKind) (highest : ℕ) where
   wanted ts h (where_so us o e (put_in t vs x f l)) k = node_helper (t ∷ vs) x e (after_mark t vs x f l)
   wanted ts h (where_not e) k = unhelped e
 
-  pub may_help : (ts : List Lexeme) (h : Option ℕ) → IsNodeHelper g kind highest ts h → MayHelp ts h
+  may_help : (ts : List Lexeme) (h : Option ℕ) → IsNodeHelper g kind highest ts h → MayHelp ts h
   may_help ts h (unhelped e) = where_not e
   may_help ts h (node_helper us x e (after_mark t vs y f l)) = where_so (t ∷ vs) (Some y) e (put_in t vs y f l)
 
-  pub fits : (ts : List Lexeme) (h : Option ℕ) → IsNodeHelper g kind highest ts h → (has_helpers kind && is_none h) ≡ false
+  fits : (ts : List Lexeme) (h : Option ℕ) → IsNodeHelper g kind highest ts h → (has_helpers kind && is_none h) ≡ false
   fits ts h (unhelped e) = rw e refl
   fits ts h (node_helper us x e l) = rw e refl
 

@@ -44,7 +44,7 @@ use Rattle.proof_grammar.proofs.Tokens.{but}
 abbrev pub read_to : {A : Type 0} → A → Stream → Answer A
 read_to x s = Ok (x, s)
 
-pub same_read : {A : Type 0} (x y : A) (s t : Stream) → read_to x s ≡ Ok (y, t) → (x ≡ y) × (s ≡ t)
+same_read : {A : Type 0} (x y : A) (s t : Stream) → read_to x s ≡ Ok (y, t) → (x ≡ y) × (s ≡ t)
 same_read {A} x y s t h = let e : (x, s) ≡ (y, t) = cc in (ap (λ (p : A × Stream). p.0) e, ap (λ (p : A × Stream). p.1) e)
 
 module _ {A : Type 0} (r : Stream → Read Passed Expr) (L : List Lexeme → Expr → Type 0) (typing : Expr → Result A TypeFault) where
@@ -52,69 +52,69 @@ module _ {A : Type 0} (r : Stream → Read Passed Expr) (L : List Lexeme → Exp
   answer s = typed_behind typing (r s)
 
   module _ (sound : Sound r L) where
-    pub at_type : (s : Stream) (e : Expr) (m : Stream) → r s ≡ Ok (e, m) → (v : Result A TypeFault) → v ≡ typing e → (x : A) (rest : Stream) → before m v ≡ Ok (x, rest) → Cut (Typed L typing) s x rest
+    at_type : (s : Stream) (e : Expr) (m : Stream) → r s ≡ Ok (e, m) → (v : Result A TypeFault) → v ≡ typing e → (x : A) (rest : Stream) → before m v ≡ Ok (x, rest) → Cut (Typed L typing) s x rest
     at_type s e m is (Ok y) f x rest h =
         let c = sound s e m is in
         let v = same_read y x m rest h in
         record { text = c.text; is = c.is ∙ ap (λ z. c.text ++> z) v.1; spells = record { tree = e; spells = c.spells; typed = sym f ∙ ap Ok v.0 } }
     at_type s e m is (Err b) f x rest h = absurd cc
 
-    pub at_tree : (s : Stream) (o : Read Passed Expr) → o ≡ r s → (x : A) (rest : Stream) → typed_behind typing o ≡ Ok (x, rest) → Cut (Typed L typing) s x rest
+    at_tree : (s : Stream) (o : Read Passed Expr) → o ≡ r s → (x : A) (rest : Stream) → typed_behind typing o ≡ Ok (x, rest) → Cut (Typed L typing) s x rest
     at_tree s (Ok p) f x rest h = at_type s p.0 p.1 (sym f) (typing p.0) refl x rest h
     at_tree s (Err b) f x rest h = absurd cc
 
-    pub typed_cut : (s : Stream) (x : A) (rest : Stream) → answer s ≡ Ok (x, rest) → Cut (Typed L typing) s x rest
+    typed_cut : (s : Stream) (x : A) (rest : Stream) → answer s ≡ Ok (x, rest) → Cut (Typed L typing) s x rest
     typed_cut s x rest h = at_tree s (r s) refl x rest h
 
-  pub typed_complete : (set : Sign → Bool) → Complete set r L → (ts : List Lexeme) (x : A) → Typed L typing ts x → (after : Stream) → set (ahead after) ≡ true → answer (ts ++> after) ≡ Ok (x, after)
+  typed_complete : (set : Sign → Bool) → Complete set r L → (ts : List Lexeme) (x : A) → Typed L typing ts x → (after : Stream) → set (ahead after) ≡ true → answer (ts ++> after) ≡ Ok (x, after)
   typed_complete set complete ts x l after h = let a = complete ts l.tree l.spells after h in rw (a, l.typed) refl
 
-pub above_two : (g : Sign) → above 6 g ≡ true → above 2 g ≡ true
+above_two : (g : Sign) → above 6 g ≡ true → above 2 g ≡ true
 above_two g h = grind (arith, nat_tests)
 
 -- Neither begins with "diagram": the reader refuses that token.
 module _ (places : Bool) (down : Down) (s : Stream) (e : front places (ahead s) ≡ fronts.Other) where
-  pub atom_refused : atom_of places down s ≡ Err (refusal s)
+  atom_refused : atom_of places down s ≡ Err (refusal s)
   unfolding atom_of
   atom_refused = ap (atom_at down s) e
 
-  pub unary_refused : unary_of places down s ≡ Err (refusal s)
+  unary_refused : unary_of places down s ≡ Err (refusal s)
   unfolding unary_of
   unary_refused = ap (unary_at places down s) e ∙ atom_refused
 
-  pub product_refused : product_of places down s ≡ Err (refusal s)
+  product_refused : product_of places down s ≡ Err (refusal s)
   unfolding product_of
   product_refused = bind_err (unary_of places down) (λ x s. chain product_sign (grouping (unary_of places down)) gives (size s) x s) s (refusal s) unary_refused
 
-  pub sum_refused : tree_sum_of places down s ≡ Err (refusal s)
+  sum_refused : tree_sum_of places down s ≡ Err (refusal s)
   unfolding tree_sum_of
   sum_refused = bind_err (product_of places down) (λ x s. chain sum_sign (grouping (product_of places down)) gives (size s) x s) s (refusal s) product_refused
 
-  pub comparison_refused : comparison_of places down s ≡ Err (refusal s)
+  comparison_refused : comparison_of places down s ≡ Err (refusal s)
   unfolding comparison_of
   comparison_refused = bind_err (tree_sum_of places down) (compared (tree_sum_of places down)) s (refusal s) sum_refused
 
-  pub negation_refused : negation_of places down s ≡ Err (refusal s)
+  negation_refused : negation_of places down s ≡ Err (refusal s)
   unfolding negation_of
   negation_refused = ap (negation_at places down s) e ∙ comparison_refused
 
-  pub conjunction_refused : conjunction_of places down s ≡ Err (refusal s)
+  conjunction_refused : conjunction_of places down s ≡ Err (refusal s)
   unfolding conjunction_of
   conjunction_refused = bind_err (negation_of places down) (chained all marks.And (negation_of places down)) s (refusal s) negation_refused
 
-  pub disjunction_refused : disjunction_of places down s ≡ Err (refusal s)
+  disjunction_refused : disjunction_of places down s ≡ Err (refusal s)
   unfolding disjunction_of
   disjunction_refused = bind_err (conjunction_of places down) (chained any marks.Or (conjunction_of places down)) s (refusal s) conjunction_refused
 
-  pub refused : expression_of places down s ≡ Err (refusal s)
+  refused : expression_of places down s ≡ Err (refusal s)
   unfolding expression_of
   refused = bind_err (disjunction_of places down) (implied down) s (refusal s) disjunction_refused
 
-pub no_front : (g : Sign) → is g marks.Diagram ≡ true → front true g ≡ fronts.Other
+no_front : (g : Sign) → is g marks.Diagram ≡ true → front true g ≡ fronts.Other
 unfolding number
 no_front g h = ap (front true) (is_marked g marks.Diagram h)
 
-pub not_both : (r : Read Passed Expr) (x : Expr) (rest : Stream) (f : Stop Passed) → r ≡ Ok (x, rest) → r ≡ Err f → ⊥
+not_both : (r : Read Passed Expr) (x : Expr) (rest : Stream) (f : Stop Passed) → r ≡ Ok (x, rest) → r ≡ Err f → ⊥
 not_both r x rest f g h = cc
 
 -- anything but "diagram"
@@ -122,11 +122,11 @@ abbrev pub undrawn : Sign → Bool
 undrawn = but marks.Diagram
 
 -- a unit that is read, in a script and in a drawing
-pub unit_read : {A : Type 0} (r : Answer A) (y : A × Stream) → unit_of r ≡ Ok y → r ≡ Ok y
+unit_read : {A : Type 0} (r : Answer A) (y : A × Stream) → unit_of r ≡ Ok y → r ≡ Ok y
 unit_read (Ok x) y h = ap Ok (let e : x ≡ y = cc in e)
 unit_read (Err f) y h = absurd cc
 
-pub drawing_unit_read : {A : Type 0} (r : Answer A) (y : A × Stream) → drawing_unit_of r ≡ Ok y → r ≡ Ok y
+drawing_unit_read : {A : Type 0} (r : Answer A) (y : A × Stream) → drawing_unit_of r ≡ Ok y → r ≡ Ok y
 drawing_unit_read (Ok x) y h = ap Ok (let e : x ≡ y = cc in e)
 drawing_unit_read (Err f) y h = absurd cc
 
@@ -136,16 +136,16 @@ below_limit n h = grind (arith, nat_tests)
 pub is_below : (n : ℕ) → n < 64 → nat_lt n 64 ≡ true
 is_below n h = grind (arith, nat_tests)
 
-pub none_read : {A : Type 0} (place : ℕ) (r : Answer A) (y : A) (rest : Stream) → one_too_many place r ≡ Ok (y, rest) → ⊥
+none_read : {A : Type 0} (place : ℕ) (r : Answer A) (y : A) (rest : Stream) → one_too_many place r ≡ Ok (y, rest) → ⊥
 none_read place (Ok x) y rest h = cc
 none_read place (Err f) y rest h = cc
 
 module _ (g : Setting) where
-  pub form_cut : (s : Stream) (x : Formula) (rest : Stream) → form_of (names_of g.names) s ≡ Ok (x, rest) → Cut (IsTruth g) s x rest
+  form_cut : (s : Stream) (x : Formula) (rest : Stream) → form_of (names_of g.names) s ≡ Ok (x, rest) → Cut (IsTruth g) s x rest
   unfolding form_of
   form_cut = typed_cut (λ s. expression_of true (below true 32) s) (SpellsWithin true 32) (truth_of (names_of g.names)) (expression_sound true (below true 32) (Inside true 32) (below_sound true 32))
 
-  pub form_complete : (ts : List Lexeme) (x : Formula) → IsTruth g ts x → (after : Stream) → calm (ahead after) ≡ true → form_of (names_of g.names) (ts ++> after) ≡ Ok (x, after)
+  form_complete : (ts : List Lexeme) (x : Formula) → IsTruth g ts x → (after : Stream) → calm (ahead after) ≡ true → form_of (names_of g.names) (ts ++> after) ≡ Ok (x, after)
   unfolding form_of
   form_complete = typed_complete (λ s. expression_of true (below true 32) s) (SpellsWithin true 32) (truth_of (names_of g.names)) calm (formula_complete true 32 32 (omega arith))
 
@@ -157,15 +157,15 @@ module _ (g : Setting) where
       at_test true e =
           absurd (not_both (expression_of true (below true 32) (ts ++> after)) l.tree after (refusal (ts ++> after)) (formula_complete true 32 32 (omega arith) ts l.tree l.spells after h) (refused true (below true 32) (ts ++> after) (no_front (ahead (ts ++> after)) (sym e))))
 
-  pub tree_complete : Complete calm (tree_sum_of true (below true 32)) (IsSum true (Inside true 32))
+  tree_complete : Complete calm (tree_sum_of true (below true 32)) (IsSum true (Inside true 32))
   tree_complete ts x l after h =
       sum_complete true (below true 32) (Inside true 32) (Inside true 32) (below_sound true 32) (below_complete true 32 32 (omega arith)) ts x l after (above_two (ahead after) (calm_above (ahead after) h))
 
-  pub linear_cut : (s : Stream) (x : Linear) (rest : Stream) → linear_of (names_of g.names) s ≡ Ok (x, rest) → Cut (IsNumber g) s x rest
+  linear_cut : (s : Stream) (x : Linear) (rest : Stream) → linear_of (names_of g.names) s ≡ Ok (x, rest) → Cut (IsNumber g) s x rest
   unfolding linear_of
   linear_cut = typed_cut (tree_sum_of true (below true 32)) (IsSum true (Inside true 32)) (number_of (names_of g.names)) (sum_sound true (below true 32) (Inside true 32) (below_sound true 32))
 
-  pub linear_complete : (ts : List Lexeme) (x : Linear) → IsNumber g ts x → (after : Stream) → calm (ahead after) ≡ true → linear_of (names_of g.names) (ts ++> after) ≡ Ok (x, after)
+  linear_complete : (ts : List Lexeme) (x : Linear) → IsNumber g ts x → (after : Stream) → calm (ahead after) ≡ true → linear_of (names_of g.names) (ts ++> after) ≡ Ok (x, after)
   unfolding linear_of
   linear_complete = typed_complete (tree_sum_of true (below true 32)) (IsSum true (Inside true 32)) (number_of (names_of g.names)) calm tree_complete
 

@@ -16,7 +16,6 @@ use Rattle.st_form.specs.Formula.{Formula}
 use Rattle.temporal_goals.specs.Texts.{PlainGoal, PlainRule, basic, diagram, invariant, levels, response, stronger, waiting}
 use Rattle.temporal_goals.specs.declared.diagrams.DiagramKind.TheVariants as drawings
 use Rattle.expression_parser.specs.Calm.{calm}
-use Rattle.expression_parser.specs.ExpressionTree.{joined}
 use Rattle.proof_script.specs.Faults.{stop_at}
 use Rattle.proof_script.specs.Listing.{Setting}
 use Rattle.proof_script.specs.Steps.{ends_rule, invariance_of, invariance_rule, levels_of, matched_of, response_of, wait_diagram_of, waiting_by_of, waiting_goal_of, waiting_of}
@@ -34,10 +33,10 @@ use Rattle.proof_grammar.proofs.Phrases.{Phrase, after_phrase, as_phrase, made, 
 use Rattle.proof_grammar.proofs.Rules.{ending, rule_phrase}
 use Rattle.proof_grammar.proofs.Tokens.{among, but, marks_within}
 
-pub same_number : (m n : ℕ) → not (nat_eq m n) ≡ false → m ≡ n
+same_number : (m n : ℕ) → not (nat_eq m n) ≡ false → m ≡ n
 same_number m n h = grind (arith, nat_tests)
 
-pub not_other : (m n : ℕ) → m ≡ n → not (nat_eq m n) ≡ false
+not_other : (m n : ℕ) → m ≡ n → not (nat_eq m n) ≡ false
 not_other m n h = grind (arith, nat_tests)
 
 pub ending_calm : Within ending calm

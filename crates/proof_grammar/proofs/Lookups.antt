@@ -15,7 +15,7 @@ use Rattle.proof_script.specs.Steps.{Earlier, earlier_of, is_invariance, is_take
 use Rattle.proof_grammar.specs.Units.{IsLemma, names_of_steps}
 
 -- BYTES
-pub unequal : (xs ys : List ℕ) → bytes_eq xs ys ≡ false → bytes_eq ys xs ≡ false
+unequal : (xs ys : List ℕ) → bytes_eq xs ys ≡ false → bytes_eq ys xs ≡ false
 unequal xs ys h = at_test (bytes_eq ys xs) refl
   where
     at_test : (b : Bool) → b ≡ bytes_eq ys xs → b ≡ false
@@ -37,11 +37,11 @@ is_free_name [] name h = refl
 is_free_name (s ∷ steps) name h = let e = unequal s.name name h.0 in let again = is_free_name steps name h.1 in rw e again
 
 -- names that stay apart
-pub new_pushed : (x y : List ℕ) (xs : List (List ℕ)) → IsNew x xs → bytes_eq y x ≡ false → IsNew x (xs ++ y ∷ [])
+new_pushed : (x y : List ℕ) (xs : List (List ℕ)) → IsNew x xs → bytes_eq y x ≡ false → IsNew x (xs ++ y ∷ [])
 new_pushed x y [] new h = (h, tt)
 new_pushed x y (z ∷ zs) new h = (new.0, new_pushed x y zs new.1 h)
 
-pub apart_pushed : (xs : List (List ℕ)) (y : List ℕ) → AreApart xs → IsNew y xs → AreApart (xs ++ y ∷ [])
+apart_pushed : (xs : List (List ℕ)) (y : List ℕ) → AreApart xs → IsNew y xs → AreApart (xs ++ y ∷ [])
 apart_pushed [] y apart new = (tt, tt)
 apart_pushed (x ∷ xs) y apart new = (new_pushed x y xs apart.0 (unequal x y new.0), apart_pushed xs y apart.1 new.1)
 
@@ -62,16 +62,16 @@ look (s ∷ steps) name = cond (bytes_eq name s.name) (Some (0, is_invariance s.
 pub one_more : (m : ℕ) → 1 + m ≡ suc m
 one_more m = omega arith
 
-pub some_below : (l : ℕ) → nat_lt 0 (suc l) ≡ true
+some_below : (l : ℕ) → nat_lt 0 (suc l) ≡ true
 some_below l = grind (arith, nat_tests)
 
-pub below_next : (m l : ℕ) → nat_lt m l ≡ true → nat_lt (suc m) (suc l) ≡ true
+below_next : (m l : ℕ) → nat_lt m l ≡ true → nat_lt (suc m) (suc l) ≡ true
 below_next m l h = grind (arith, nat_tests)
 
-pub not_below_next : (m l : ℕ) → nat_lt m l ≡ false → nat_lt (suc m) (suc l) ≡ false
+not_below_next : (m l : ℕ) → nat_lt m l ≡ false → nat_lt (suc m) (suc l) ≡ false
 not_below_next m l h = grind (arith, nat_tests)
 
-pub position_first : (p : List ℕ → Bool) (x : List ℕ) (xs : List (List ℕ)) → position p (x ∷ xs) ≡ cond (p x) (Some 0) (option_map suc (position p xs))
+position_first : (p : List ℕ → Bool) (x : List ℕ) (xs : List (List ℕ)) → position p (x ∷ xs) ≡ cond (p x) (Some 0) (option_map suc (position p xs))
 position_first p x xs = at_test (p x)
   where
     at_length : (m l : ℕ) → cond (nat_lt (suc m) (suc l)) (Some (suc m)) None ≡ option_map suc (cond (nat_lt m l) (Some m) None)
@@ -85,7 +85,7 @@ position_first p x xs = at_test (p x)
     at_test true = let f = some_below (length xs) in rw f refl
     at_test false = ap (λ k. cond (nat_lt k (suc (length xs))) (Some k) None) (one_more (position_or_len p xs)) ∙ at_length (position_or_len p xs) (length xs)
 
-pub one_later : (e : List ℕ × Bool) (es : Earlier) (o : Option ℕ) → variable_at (e ∷ es) (option_map suc o) ≡ option_map shifted (variable_at es o)
+one_later : (e : List ℕ × Bool) (es : Earlier) (o : Option ℕ) → variable_at (e ∷ es) (option_map suc o) ≡ option_map shifted (variable_at es o)
 one_later e es None = refl
 one_later e es (Some k) = at_entry (slice_get es k)
   where
@@ -93,7 +93,7 @@ one_later e es (Some k) = at_entry (slice_get es k)
     at_entry None = refl
     at_entry (Some v) = refl
 
-pub look_is : (steps : List PlainStep) (name : List ℕ) → variable_named (earlier_of steps) name ≡ look steps name
+look_is : (steps : List PlainStep) (name : List ℕ) → variable_named (earlier_of steps) name ≡ look steps name
 look_is [] name = refl
 look_is (s ∷ steps) name =
     ap (variable_at (earlier_of (s ∷ steps))) (position_first (λ k. bytes_eq name k) s.name (names_in (earlier_of steps)))
@@ -105,25 +105,25 @@ look_is (s ∷ steps) name =
     at_test false = one_later (s.name, is_invariance s.goal) (earlier_of steps) (position (λ k. bytes_eq name k) (names_in (earlier_of steps)))
 
 -- WHAT IS FOUND
-pub invariance_so : (goal : PlainGoal) → is_invariance goal ≡ true → (p : Formula) × (goal ≡ invariant p)
+invariance_so : (goal : PlainGoal) → is_invariance goal ≡ true → (p : Formula) × (goal ≡ invariant p)
 invariance_so (invariant p) h = (p, refl)
 invariance_so (waiting p qs) h = absurd cc
 invariance_so (response p q e) h = absurd cc
 
-pub here_is : (steps : List PlainStep) (s : PlainStep) (name : List ℕ) (n : ℕ) → bytes_eq name s.name ≡ true → Some (entry 0 (is_invariance s.goal)) ≡ Some (n, true) → IsLemma (s ∷ steps) name n
+here_is : (steps : List PlainStep) (s : PlainStep) (name : List ℕ) (n : ℕ) → bytes_eq name s.name ≡ true → Some (entry 0 (is_invariance s.goal)) ≡ Some (n, true) → IsLemma (s ∷ steps) name n
 here_is steps s name n same h =
     let e : entry 0 (is_invariance s.goal) ≡ (n, true) = cc in
     let p = invariance_so s.goal (ap (λ (q : ℕ × Bool). q.1) e) in
     subst (λ k. IsLemma (s ∷ steps) name k) (ap (λ (q : ℕ × Bool). q.0) e) (record { step = s; formula = p.0; there = refl; called = sym ((bytes_eq-Decides name s.name).0 same); claims = p.1 })
 
-pub later_is : (steps : List PlainStep) (s : PlainStep) (name : List ℕ) (n : ℕ) (o : Option (ℕ × Bool)) → ((m : ℕ) → o ≡ Some (m, true) → IsLemma steps name m) → option_map shifted o ≡ Some (n, true) → IsLemma (s ∷ steps) name n
+later_is : (steps : List PlainStep) (s : PlainStep) (name : List ℕ) (n : ℕ) (o : Option (ℕ × Bool)) → ((m : ℕ) → o ≡ Some (m, true) → IsLemma steps name m) → option_map shifted o ≡ Some (n, true) → IsLemma (s ∷ steps) name n
 later_is steps s name n None again h = absurd cc
 later_is steps s name n (Some e) again h =
     let f : (suc e.0, e.1) ≡ (n, true) = cc in
     let l = again e.0 (ap (λ b. Some (e.0, b)) (ap (λ (q : ℕ × Bool). q.1) f)) in
     subst (λ k. IsLemma (s ∷ steps) name k) (ap (λ (q : ℕ × Bool). q.0) f) (record { step = l.step; formula = l.formula; there = l.there; called = l.called; claims = l.claims })
 
-pub lemma_found : (steps : List PlainStep) (name : List ℕ) (n : ℕ) → look steps name ≡ Some (n, true) → IsLemma steps name n
+lemma_found : (steps : List PlainStep) (name : List ℕ) (n : ℕ) → look steps name ≡ Some (n, true) → IsLemma steps name n
 lemma_found [] name n h = absurd cc
 lemma_found (s ∷ steps) name n h = at_test (λ m e. lemma_found steps name m e) (bytes_eq name s.name) refl h
   where
@@ -131,12 +131,12 @@ lemma_found (s ∷ steps) name n h = at_test (λ m e. lemma_found steps name m e
     at_test again true e h = here_is steps s name n (sym e) h
     at_test again false e h = later_is steps s name n (look steps name) again h
 
-pub not_there : (x : List ℕ) (steps : List PlainStep) (k : ℕ) (step : PlainStep) → IsNew x (names_of_steps steps) → slice_get steps k ≡ Some step → bytes_eq step.name x ≡ false
+not_there : (x : List ℕ) (steps : List PlainStep) (k : ℕ) (step : PlainStep) → IsNew x (names_of_steps steps) → slice_get steps k ≡ Some step → bytes_eq step.name x ≡ false
 not_there x [] k step new h = absurd cc
 not_there x (s ∷ steps) zero step new h = let e : s ≡ step = cc in subst (λ (z : PlainStep). bytes_eq z.name x ≡ false) e new.0
 not_there x (s ∷ steps) (suc k) step new h = not_there x steps k step new.1 h
 
-pub found_lemma : (steps : List PlainStep) (name : List ℕ) (n : ℕ) → AreApart (names_of_steps steps) → IsLemma steps name n → look steps name ≡ Some (n, true)
+found_lemma : (steps : List PlainStep) (name : List ℕ) (n : ℕ) → AreApart (names_of_steps steps) → IsLemma steps name n → look steps name ≡ Some (n, true)
 found_lemma [] name n apart l = let h = l.there in absurd cc
 found_lemma (s ∷ steps) name zero apart l =
     let e : s ≡ l.step = same s l.step l.there in

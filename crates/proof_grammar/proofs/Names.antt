@@ -11,7 +11,7 @@ use Rattle.st_reading.specs.Steady.{Within, anything}
 use Rattle.st_reading.specs.declared.mark.Mark.TheVariants as marks
 use Rattle.st_reading.specs.declared.sign.Sign.{Sign}
 use Rattle.proof_script.specs.Faults.{stop_at}
-use Rattle.proof_script.specs.Listing.{Setting, present, unless}
+use Rattle.proof_script.specs.Listing.{present}
 use Rattle.proof_script.specs.Steps.{Earlier, citations_of, cited_of, is_taken, new_name_of, step_named}
 use Rattle.proof_script.specs.declared.fault.ScriptFault.{ScriptFault}
 use Rattle.proof_script.specs.declared.fault.ScriptKind.{ScriptKind}
@@ -65,10 +65,10 @@ module _ (earlier : Earlier) where
   abbrev pub new_parts : Phrase ScriptFault (List ℕ) is_name anything
   new_parts = judge_phrase is_name anything anything (λ g h. h) (λ n. is_taken earlier n.text) (λ n. stop_at kinds.Twice n.place) (λ n. n.text) name_phrase
 
-  pub to_new : (ts : List Lexeme) (x : List ℕ) → new_parts.language ts x → IsFreeName earlier ts x
+  to_new : (ts : List Lexeme) (x : List ℕ) → new_parts.language ts x → IsFreeName earlier ts x
   to_new ts x (judged us l (one_name t e) k) = free_name t e k
 
-  pub from_new : (ts : List Lexeme) (x : List ℕ) → IsFreeName earlier ts x → new_parts.language ts x
+  from_new : (ts : List Lexeme) (x : List ℕ) → IsFreeName earlier ts x → new_parts.language ts x
   from_new ts x (free_name t e k) = judged (t ∷ []) (label_of t) (one_name t e) k
 
   pub new_sound : Sound (new_name_of earlier) (IsFreeName earlier)
@@ -91,7 +91,7 @@ module _ (earlier : Earlier) where
       then_phrase is_name anything anything anything (λ g h. refl) name_phrase (λ n.
       judge_phrase anything anything anything (λ g h. h) (λ e. not e.1) (λ e. stop_at kinds.NotInvariant n.place) (λ e. e.0) (known_phrase kinds.UnknownLemma n.place (step_named earlier n.text)))
 
-  pub is_invariant : (o : Option (ℕ × Bool)) (x : ℕ × Bool) → o ≡ Some x → not x.1 ≡ false → o ≡ Some (x.0, true)
+  is_invariant : (o : Option (ℕ × Bool)) (x : ℕ × Bool) → o ≡ Some x → not x.1 ≡ false → o ≡ Some (x.0, true)
   is_invariant o x f k = f ∙ ap (λ b. Some (x.0, b)) (not_false x.1 k)
 
   pub to_cited : (ts : List Lexeme) (n : ℕ) → cited_parts.language ts n → IsFoundName earlier ts n

@@ -42,15 +42,15 @@ pub before_group : Within (only_mark marks.Group) calm
 unfolding number calm
 before_group = marks_within calm (marks.Group ∷ []) refl
 
-pub level_undotted : Within level_or_delay no_dot
+level_undotted : Within level_or_delay no_dot
 unfolding number
 level_undotted = marks_within no_dot (marks.Base ∷ marks.Delay ∷ []) refl
 
-pub delay_no_base : Within (only_mark marks.Delay) (but marks.Base)
+delay_no_base : Within (only_mark marks.Delay) (but marks.Base)
 unfolding number
 delay_no_base = marks_within (but marks.Base) (marks.Delay ∷ []) refl
 
-pub delay_behind : Within (only_mark marks.Delay) level_or_delay
+delay_behind : Within (only_mark marks.Delay) level_or_delay
 unfolding number
 delay_behind = marks_within level_or_delay (marks.Delay ∷ []) refl
 
@@ -75,11 +75,11 @@ module _ (g : Setting) where
   abbrev pub level_as : Phrase ScriptFault PlainLevel anything no_dot
   level_as = as_phrase anything no_dot level_parts IsInnerLevel to_level from_level
 
-  pub level_sound : Sound (group_level_of g) IsInnerLevel
+  level_sound : Sound (group_level_of g) IsInnerLevel
   unfolding group_level_of weight_of
   level_sound = level_as.sound
 
-  pub level_complete : Complete no_dot (group_level_of g) IsInnerLevel
+  level_complete : Complete no_dot (group_level_of g) IsInnerLevel
   unfolding group_level_of weight_of
   level_complete = level_as.complete
 
@@ -90,19 +90,19 @@ module _ (g : Setting) where
     pub spells : Many (IsLevel g) ts others
     pub limited : length others ≤ room
 
-  pub one_less : (k : ℕ) (l : PlainLevel) (ls : List PlainLevel) → length ls ≤ k → length (l ∷ ls) ≤ suc k
+  one_less : (k : ℕ) (l : PlainLevel) (ls : List PlainLevel) → length ls ≤ k → length (l ∷ ls) ≤ suc k
   one_less k l ls h = omega arith
 
-  pub one_more_level : (k : ℕ) (l : PlainLevel) (ls : List PlainLevel) → length (l ∷ ls) ≤ suc k → length ls ≤ k
+  one_more_level : (k : ℕ) (l : PlainLevel) (ls : List PlainLevel) → length (l ∷ ls) ≤ suc k → length ls ≤ k
   one_more_level k l ls h = omega arith
 
-  pub none_left : (l : PlainLevel) (ls : List PlainLevel) → length (l ∷ ls) ≤ 0 → ⊥
+  none_left : (l : PlainLevel) (ls : List PlainLevel) → length (l ∷ ls) ≤ 0 → ⊥
   none_left l ls h = omega arith
 
-  pub outer_level : (t : Lexeme) (ts : List Lexeme) (x : PlainLevel) → Is marks.Base t → IsInnerLevel ts x → IsLevel g (t ∷ ts) x
+  outer_level : (t : Lexeme) (ts : List Lexeme) (x : PlainLevel) → Is marks.Base t → IsInnerLevel ts x → IsLevel g (t ∷ ts) x
   outer_level t ts x e (inner_level a b c base top group l m k) = a_level (t ∷ a) b c base top group (after_mark t a base e l) m k
 
-  pub levels_sound : (room : ℕ) (ls : List PlainLevel) → Sound (group_levels_of g room ls) (MoreLevels room ls)
+  levels_sound : (room : ℕ) (ls : List PlainLevel) → Sound (group_levels_of g room ls) (MoreLevels room ls)
   unfolding group_levels_of
   levels_sound zero ls s zs rest h =
       let v = values {X = ScriptFault} (gives ls s) ls zs s rest refl h in
@@ -131,17 +131,17 @@ module _ (g : Setting) where
             };
           }
 
-  pub inner_of : (ts : List Lexeme) (x : PlainLevel) → IsLevel g ts x → (t : Lexeme) × (us : List Lexeme) × (ts ≡ t ∷ us) × Is marks.Base t × IsInnerLevel us x
+  inner_of : (ts : List Lexeme) (x : PlainLevel) → IsLevel g ts x → (t : Lexeme) × (us : List Lexeme) × (ts ≡ t ∷ us) × Is marks.Base t × IsInnerLevel us x
   inner_of ts x (a_level a b c base top group (after_mark t us y e l) m k) = (t, us ++ (b ++ c), refl, e, inner_level us b c y top group l m k)
 
-  pub levels_follow : (ts : List Lexeme) (ls : List PlainLevel) → Many (IsLevel g) ts ls → (after : Stream) → only_mark marks.Delay (ahead after) ≡ true → level_or_delay (ahead (ts ++> after)) ≡ true
+  levels_follow : (ts : List Lexeme) (ls : List PlainLevel) → Many (IsLevel g) ts ls → (after : Stream) → only_mark marks.Delay (ahead after) ≡ true → level_or_delay (ahead (ts ++> after)) ≡ true
   levels_follow ts ls none_more after h = delay_behind (ahead after) h
   levels_follow ts ls (one_more a b x xs l rest) after h =
       let i = inner_of a x l in
       let e = i.3 in
       ap (λ us. level_or_delay (ahead ((us ++ b) ++> after))) i.2 ∙ rw e refl
 
-  pub spelled_levels : (ts : List Lexeme) (others : List PlainLevel) → Many (IsLevel g) ts others → (room : ℕ) (ls : List PlainLevel) → length others ≤ room → (after : Stream) → only_mark marks.Delay (ahead after) ≡ true
+  spelled_levels : (ts : List Lexeme) (others : List PlainLevel) → Many (IsLevel g) ts others → (room : ℕ) (ls : List PlainLevel) → length others ≤ room → (after : Stream) → only_mark marks.Delay (ahead after) ≡ true
       → group_levels_of g room ls (ts ++> after) ≡ Ok (ls ++ others, after)
   unfolding group_levels_of
   spelled_levels ts others none_more zero ls le after h = ap (λ xs. Ok (xs, after)) (sym (append-nil ls))
@@ -156,9 +156,9 @@ module _ (g : Setting) where
       let e = i.3 in
       ap (λ us. group_levels_of g (suc k) ls ((us ++ b) ++> after)) i.2
       ∙ rw e (ap (then_reads (group_level_of g) (λ l. group_levels_of g k (ls ++ l ∷ []))) (append_stream i.1 b after)
-          ∙ bind_ok (group_level_of g) (λ l. group_levels_of g k (ls ++ l ∷ [])) (i.1 ++> (b ++> after)) x (b ++> after) first
-          ∙ again
-          ∙ ap (λ ys. Ok (ys, after)) (append_assoc ls (x ∷ []) xs))
+      ∙ bind_ok (group_level_of g) (λ l. group_levels_of g k (ls ++ l ∷ [])) (i.1 ++> (b ++> after)) x (b ++> after) first
+      ∙ again
+      ∙ ap (λ ys. Ok (ys, after)) (append_assoc ls (x ∷ []) xs))
 
   -- from none on
   pub data FewLevels (ts : List Lexeme) (ls : List PlainLevel) : Type 0 where

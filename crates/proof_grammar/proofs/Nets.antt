@@ -16,7 +16,7 @@ use Rattle.temporal_goals.specs.Texts.{PlainNode}
 use Rattle.expression_parser.specs.Calm.{calm}
 use Rattle.response_rules.specs.Forms.{chain_nodes, fair_nodes, ranked_nodes}
 use Rattle.proof_script.specs.Faults.{stop_at}
-use Rattle.proof_script.specs.Listing.{Setting, bracketed as bracket_reader, unless}
+use Rattle.proof_script.specs.Listing.{Setting}
 use Rattle.proof_script.specs.Rules.{chain_nodes_of, completed_of, ends_item, fair_nodes_of, fair_of, group_of, helped_of, helper_of, just_nodes_of, node_of, nodes_of, ranked_nodes_of, ranked_of, wanted_helper_of, weight_of}
 use Rattle.proof_script.specs.declared.fault.ScriptFault.{ScriptFault}
 use Rattle.proof_script.specs.declared.fault.ScriptKind.TheVariants as kinds

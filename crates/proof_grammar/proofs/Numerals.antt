@@ -26,7 +26,7 @@ use Rattle.proof_grammar.proofs.Phrases.{Phrase, as_phrase, then_phrase}
 pub data IsNumeral : List Lexeme → ℕ × ℕ → Type 0 where
   a_numeral : (t : Lexeme) (n : ℕ) → sign_of t ≡ signs.Numeral n → IsNumeral (t ∷ []) (n, t.start)
 
-pub is_numeral : (g : Sign) (n : ℕ) → numeral_in g ≡ Some n → g ≡ signs.Numeral n
+is_numeral : (g : Sign) (n : ℕ) → numeral_in g ≡ Some n → g ≡ signs.Numeral n
 is_numeral signs.Name n h = absurd cc
 is_numeral (signs.Numeral k) n h = let e : k ≡ n = cc in ap signs.Numeral e
 is_numeral signs.Other n h = absurd cc

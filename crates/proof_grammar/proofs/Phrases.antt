@@ -7,7 +7,6 @@ use Rattle.st_reading.proofs.Soundness.{sound_bind, split, values}
 use Rattle.st_reading.proofs.Steadiness.{bind_ok}
 use Rattle.st_reading.proofs.Streams.{append_stream}
 use Rattle.st_reading.specs.Reading.{Read, ahead, expected, gives, then_reads}
-use Rattle.st_reading.specs.Sign.{is}
 use Rattle.st_reading.specs.Spelling.{Both, Sound, behind_it}
 use Rattle.st_reading.specs.Steady.{Within, anything}
 use Rattle.st_reading.specs.declared.mark.Mark.{Mark}

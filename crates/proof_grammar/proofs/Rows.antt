@@ -71,10 +71,10 @@ module _ {X O B S : Type 0} (front last inner next : Sign → Bool) (op : Sign �
   pub chained_sound : (x : S) → Sound (chained x) (Linked x)
   chained_sound x s z rest h = chain_sound op turns finishes (λ o place x. (turn o place x).language) (λ x. (finish x).language) nothing (λ o place x. (turn o place x).sound) (λ x. (finish x).sound) (size s) x s z rest h
 
-  pub shrink : (o : O) (place : ℕ) (x : S) → Shrinks (turns o place x)
+  shrink : (o : O) (place : ℕ) (x : S) → Shrinks (turns o place x)
   shrink o place x = sound_shrinks (turns o place x) (turn o place x).language (turn o place x).sound
 
-  pub follows_inner : (x : S) (ts : List Lexeme) (z : B) → Linked x ts z → (after : Stream) → next (ahead after) ≡ true → inner (ahead (ts ++> after)) ≡ true
+  follows_inner : (x : S) (ts : List Lexeme) (z : B) → Linked x ts z → (after : Stream) → next (ahead after) ≡ true → inner (ahead (ts ++> after)) ≡ true
   follows_inner x ts z (ended y us w l) after h = ends_inner (ahead (us ++> after)) ((finish y).begins us w l after h)
   follows_inner x ts z (left y t o us w e l) after h = links_inner (sign_of t) o e
   follows_inner x ts z (linked y w t o a b v e l rest) after h = links_inner (sign_of t) o e

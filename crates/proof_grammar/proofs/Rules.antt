@@ -34,7 +34,7 @@ use Rattle.proof_grammar.proofs.Transitions.{no_dot}
 abbrev pub ending : Sign → Bool
 ending = among (marks.Using ∷ marks.Semicolon ∷ [])
 
-pub ending_undotted : Within ending no_dot
+ending_undotted : Within ending no_dot
 unfolding number
 ending_undotted = marks_within no_dot (marks.Using ∷ marks.Semicolon ∷ []) refl
 
@@ -72,7 +72,7 @@ from_ranked g = ifs g marks.Ranked manners.Ranked (from_fair g)
 abbrev pub from_chain : Sign → Option Manner
 from_chain g = ifs g marks.Chain manners.Chain (from_ranked g)
 
-pub manner_is : (g : Sign) (m : Manner) → manner_in g ≡ Some m → Says g m
+manner_is : (g : Sign) (m : Manner) → manner_in g ≡ Some m → Says g m
 manner_is g m h =
     first_of (Says g) (is g marks.Just) manners.Just m (from_chain g) (λ e. e)
     (λ h. first_of (Says g) (is g marks.Chain) manners.Chain m (from_ranked g) (λ e. e)
@@ -81,7 +81,7 @@ manner_is g m h =
     (λ h. first_of (Says g) (is g marks.Net) manners.Net m (from_diagram g) (λ e. e)
     (λ h. first_of (Says g) (is g marks.Diagram) manners.Diagram m None (λ e. e) (λ h. none_chosen (Says g m) m h) h) h) h) h) h) h
 
-pub manner_found : (g : Sign) (m : Manner) → Says g m → manner_in g ≡ Some m
+manner_found : (g : Sign) (m : Manner) → Says g m → manner_in g ≡ Some m
 unfolding number
 manner_found g manners.Just h = at_mark manner_in (Some manners.Just) marks.Just refl g h
 manner_found g manners.Chain h = at_mark manner_in (Some manners.Chain) marks.Chain refl g h
@@ -95,12 +95,12 @@ Draws g kinds.Wait = ⊥
 Draws g kinds.Chain = is g marks.Chain ≡ true
 Draws g kinds.Rank = is g marks.Rank ≡ true
 
-pub kind_is : (g : Sign) (k : DiagramKind) → kind_in g ≡ Some k → Draws g k
+kind_is : (g : Sign) (k : DiagramKind) → kind_in g ≡ Some k → Draws g k
 kind_is g k h =
     first_of (Draws g) (is g marks.Chain) kinds.Chain k (cond (is g marks.Rank) (Some kinds.Rank) None) (λ e. e)
     (λ h. first_of (Draws g) (is g marks.Rank) kinds.Rank k None (λ e. e) (λ h. none_chosen (Draws g k) k h) h) h
 
-pub kind_found : (g : Sign) (k : DiagramKind) → Draws g k → kind_in g ≡ Some k
+kind_found : (g : Sign) (k : DiagramKind) → Draws g k → kind_in g ≡ Some k
 unfolding number
 kind_found g kinds.Wait h = absurd h
 kind_found g kinds.Chain h = at_mark kind_in (Some kinds.Chain) marks.Chain refl g h

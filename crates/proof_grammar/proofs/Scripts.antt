@@ -7,7 +7,7 @@ use Rattle.st_reading.proofs.Soundness.{Shrinks, chain_sound, sound_shrinks, spl
 use Rattle.st_reading.proofs.Steadiness.{bind_ok}
 use Rattle.st_reading.proofs.Streams.{append_stream}
 use Rattle.st_reading.specs.Reading.{Read, Turn, ahead, at_end, chain, gives, goes, leaves, on_operator, place_of, size, then_reads, turned, ◌>>=◌}
-use Rattle.st_reading.specs.Sign.{is, sign_of}
+use Rattle.st_reading.specs.Sign.{sign_of}
 use Rattle.st_reading.specs.Spelling.{Links, Sound, ended as last_link, left, linked}
 use Rattle.st_reading.specs.Steady.{anything}
 use Rattle.st_program.specs.Names.{AreApart}
@@ -31,28 +31,28 @@ module _ (g : Setting) where
   abbrev pub turn : Claim → ℕ → List PlainStep → Phrase ScriptFault (Turn (List PlainStep) (List PlainStep)) anything anything
   turn claim place steps = map_phrase anything anything (λ x. goes (steps ++ x ∷ [])) (one_step claim (earlier_of steps))
 
-  pub shrinks : (claim : Claim) (place : ℕ) (steps : List PlainStep) → Shrinks (step_turn g claim place steps)
+  shrinks : (claim : Claim) (place : ℕ) (steps : List PlainStep) → Shrinks (step_turn g claim place steps)
   shrinks claim place steps = sound_shrinks (step_turn g claim place steps) (turn claim place steps).language (turn claim place steps).sound
 
-  pub ended_sound : (steps : List PlainStep) → Sound (ended steps) (Given steps)
+  ended_sound : (steps : List PlainStep) → Sound (ended steps) (Given steps)
   unfolding at_end
   ended_sound steps (ends q) zs rest h = taken {X = ScriptFault} (Given steps) [] (gives steps (ends q)) steps zs (ends q) rest refl h given
   ended_sound steps (breaks f) zs rest h = absurd cc
   ended_sound steps (more t s) zs rest h = absurd cc
 
-  pub to_script : (before : List PlainStep) (ts : List Lexeme) (steps : List PlainStep) → Links claim_in (λ claim place xs. (turn claim place xs).language) Given before ts steps → IsScript g before ts steps
+  to_script : (before : List PlainStep) (ts : List Lexeme) (steps : List PlainStep) → Links claim_in (λ claim place xs. (turn claim place xs).language) Given before ts steps → IsScript g before ts steps
   to_script before ts steps (last_link xs us zs given) = no_further_step xs
   to_script before ts steps (left xs t o us zs e l) = elim l [ ]
   to_script before ts steps (linked xs ys t o a b zs e (made us s l) rest) = a_further_step xs (t ∷ us) b s zs (whole_step g o xs t us s e l) (to_script (xs ++ s ∷ []) b zs rest)
 
-  pub script_sound : (before : List PlainStep) → Sound (steps_of g before) (IsScript g before)
+  script_sound : (before : List PlainStep) → Sound (steps_of g before) (IsScript g before)
   unfolding steps_of
   script_sound before s steps rest h =
       let c = chain_sound claim_in (step_turn g) ended (λ claim place xs. (turn claim place xs).language) Given refl (λ claim place xs. (turn claim place xs).sound) ended_sound (size s) before s steps rest h in
       record { text = c.text; is = c.is; spells = to_script before c.text steps c.spells }
 
   -- one step, and what stands behind it
-  pub one_more_step : (claim : Claim) (xs : List PlainStep) (t : Lexeme) (a b : List Lexeme) (s : PlainStep) (zs : List PlainStep) (q : ℕ) → Claims (sign_of t) claim → IsRead (Claimed g claim) (earlier_of xs) a s
+  one_more_step : (claim : Claim) (xs : List PlainStep) (t : Lexeme) (a b : List Lexeme) (s : PlainStep) (zs : List PlainStep) (q : ℕ) → Claims (sign_of t) claim → IsRead (Claimed g claim) (earlier_of xs) a s
       → steps_of g (xs ++ s ∷ []) (b ++> ends q) ≡ Ok (zs, ends q) → steps_of g xs (((t ∷ a) ++ b) ++> ends q) ≡ Ok (zs, ends q)
   unfolding steps_of
   one_more_step claim xs t a b s zs q e l again =
@@ -61,11 +61,11 @@ module _ (g : Setting) where
       ∙ bind_ok (step_turn g claim t.start xs) (turned (chain_of claim_in refl (step_turn g) ended shrinks)) (a ++> (b ++> ends q)) (goes (xs ++ s ∷ [])) (b ++> ends q) ((turn claim t.start xs).complete a (goes (xs ++ s ∷ [])) (made a s l) (b ++> ends q) refl)
       ∙ again
 
-  pub no_more_step : (xs : List PlainStep) (q : ℕ) → steps_of g xs (ends q) ≡ Ok (xs, ends q)
+  no_more_step : (xs : List PlainStep) (q : ℕ) → steps_of g xs (ends q) ≡ Ok (xs, ends q)
   unfolding steps_of at_end
   no_more_step xs q = chain_none claim_in (step_turn g) ended (size (ends q)) xs (ends q) refl
 
-  pub script_complete : (before : List PlainStep) (ts : List Lexeme) (steps : List PlainStep) → AreApart (names_of_steps before) → IsScript g before ts steps → (q : ℕ) → steps_of g before (ts ++> ends q) ≡ Ok (steps, ends q)
+  script_complete : (before : List PlainStep) (ts : List Lexeme) (steps : List PlainStep) → AreApart (names_of_steps before) → IsScript g before ts steps → (q : ℕ) → steps_of g before (ts ++> ends q) ≡ Ok (steps, ends q)
   script_complete before ts steps apart (no_further_step xs) q = no_more_step xs q
   script_complete before ts steps apart (a_further_step xs a b s zs (invariance_step t us x e l) rest) q =
       one_more_step claims.Invariant xs t us b x zs q e (from_named xs apart (IsInvariance g) us x l) (script_complete (xs ++ x ∷ []) b zs (still_apart xs (IsInvariance g) us x apart l) rest q)
@@ -74,17 +74,17 @@ module _ (g : Setting) where
   script_complete before ts steps apart (a_further_step xs a b s zs (response_step t us x e l) rest) q =
       one_more_step claims.Response xs t us b x zs q e (from_named xs apart (IsResponse g) us x l) (script_complete (xs ++ x ∷ []) b zs (still_apart xs (IsResponse g) us x apart l) rest q)
 
-  pub script_read_once : (ts : List Lexeme) (xs ys : List PlainStep) → IsScript g [] ts xs → IsScript g [] ts ys → xs ≡ ys
+  script_read_once : (ts : List Lexeme) (xs ys : List PlainStep) → IsScript g [] ts xs → IsScript g [] ts ys → xs ≡ ys
   script_read_once ts xs ys l m = (values (steps_of g [] (ts ++> ends 0)) xs ys (ends 0) (ends 0) (script_complete [] ts xs tt l 0) (script_complete [] ts ys tt m 0)).0
 
   -- what is left is the text's end
-  pub ended_ends : (steps zs : List PlainStep) (s rest : Stream) → ended steps s ≡ Ok (zs, rest) → (q : ℕ) × (rest ≡ ends q)
+  ended_ends : (steps zs : List PlainStep) (s rest : Stream) → ended steps s ≡ Ok (zs, rest) → (q : ℕ) × (rest ≡ ends q)
   unfolding at_end
   ended_ends steps zs (ends q) rest h = let v = values {X = ScriptFault} (gives steps (ends q)) steps zs (ends q) rest refl h in (q, sym v.1)
   ended_ends steps zs (breaks f) rest h = absurd cc
   ended_ends steps zs (more t s) rest h = absurd cc
 
-  pub never_leaves : (claim : Claim) (place : ℕ) (xs zs : List PlainStep) (s m : Stream) → step_turn g claim place xs s ≡ Ok (leaves zs, m) → ⊥
+  never_leaves : (claim : Claim) (place : ℕ) (xs zs : List PlainStep) (s m : Stream) → step_turn g claim place xs s ≡ Ok (leaves zs, m) → ⊥
   never_leaves claim place xs zs s m h =
       let c = (turn claim place xs).sound s (leaves zs) m h in
       none c.text c.spells
@@ -92,7 +92,7 @@ module _ (g : Setting) where
       none : (ts : List Lexeme) → (turn claim place xs).language ts (leaves zs) → ⊥
       none ts l = elim l [ ]
 
-  pub chain_ends : (k : ℕ) (xs zs : List PlainStep) (s rest : Stream) → chain claim_in (step_turn g) ended k xs s ≡ Ok (zs, rest) → (q : ℕ) × (rest ≡ ends q)
+  chain_ends : (k : ℕ) (xs zs : List PlainStep) (s rest : Stream) → chain claim_in (step_turn g) ended k xs s ≡ Ok (zs, rest) → (q : ℕ) × (rest ≡ ends q)
   unfolding chain
   chain_ends zero xs zs s rest h = ended_ends xs zs s rest h
   chain_ends (suc k) xs zs s rest h = at_claim (λ ys m e. chain_ends k ys zs m rest e) (claim_in (ahead s)) h
@@ -109,12 +109,12 @@ module _ (g : Setting) where
           let p = split (step_turn g claim (place_of s) xs) (λ y. turned (λ w n. chain claim_in (step_turn g) ended k w n) y) (behind s) zs rest h in
           at_turn again claim p.value p.middle p.first p.second
 
-  pub script_ends : (before zs : List PlainStep) (s rest : Stream) → steps_of g before s ≡ Ok (zs, rest) → (q : ℕ) × (rest ≡ ends q)
+  script_ends : (before zs : List PlainStep) (s rest : Stream) → steps_of g before s ≡ Ok (zs, rest) → (q : ℕ) × (rest ≡ ends q)
   unfolding steps_of
   script_ends before zs s rest h = chain_ends (size s) before zs s rest h
 
 -- THE LAWS
-pub alone_read : {A : Type 0} (r : Read ScriptFault A) (x : A) → alone r ≡ Ok x → (rest : Stream) × (r ≡ Ok (x, rest))
+alone_read : {A : Type 0} (r : Read ScriptFault A) (x : A) → alone r ≡ Ok x → (rest : Stream) × (r ≡ Ok (x, rest))
 alone_read (Ok (y, rest)) x h = let e : y ≡ x = cc in (rest, ap (λ z. Ok (z, rest)) e)
 alone_read (Err f) x h = absurd cc
 

@@ -39,7 +39,7 @@ claim_mark claims.Response = marks.Response
 abbrev pub Claims : Sign → Claim → Type 0
 Claims g c = is g (claim_mark c) ≡ true
 
-pub claim_is : (g : Sign) (c : Claim) → claim_in g ≡ Some c → Claims g c
+claim_is : (g : Sign) (c : Claim) → claim_in g ≡ Some c → Claims g c
 claim_is g c h =
     first_of (Claims g) (is g marks.Invariant) claims.Invariant c (cond (is g marks.Waiting) (Some claims.Waiting) (cond (is g marks.Response) (Some claims.Response) None)) (λ e. e)
     (λ h. first_of (Claims g) (is g marks.Waiting) claims.Waiting c (cond (is g marks.Response) (Some claims.Response) None) (λ e. e)
@@ -57,39 +57,39 @@ pub data IsRead (claim : List Lexeme → PlainGoal × PlainRule → Type 0) (ear
       → IsRead claim earlier (a ++ (b ++ (c ++ u ∷ []))) (record { name = name; goal = x.0; rule = x.1; cited = cited })
 
 -- a row whose items are said in other words
-pub items_in_words : {A : Type 0} {mark : Mark} {L M : List Lexeme → A → Type 0} (ts : List Lexeme) (xs : List A) → ((us : List Lexeme) (x : A) → L us x → M us x) → Items mark L ts xs → Items mark M ts xs
+items_in_words : {A : Type 0} {mark : Mark} {L M : List Lexeme → A → Type 0} (ts : List Lexeme) (xs : List A) → ((us : List Lexeme) (x : A) → L us x → M us x) → Items mark L ts xs → Items mark M ts xs
 items_in_words ts xs words no_items = no_items
 items_in_words ts xs words (item_more t a b y ys e l rest) = item_more t a b y ys e (words a y l) (items_in_words b ys words rest)
 
-pub row_in_words : {A : Type 0} {mark : Mark} {L M : List Lexeme → A → Type 0} (ts : List Lexeme) (xs : List A) → ((us : List Lexeme) (x : A) → L us x → M us x) → Row mark L ts xs → Row mark M ts xs
+row_in_words : {A : Type 0} {mark : Mark} {L M : List Lexeme → A → Type 0} (ts : List Lexeme) (xs : List A) → ((us : List Lexeme) (x : A) → L us x → M us x) → Row mark L ts xs → Row mark M ts xs
 row_in_words ts xs words (row a b x ys l rest) = row a b x ys (words a x l) (items_in_words b ys words rest)
 
 -- IN THE GRAMMAR'S WORDS, of earlier steps
 module _ (earlier : List PlainStep) where
-  pub to_new_name : (ts : List Lexeme) (x : List ℕ) → IsFreeName (earlier_of earlier) ts x → IsNewName earlier ts x
+  to_new_name : (ts : List Lexeme) (x : List ℕ) → IsFreeName (earlier_of earlier) ts x → IsNewName earlier ts x
   to_new_name ts x (free_name t e k) = new_name t e (free_is earlier t.text k)
 
-  pub from_new_name : (ts : List Lexeme) (x : List ℕ) → IsNewName earlier ts x → IsFreeName (earlier_of earlier) ts x
+  from_new_name : (ts : List Lexeme) (x : List ℕ) → IsNewName earlier ts x → IsFreeName (earlier_of earlier) ts x
   from_new_name ts x (new_name t e k) = free_name t e (is_free_name earlier t.text k)
 
-  pub is_new : (ts : List Lexeme) (x : List ℕ) → IsNewName earlier ts x → IsNew x (names_of_steps earlier)
+  is_new : (ts : List Lexeme) (x : List ℕ) → IsNewName earlier ts x → IsNew x (names_of_steps earlier)
   is_new ts x (new_name t e k) = k
 
-  pub to_cited_name : (ts : List Lexeme) (n : ℕ) → IsFoundName (earlier_of earlier) ts n → IsCited earlier ts n
+  to_cited_name : (ts : List Lexeme) (n : ℕ) → IsFoundName (earlier_of earlier) ts n → IsCited earlier ts n
   to_cited_name ts n (found_name t m e f) = let l = text_found earlier t.text m f in cited_name t m e l.0 l.1
 
-  pub to_cited_names : (ts : List Lexeme) (ns : List ℕ) → AreFound (earlier_of earlier) ts ns → IsUsing earlier ts ns
+  to_cited_names : (ts : List Lexeme) (ns : List ℕ) → AreFound (earlier_of earlier) ts ns → IsUsing earlier ts ns
   to_cited_names ts ns none_found = no_using
   to_cited_names ts ns (names_found t us ms e l) = using_names t us ms e (row_in_words us ms to_cited_name l)
 
-  pub to_named : (claim : List Lexeme → PlainGoal × PlainRule → Type 0) (ts : List Lexeme) (s : PlainStep) → IsRead claim (earlier_of earlier) ts s → IsNamed claim earlier ts s
+  to_named : (claim : List Lexeme → PlainGoal × PlainRule → Type 0) (ts : List Lexeme) (s : PlainStep) → IsRead claim (earlier_of earlier) ts s → IsNamed claim earlier ts s
   to_named claim ts s (read_step a b c u name x cited l k m e) = named_step a b c u name x cited (to_new_name a name l) k (to_cited_names c cited m) e
 
   module _ (apart : AreApart (names_of_steps earlier)) where
-    pub from_cited_name : (ts : List Lexeme) (n : ℕ) → IsCited earlier ts n → IsFoundName (earlier_of earlier) ts n
+    from_cited_name : (ts : List Lexeme) (n : ℕ) → IsCited earlier ts n → IsFoundName (earlier_of earlier) ts n
     from_cited_name ts n (cited_name t m e f l) = found_name t m e (found_text earlier t.text m apart f l)
 
-    pub from_cited_names : (ts : List Lexeme) (ns : List ℕ) → IsUsing earlier ts ns → AreFound (earlier_of earlier) ts ns
+    from_cited_names : (ts : List Lexeme) (ns : List ℕ) → IsUsing earlier ts ns → AreFound (earlier_of earlier) ts ns
     from_cited_names ts ns no_using = none_found
     from_cited_names ts ns (using_names t us ms e l) = names_found t us ms e (row_in_words us ms from_cited_name l)
 

@@ -1,5 +1,5 @@
 -- Sets of tokens, as tests of what stands ahead.
-use Rattle.std.proofs.Common.{Bool, List, None, Option, [], ap, false, not, refl, sym, true, ◌&&◌, ◌||◌, ◌∙◌, ◌∷◌, ◌≡◌}
+use Rattle.std.proofs.Common.{Bool, List, [], ap, false, not, refl, sym, true, ◌&&◌, ◌||◌, ◌∙◌, ◌∷◌, ◌≡◌}
 use Rattle.st_reading.proofs.Numbers.{is_marked}
 use Rattle.st_reading.specs.Sign.{is}
 use Rattle.st_reading.specs.Steady.{Within}

@@ -6,8 +6,7 @@ use Rattle.st_reading.proofs.ListCompleteness.{Complete}
 use Rattle.st_reading.proofs.ListSoundness.{sound_named}
 use Rattle.st_reading.proofs.Soundness.{split, taken, values}
 use Rattle.st_reading.proofs.Streams.{append_stream}
-use Rattle.st_reading.specs.Mark.{number}
-use Rattle.st_reading.specs.Reading.{Label, Read, ahead, gives, is_name, label_of, named, on_operator, other, refusal, then_reads}
+use Rattle.st_reading.specs.Reading.{Label, Read, ahead, gives, is_name, named, on_operator, other, refusal, then_reads}
 use Rattle.st_reading.specs.Sign.{is, sign_of}
 use Rattle.st_reading.specs.Spelling.{Cut, Is, IsName, OneName, Sound, one_name}
 use Rattle.st_reading.specs.Steady.{anything}
@@ -41,7 +40,7 @@ no_dot = but marks.Dot
 abbrev pub stuck : Lexeme → Stream → Read DiagramFault Part
 stuck v s = Err (refusal (more v s))
 
-pub suffix_sound : (t : Lexeme) → Is marks.Dot t → (s : Stream) (part : Part) (rest : Stream) → suffix_of s ≡ Ok (part, rest) → Cut IsPart (more t s) part rest
+suffix_sound : (t : Lexeme) → Is marks.Dot t → (s : Stream) (part : Part) (rest : Stream) → suffix_of s ≡ Ok (part, rest) → Cut IsPart (more t s) part rest
 unfolding suffix_of
 suffix_sound t d (ends place) part rest h = absurd cc
 suffix_sound t d (breaks f) part rest h = absurd cc
@@ -52,7 +51,7 @@ suffix_sound t d (more v s) part rest h = at_name (is_name (sign_of v)) refl (pa
     at_name true e None f h = absurd cc
     at_name true e (Some p) f h = taken {X = DiagramFault} IsPart (t ∷ v ∷ []) (gives p s) p part s rest refl h (a_part t v p d (sym e) (sym f))
 
-pub part_sound : Sound part_of IsPart
+part_sound : Sound part_of IsPart
 unfolding part_of
 part_sound s part rest h = at_dot s (is (ahead s) marks.Dot) refl h
   where
@@ -62,43 +61,43 @@ part_sound s part rest h = at_dot s (is (ahead s) marks.Dot) refl h
     at_dot (breaks f) true e h = absurd cc
     at_dot (more t s) true e h = suffix_sound t (sym e) s part rest h
 
-pub part_complete : Complete no_dot part_of IsPart
+part_complete : Complete no_dot part_of IsPart
 unfolding part_of suffix_of
 part_complete ts part the_whole after h = let e = not_that marks.Dot (ahead after) h in rw e refl
 part_complete ts part (a_part u v p d e f) after h = rw (d, e, f) refl
 
 -- WHAT IS FAIR
-pub just_is : (o : Option Fairness) → not (owes_justice o) ≡ false → (o ≡ Some Just) ⊎ (o ≡ Some Compassionate)
+just_is : (o : Option Fairness) → not (owes_justice o) ≡ false → (o ≡ Some Just) ⊎ (o ≡ Some Compassionate)
 just_is None e = absurd cc
 just_is (Some Unfair) e = absurd cc
 just_is (Some Just) e = inl refl
 just_is (Some Compassionate) e = inr refl
 
-pub is_owed : (o : Option Fairness) → (o ≡ Some Just) ⊎ (o ≡ Some Compassionate) → not (owes_justice o) ≡ false
+is_owed : (o : Option Fairness) → (o ≡ Some Just) ⊎ (o ≡ Some Compassionate) → not (owes_justice o) ≡ false
 is_owed o (inl e) = rw e refl
 is_owed o (inr e) = rw e refl
 
-pub drawn_just_is : (o : Option Fairness) → not (drawing_owes_justice o) ≡ false → (o ≡ Some Just) ⊎ (o ≡ Some Compassionate)
+drawn_just_is : (o : Option Fairness) → not (drawing_owes_justice o) ≡ false → (o ≡ Some Just) ⊎ (o ≡ Some Compassionate)
 drawn_just_is None e = absurd cc
 drawn_just_is (Some Unfair) e = absurd cc
 drawn_just_is (Some Just) e = inl refl
 drawn_just_is (Some Compassionate) e = inr refl
 
-pub drawn_is_owed : (o : Option Fairness) → (o ≡ Some Just) ⊎ (o ≡ Some Compassionate) → not (drawing_owes_justice o) ≡ false
+drawn_is_owed : (o : Option Fairness) → (o ≡ Some Just) ⊎ (o ≡ Some Compassionate) → not (drawing_owes_justice o) ≡ false
 drawn_is_owed o (inl e) = rw e refl
 drawn_is_owed o (inr e) = rw e refl
 
-pub compassionate_is : (o : Option Fairness) → not (owes_compassion o) ≡ false → o ≡ Some Compassionate
+compassionate_is : (o : Option Fairness) → not (owes_compassion o) ≡ false → o ≡ Some Compassionate
 compassionate_is None e = absurd cc
 compassionate_is (Some Unfair) e = absurd cc
 compassionate_is (Some Just) e = absurd cc
 compassionate_is (Some Compassionate) e = refl
 
-pub compassion_is_owed : (o : Option Fairness) → o ≡ Some Compassionate → not (owes_compassion o) ≡ false
+compassion_is_owed : (o : Option Fairness) → o ≡ Some Compassionate → not (owes_compassion o) ≡ false
 compassion_is_owed o e = rw e refl
 
 -- WHAT IS DRAWN, READ IN A SCRIPT
-pub undrawn_read : {A : Type 0} (r : Read DiagramFault A) (y : A × Stream) → drawn r ≡ Ok y → r ≡ Ok y
+undrawn_read : {A : Type 0} (r : Read DiagramFault A) (y : A × Stream) → drawn r ≡ Ok y → r ≡ Ok y
 undrawn_read (Ok x) y h = ap Ok (let e : x ≡ y = cc in e)
 undrawn_read (Err f) y h = absurd cc
 
@@ -113,12 +112,12 @@ module _ {A : Type 0} (front next : Sign → Bool) (p : Phrase DiagramFault A fr
   drawn_phrase = record { reader = λ s. drawn (p.reader s); language = p.language; sound = drawn_sound; complete = drawn_complete; begins = p.begins }
 
 -- TRANSITIONS
-pub there_is : (place : ℕ) (o : Option ℕ) (y : ℕ × ℕ) (s rest : Stream) → present (faults.UnknownTransition place) (option_map (λ n. (n, place)) o) s ≡ Ok (y, rest) → (n : ℕ) × (o ≡ Some n) × ((n, place) ≡ y) × (s ≡ rest)
+there_is : (place : ℕ) (o : Option ℕ) (y : ℕ × ℕ) (s rest : Stream) → present (faults.UnknownTransition place) (option_map (λ n. (n, place)) o) s ≡ Ok (y, rest) → (n : ℕ) × (o ≡ Some n) × ((n, place) ≡ y) × (s ≡ rest)
 there_is place None y s rest h = absurd cc
 there_is place (Some n) y s rest h = let v = values {X = DiagramFault} (gives (n, place) s) (n, place) y s rest refl h in (n, refl, v.0, v.1)
 
 -- one text behind another
-pub joined_text : (a b : List Lexeme) (s m n rest : Stream) → s ≡ a ++> m → m ≡ b ++> n → n ≡ rest → s ≡ (a ++ b) ++> rest
+joined_text : (a b : List Lexeme) (s m n rest : Stream) → s ≡ a ++> m → m ≡ b ++> n → n ≡ rest → s ≡ (a ++ b) ++> rest
 joined_text a b s m n rest e f h = e ∙ ap (λ z. a ++> z) (f ∙ ap (λ z. b ++> z) h) ∙ sym (append_stream a b rest)
 
 module _ (g : Setting) where
@@ -129,7 +128,7 @@ module _ (g : Setting) where
   abbrev pub judge_name : Label → Part → Stream → Read DiagramFault (ℕ × ℕ)
   judge_name l part = present (faults.UnknownTransition l.place) (option_map (λ n. (n, l.place)) (transition_named g.names g.system l.text part))
 
-  pub placed_from : (a b : List Lexeme) (l : Label) (part : Part) (n : ℕ) → OneName a l → IsPart b part → transition_named g.names g.system l.text part ≡ Some n → IsPlaced (a ++ b) (n, l.place)
+  placed_from : (a b : List Lexeme) (l : Label) (part : Part) (n : ℕ) → OneName a l → IsPart b part → transition_named g.names g.system l.text part ≡ Some n → IsPlaced (a ++ b) (n, l.place)
   placed_from a b l part n (one_name t e) p f = is_placed t b part n e p f
 
   pub named_sound : Sound (drawn_transition g.names g.system) IsPlaced
@@ -153,7 +152,7 @@ module _ (g : Setting) where
   abbrev pub placed_transition : Phrase DiagramFault (ℕ × ℕ) is_name no_dot
   placed_transition = record { reader = drawn_transition g.names g.system; language = IsPlaced; sound = named_sound; complete = named_complete; begins = named_begins }
 
-  pub a_name_of : (ts : List Lexeme) (x : ℕ × ℕ) → IsPlaced ts x → IsTransition g ts x.0
+  a_name_of : (ts : List Lexeme) (x : ℕ × ℕ) → IsPlaced ts x → IsTransition g ts x.0
   a_name_of ts x (is_placed t us part n e p f) = a_transition t us part n e p f
 
   -- by its number

@@ -14,7 +14,6 @@ use Rattle.proof_script.specs.Listing.{Setting}
 use Rattle.proof_grammar.specs.Phrases.{After}
 use Rattle.proof_grammar.specs.Units.{IsHelper, IsNumber, IsTransition, IsTruth}
 
-
 -- numeral: the number of a node that is drawn, or 0, which is the terminal node
 pub data IsDrawnNumber (nodes : List PlainDrawnNode) : List Lexeme → ℕ → Type 0 where
   drawn_number : (t : Lexeme) (n : ℕ) → sign_of t ≡ signs.Numeral n → is_known n nodes ≡ true → IsDrawnNumber nodes (t ∷ []) n

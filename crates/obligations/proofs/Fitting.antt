@@ -1,5 +1,5 @@
 -- A rule that fits its goal in a script is one that its crate takes.
-use Rattle.std.proofs.Common.{arith, ◌≡◌, ◌≢◌, refl, ℕ, ◌^◌, ◌<◌, List, length}
+use Rattle.std.proofs.Common.{arith, ◌≡◌, ◌≢◌, refl, ℕ, List, length}
 use Rattle.transition_system.specs.Systems.{System}
 use Rattle.temporal_goals.specs.Texts.{PlainGoal, invariant, waiting, response, PlainNode, PlainNestedNode, PlainDiagram, net, diagram, nested}
 use Rattle.temporal_goals.specs.declared.diagrams.DiagramKind.{DiagramKind}

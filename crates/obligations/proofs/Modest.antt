@@ -1,6 +1,6 @@
 -- Written numbers can be lowered by 1, as the rules ask.
-use Rattle.std.proofs.Common.{arith, ◌≡◌, refl, sym, subst, ◌^◌, ◌<◌, List, [], ◌∷◌, Option, Some, None, pos}
-use Rattle.std.specs.Prelude.{unsigned_abs, unwrap_or}
+use Rattle.std.proofs.Common.{arith, ◌≡◌, refl, sym, subst, List, [], ◌∷◌, Option, Some, None, pos}
+use Rattle.std.specs.Prelude.{unwrap_or}
 use Rattle.st_linear.specs.Linear.{Linear, number}
 use Rattle.transition_system.specs.Systems.{System}
 use Rattle.temporal_goals.specs.Texts.{PlainNode, PlainLevel, PlainNestedNode, PlainDrawnNode}

@@ -1,6 +1,5 @@
 -- The first refusal of a list of conditions: it is there exactly where one of them isn't appended.
 use Rattle.std.proofs.Common.{◌≡◌, refl, ℕ, List, [], ◌∷◌, ◌++◌, Option, Some, None}
-use Rattle.std.proofs.lemmas.Option.{none-some}
 use Rattle.st_form.specs.Condition.{Implication}
 use Rattle.vc_generator.specs.Building.{Draft}
 use Rattle.vc_generator.specs.Refusing.{Refuses, refusal, refusals, else_refusal}

@@ -1,5 +1,5 @@
 -- That all conditions of a list are valid.
-use Rattle.std.proofs.Common.{◌≡◌, sym, subst, List, [], ◌∷◌}
+use Rattle.std.proofs.Common.{◌≡◌, subst, List, [], ◌∷◌}
 use Rattle.st_form.specs.Plain.{plain, plain_condition}
 use Rattle.st_form.specs.declared.conditions.Condition.{Condition}
 use Rattle.control_states.specs.Control.{ControlFacts}

@@ -9,7 +9,7 @@ use Rattle.temporal_goals.specs.Texts.{PlainStep}
 use Rattle.temporal_goals.specs.Plain.{plain_step}
 use Rattle.temporal_goals.specs.declared.scripts.Step.{Step}
 use Rattle.vc_generator.specs.Building.{Draft}
-use Rattle.vc_generator.specs.Refusing.{Refuses, weight_in, weights, refusal, refusals, else_refusal}
+use Rattle.vc_generator.specs.Refusing.{Refuses, weight_in, weights, refusals, else_refusal}
 use Rattle.vc_generator.specs.declared.faults.VcFault.{VcFault}
 use Rattle.vc_generator.specs.declared.faults.VcFault.TheVariants as limits
 use Rattle.vc_generator.proofs.Growing.{conditions, conditions-append}

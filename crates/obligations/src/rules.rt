@@ -1,5 +1,4 @@
-//! The conditions of a goal by each kind of rule. A rule owns its goal and formulas, so they are copied; what is copied stands
-//! in the rule's conditions.
+//! The conditions of a goal by each kind of rule. A rule owns its goal and its formulas, so each is copied once.
 
 ghost use Rattle.std.specs.Prelude.{map};
 ghost use Rattle.st_form.specs.Plain.{plain};

@@ -1,6 +1,6 @@
 //! The conditions of a whole script.
 
-ghost use Rattle.std.specs.Prelude.{◌≡◌, [], map, length, All, None, IfOk, IfErr};
+ghost use Rattle.std.specs.Prelude.{◌≡◌, ◌≤◌, [], map, length, All, None, IfOk, IfErr};
 ghost use Rattle.st_form.specs.Plain.{plain};
 ghost use Rattle.st_program.specs.Plain.{plain_children};
 ghost use Rattle.control_facts.specs.Alternatives.{control_of};
@@ -28,13 +28,15 @@ use temporal_goals::{Script, Step};
 use transition_system::Fts;
 use vc_generator::Conditions;
 
-/// The list of the conditions of all steps, in their order, or the first refusal.
+/// The list of the conditions of all steps, in their order, or the first refusal. Each step before has given a condition, so the
+/// number of a step is at most 20,000.
 fn listed(alloc: Global, fts: &Fts, steps: &[Step]) -> Result<Conditions, ObligationFault>
     requires fits { Each (λ s. RuleFits (plain_system fts.now) s.goal s.rule) (map plain_step steps.now) }
     requires written { Each (StepWritten (plain_system fts.now)) (map plain_step steps.now) }
     ensures made { IfOk result (λ list. (refused_at [] (script_list (plain_system fts.now) (map plain_step steps.now)) ≡ None)
         × (plain_list list ≡ map (λ d. d.condition) (script_list (plain_system fts.now) (map plain_step steps.now)))) }
     ensures refused { IfErr result (λ fault. IsRefusal fault (refused_at [] (script_list (plain_system fts.now) (map plain_step steps.now)))) }
+    ensures few { IfOk result (λ list. length (plain_list list) ≤ 20000) }
 {
     let mut list = Conditions::new(alloc);
     for index in 0..steps.len() {
@@ -72,6 +74,7 @@ pub fn conditions_of(
     ensures made { IfOk result (λ cs. (refused_at [] (script_list (plain_system fts.now) (plain_script script.now)) ≡ None)
         × AreThese cs.items (script_list (plain_system fts.now) (plain_script script.now))) }
     ensures refused { IfErr result (λ fault. IsRefusal fault (refused_at [] (script_list (plain_system fts.now) (plain_script script.now)))) }
+    ensures few { IfOk result (λ cs. length cs.items ≤ 20000) }
     ensures sound { IfOk result (λ cs. AllValid (control_of (plain_children program.now.processes)) cs.items
         → All (λ s. HoldsOnRuns (plain_children program.now.processes) (plain program.now.initial) s.goal) (plain_script script.now)) }
     ensures searchable { IfOk result (λ cs. AreSearchable (length program.now.variables) cs.items) }

@@ -19,8 +19,8 @@ returns c =
     let system = plain_system c.args.fts.now in
     let lemmas = map plain c.args.lemmas.items in
     let same =
-        ap (λ g. drawn_asks g (plain_diagram c.in_ok-copy-2.field-0) lemmas system c.args.step) c.in_ok-copy.ensures
-        ∙ ap (λ d. drawn_asks (plain_goal c.args.goal.now) d lemmas system c.args.step) c.in_ok-copy-2.ensures
-        ∙ diagram-asks c.args.step system lemmas (plain_goal c.args.goal.now) (plain_diagram c.args.drawn.now) c.requires.fits
+    ap (λ g. drawn_asks g (plain_diagram c.in_ok-copy-2.field-0) lemmas system c.args.step) c.in_ok-copy.ensures
+    ∙ ap (λ d. drawn_asks (plain_goal c.args.goal.now) d lemmas system c.args.step) c.in_ok-copy-2.ensures
+    ∙ diagram-asks c.args.step system lemmas (plain_goal c.args.goal.now) (plain_diagram c.args.drawn.now) c.requires.fits
     in
     subst (AppendsAll c.conditions.result (plain_list c.args.out.now) (plain_list c.conditions.new.out)) same c.conditions.ensures

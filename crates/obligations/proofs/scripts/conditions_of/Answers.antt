@@ -18,9 +18,9 @@ returns-clause-sound c valid =
     let steps = plain_script c.args.script.now in
     let system = plain_system c.args.fts.now in
     let made =
-        ap (λ (v : View). map plain_condition v.items) c.list.view_is
-        ∙ c.in_ok-list.ensures.made.1
-        ∙ ap (λ (xs : List Step). conditions (script_list system (map plain_step xs))) c.deref.ensures.value
+    ap (λ (v : View). map plain_condition v.items) c.list.view_is
+    ∙ c.in_ok-list.ensures.made.1
+    ∙ ap (λ (xs : List Step). conditions (script_list system (map plain_step xs))) c.deref.ensures.value
     in
     let hold = subst (ScriptsHold p (plain c.args.program.now.initial)) (sym c.requires.system) c.scripts_hold.ensures in
     hold steps c.requires.proof (are-valid (control_of p) c.list.inside.items.items (script_list system steps) made valid)

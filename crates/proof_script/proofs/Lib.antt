@@ -10,5 +10,8 @@ pub mod Scripts
 pub mod Citing
 pub mod Fitting
 pub mod Speech
+pub mod Named
+pub mod FormsNamed
+pub mod FaultsNamed
 pub mod Sizes
 pub mod Lookups

@@ -12,7 +12,7 @@ use Rattle.st_reading.specs.declared.mark.Mark.TheVariants as marks
 use Rattle.st_reading.specs.declared.sign.Sign.{Sign}
 use Rattle.st_reading.specs.declared.sign.Sign.TheVariants as signs
 use Rattle.st_reading.specs.Sign.{single_sign, pair_sign, triple_sign, symbol_sign, word_mark, marked, kind_sign}
-use Rattle.st_reading.specs.Reading.{other, ahead, place_of, refusal, expected, on_operator}
+use Rattle.st_reading.specs.Reading.{Read, other, ahead, place_of, refusal, expected, on_operator}
 use Rattle.temporal_goals.specs.Texts.{PlainDrawnNode, PlainDiagram}
 use Rattle.diagram_reader.specs.declared.fault.DiagramFault.{DiagramFault}
 use Rattle.diagram_reader.specs.declared.fault.DiagramFault.TheVariants as faults
@@ -73,7 +73,7 @@ numeral_small : (s : Stream) (n : ℕ × ℕ) (rest : Stream) → numeral_of s �
 unfolding numeral_of
 numeral_small s n rest h = at_sign (numeral_in (ahead s)) (ahead_small s) h
   where
-    at_sign : (o : Option ℕ) → IfSome o (λ m. m ≤ 2 ^ 30) → on_operator o (Err (refusal s)) (λ m. Ok ((m, place_of s), behind s)) ≡ Ok (n, rest) → n.0 ≤ 2 ^ 30
+    at_sign : (o : Option ℕ) → IfSome o (λ m. m ≤ 2 ^ 30) → on_operator {A = Read DiagramFault (ℕ × ℕ)} o (Err (refusal s)) (λ m. Ok ((m, place_of s), behind s)) ≡ Ok (n, rest) → n.0 ≤ 2 ^ 30
     at_sign None k h = absurd cc
     at_sign (Some m) k h = let e : ((m, place_of s), behind s) ≡ (n, rest) = cc in subst (λ x. x ≤ 2 ^ 30) (ap (λ (p : (ℕ × ℕ) × Stream). p.0.0) e) k
 

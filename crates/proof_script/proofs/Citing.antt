@@ -105,7 +105,7 @@ module _ (g : Setting) where
       let c = both (citations_of (earlier_of steps) b.value.1) _ (x, rest) b.second in
       let d = both (expected {X = ScriptFault} marks.Semicolon c.value.1) _ (x, rest) c.second in
       let made : PlainStep = record { name = a.value.0; goal = b.value.0.0; rule = b.value.0.1; cited = c.value.0 } in
-      subst (λ (y : PlainStep). All (IsLemma steps) y.cited) (given made x d.value.1 rest d.second) (citations_are steps c.value.0 b.value.1 c.value.1 c.first)
+      subst (λ (y : PlainStep). All (IsLemma steps) y.cited) {x = made} (given made x d.value.1 rest d.second) (citations_are steps c.value.0 b.value.1 c.value.1 c.first)
 
 pub script_cites : (names : Names) (system : System) (text : List ℕ) (steps : List PlainStep) → script_spelled names system text ≡ Ok steps → CiteLemmas [] steps
 script_cites names system text steps h =

@@ -95,7 +95,7 @@ module _ (g : Setting) where
       let a = both (formula_of g s) _ (c, rest) h in
       let b = both (optional marks.By (formula_of g) a.value.1) _ (c, rest) a.second in
       let made : PlainGoal × PlainRule = (invariant a.value.0, invariance_rule b.value.0) in
-      subst (λ (x : PlainGoal × PlainRule). Rules g.system x.0 x.1) (given made c b.value.1 rest b.second) (by_itself b.value.0)
+      subst (λ (x : PlainGoal × PlainRule). Rules g.system x.0 x.1) {x = made} (given made c b.value.1 rest b.second) (by_itself b.value.0)
 
   wait_diagram_fits : (count : ℕ) → 0 < count → (rule : PlainRule) (s rest : Stream) → wait_diagram_of g count s ≡ Ok (rule, rest) → Waits count rule
   unfolding wait_diagram_of
@@ -132,7 +132,7 @@ module _ (g : Setting) where
       let d = both (further_counted marks.Wait (listed_formula_of g) two c.value.1) _ (w, rest) c.second in
       let made : Formula × List Formula = (a.value.0, d.value.0) in
       let above = further_some marks.Wait (listed_formula_of g) (λ f. Unit {0}) (λ n f m r k. (listed_few g n m f r k, tt)) two d.value.0 c.value.1 d.value.1 (omega arith) d.first in
-      subst (λ (v : Formula × List Formula). 0 < length v.1) (given made w d.value.1 rest d.second) above
+      subst (λ (v : Formula × List Formula). 0 < length v.1) {x = made} (given made w d.value.1 rest d.second) above
 
   waiting_fits : (c : PlainGoal × PlainRule) (s rest : Stream) → waiting_of g s ≡ Ok (c, rest) → Rules g.system c.0 c.1
   unfolding waiting_of
@@ -141,7 +141,7 @@ module _ (g : Setting) where
       let b = both (then_reads (expected marks.By) (waiting_by_of g (length a.value.0.1)) a.value.1) _ (c, rest) a.second in
       let d = both (expected {X = ScriptFault} marks.By a.value.1) _ b.value b.first in
       let made : PlainGoal × PlainRule = (waiting a.value.0.0 a.value.0.1, b.value.0) in
-      subst (λ (x : PlainGoal × PlainRule). Rules g.system x.0 x.1) (given made c b.value.1 rest b.second)
+      subst (λ (x : PlainGoal × PlainRule). Rules g.system x.0 x.1) {x = made} (given made c b.value.1 rest b.second)
       (waiting_by_fits (length a.value.0.1) d.value.0 (waiting_some a.value.0 s a.value.1 a.first) b.value.0 d.value.1 b.value.1 d.second)
 
   just_nodes_fit : (ns : List PlainNode) (s rest : Stream) → just_nodes_of g s ≡ Ok (ns, rest) → Nodes g.system ns
@@ -239,7 +239,7 @@ module _ (g : Setting) where
       let e = both (behind_mark marks.By (rule_of g) d.value.1) _ (c, rest) d.second in
       let r = behind_it marks.By (rule_of g) e.value.0 d.value.1 e.value.1 e.first in
       let made : PlainGoal × PlainRule = (response a.value.0 b.value.0 d.value.0, e.value.0) in
-      subst (λ (x : PlainGoal × PlainRule). Rules g.system x.0 x.1) (given made c e.value.1 rest e.second) (rule_fits e.value.0 r.0 e.value.1 r.1)
+      subst (λ (x : PlainGoal × PlainRule). Rules g.system x.0 x.1) {x = made} (given made c e.value.1 rest e.second) (rule_fits e.value.0 r.0 e.value.1 r.1)
 
   claimed_fits : (claim : Claim) (c : PlainGoal × PlainRule) (s rest : Stream) → claimed_of g claim s ≡ Ok (c, rest) → Rules g.system c.0 c.1
   unfolding claimed_of
@@ -256,7 +256,7 @@ module _ (g : Setting) where
       let d = both (expected {X = ScriptFault} marks.Semicolon c.value.1) _ (x, rest) c.second in
       let k = behind_it marks.Colon (claimed_of g claim) b.value.0 a.value.1 b.value.1 b.first in
       let made : PlainStep = record { name = a.value.0; goal = b.value.0.0; rule = b.value.0.1; cited = c.value.0 } in
-      subst (λ (y : PlainStep). Rules g.system y.goal y.rule) (given made x d.value.1 rest d.second) (claimed_fits claim b.value.0 k.0 b.value.1 k.1)
+      subst (λ (y : PlainStep). Rules g.system y.goal y.rule) {x = made} (given made x d.value.1 rest d.second) (claimed_fits claim b.value.0 k.0 b.value.1 k.1)
 
 module _ (names : Names) (system : System) (text : List ℕ) (steps : List PlainStep) (read : script_spelled names system text ≡ Ok steps) where
   abbrev StepRules : PlainStep → Type 0

@@ -101,7 +101,7 @@ module _ (g : Setting) where
       let c = both (behind_mark marks.Group (compassionate_of g) b.value.1) _ (l, rest) b.second in
       let d = behind_it marks.Group (compassionate_of g) c.value.0 b.value.1 c.value.1 c.first in
       let made : PlainLevel = record { base = a.value.0; top = b.value.0; group = c.value.0 } in
-      subst (λ (k : PlainLevel). is_uncompassionate g.system (Some k.group) ≡ false) (given made l c.value.1 rest c.second) (compassionate_fits g d.0 c.value.0 c.value.1 d.1)
+      subst (λ (k : PlainLevel). is_uncompassionate g.system (Some k.group) ≡ false) {x = made} (given made l c.value.1 rest c.second) (compassionate_fits g d.0 c.value.0 c.value.1 d.1)
 
   nested_node_fits : (before : ℕ) (n : PlainNestedNode) (s rest : Stream) → nested_node_of g before s ≡ Ok (n, rest) → (before < 64) × NestedUnbroken g.system n
   unfolding nested_node_of
@@ -113,7 +113,7 @@ module _ (g : Setting) where
       let made : PlainNestedNode = record { form = a.value.0; levels = b.value.0; delay = c.value.0; helper = d.value.0 } in
       let k = nested_completed_fits (place_of s) made n d.value.1 rest d.second in
       let l = groups_keep g (Compassionate g.system) level_fits 4 [] b.value.0 a.value.1 b.value.1 b.first (All-nil (Compassionate g.system)) in
-      (listed_few g before s a.value.0 a.value.1 a.first, subst (NestedUnbroken g.system) k.1 (helper_fits g c.value.1 d.value.0 d.value.1 d.first, all_compassionate g.system b.value.0 l.0, k.0, l.1))
+      (listed_few g before s a.value.0 a.value.1 a.first, subst (NestedUnbroken g.system) {x = made} k.1 (helper_fits g c.value.1 d.value.0 d.value.1 d.first, all_compassionate g.system b.value.0 l.0, k.0, l.1))
 
   -- what a nested net is made from
   pub nested_sound : (ns : List PlainNestedNode) (s rest : Stream) → bracketed (nested_node_of g) s ≡ Ok (ns, rest) → (length ns ≤ 64) × (first_fault g.system 0 ns ≡ None) × All (NestedUnbroken g.system) ns

@@ -1,21 +1,16 @@
--- What holds of each step that is read holds of all steps of a script, where each may know the steps before it; and the fault
--- that is named where no script is read.
-use Rattle.std.proofs.Common.{◌≡◌, ℕ, List, [], ◌∷◌, ◌++◌, Result, Ok, Err, refl, ap, subst, ◌∙◌}
+-- What holds of each step that is read holds of all steps of a script, where each may know the steps before it.
+use Rattle.std.proofs.Common.{◌≡◌, ℕ, List, [], ◌∷◌, ◌++◌, Result, Ok, Err, refl, ap, subst}
 use Rattle.st_tokens.specs.Stream.{Stream, text_stream}
-use Rattle.st_reading.specs.Reading.{Read, IsStop, at_end, gives, leaves, goes, size}
+use Rattle.st_reading.specs.Reading.{Read, at_end, gives, leaves, goes, size}
 use Rattle.st_program.specs.Names.{Names}
 use Rattle.transition_system.specs.Systems.{System}
 use Rattle.temporal_goals.specs.Texts.{PlainStep}
 use Rattle.diagram_reader.proofs.Inverses.{both, going, chain_keeps}
 use Rattle.proof_script.specs.declared.steps.Claim.{Claim}
-use Rattle.proof_script.specs.declared.fault.ScriptKind.{ScriptKind}
-use Rattle.proof_script.specs.declared.fault.ScriptKind.TheVariants as kinds
 use Rattle.proof_script.specs.declared.fault.ScriptFault.{ScriptFault}
-use Rattle.proof_script.specs.declared.fault.ScriptFault.TheVariants.{At, Memory}
-use Rattle.proof_script.specs.Faults.{stop_at, see, fault_of}
 use Rattle.proof_script.specs.Listing.{Setting}
 use Rattle.proof_script.specs.Steps.{earlier_of, claim_in, step_of}
-use Rattle.proof_script.specs.Script.{step_turn, ended, steps_of, alone, script_spelled, Fails}
+use Rattle.proof_script.specs.Script.{step_turn, ended, steps_of, alone, script_spelled}
 use Rattle.proof_script.proofs.Inverses.{given}
 
 module _ (g : Setting) (P : List PlainStep → Type 0) (keeps : (claim : Claim) (steps : List PlainStep) (x : PlainStep) (s rest : Stream) → step_of g claim (earlier_of steps) s ≡ Ok (x, rest) → P steps → P (steps ++ x ∷ [])) where
@@ -53,29 +48,3 @@ module _ (names : Names) (system : System) where
   script_keeps P keeps p text steps h =
       let r = alone_read (steps_of setting_for [] (text_stream text)) steps h in
       steps_keep setting_for P keeps steps (text_stream text) r.0 p r.1
-
--- a reader stops at the fault that is named
-fault_told : (kind : ScriptKind) (place : ℕ) → fault_of (stop_at kind place) ≡ At kind place
-fault_told kinds.Syntax place = refl
-fault_told kinds.BadByte place = refl
-fault_told kinds.LongNumber place = refl
-fault_told kinds.Unknown place = refl
-fault_told kinds.WrongType place = refl
-fault_told kinds.NonLinear place = refl
-fault_told kinds.TooLarge place = refl
-fault_told kinds.Twice place = refl
-fault_told kinds.UnknownLemma place = refl
-fault_told kinds.NotInvariant place = refl
-fault_told kinds.WrongCount place = refl
-fault_told kinds.UnknownTransition place = refl
-fault_told kinds.UnknownNode place = refl
-fault_told kinds.Upward place = refl
-fault_told kinds.NoTerminal place = refl
-fault_told kinds.UnfairHelper place = refl
-fault_told kinds.NotCompassionate place = refl
-fault_told kinds.NoHelper place = refl
-fault_told (kinds.Limit kind) place = refl
-
-pub script_fails : (e : ScriptFault) (r : Read ScriptFault (List PlainStep)) → IsStop (see e) r → Fails e (alone r)
-script_fails Memory r h = tt
-script_fails (At kind place) r h = ap alone h ∙ ap Err (fault_told kind place)

@@ -136,7 +136,7 @@ module _ (vs : List Variable) (locations : ℕ) where
         let k = completed_fits g (place_of s) made n j.value.1 rest j.second in
         let f = listed_over before a.value.0 s a.value.1 a.first in
         let read : NetNodeOver vs locations made = record { form = f.1; base = weight_over marks.Base a.value.1 b.value.0 b.value.1 b.first; delay = weight_over marks.Delay b.value.1 c.value.0 c.value.1 c.first; top = weight_over marks.Top c.value.1 d.value.0 d.value.1 d.first } in
-        (f.0, subst (NetNodeOver vs locations) k.1 read)
+        (f.0, subst (NetNodeOver vs locations) {x = made} k.1 read)
 
     group_level_over : (l : PlainLevel) (s rest : Stream) → group_level_of g s ≡ Ok (l, rest) → LevelOver vs locations l
     unfolding group_level_of
@@ -146,7 +146,7 @@ module _ (vs : List Variable) (locations : ℕ) where
         let c = both (behind_mark marks.Group (compassionate_of g) b.value.1) _ (l, rest) b.second in
         let made : PlainLevel = record { base = a.value.0; top = b.value.0; group = c.value.0 } in
         let read : LevelOver vs locations made = record { base = sum_over s a.value.0 a.value.1 a.first; top = weight_over marks.Top a.value.1 b.value.0 b.value.1 b.first } in
-        subst (LevelOver vs locations) (given made l c.value.1 rest c.second) read
+        subst (LevelOver vs locations) {x = made} (given made l c.value.1 rest c.second) read
 
     nested_node_over : (before : ℕ) (n : PlainNestedNode) (s rest : Stream) → nested_node_of g before s ≡ Ok (n, rest) → (before < 64) × NestedOver vs locations n
     unfolding nested_node_of
@@ -160,7 +160,7 @@ module _ (vs : List Variable) (locations : ℕ) where
         let f = listed_over before a.value.0 s a.value.1 a.first in
         let ls = (groups_keep g (LevelOver vs locations) group_level_over 4 [] b.value.0 a.value.1 b.value.1 b.first (All-nil (LevelOver vs locations))).0 in
         let read : NestedOver vs locations made = record { form = f.1; levels = ls; delay = weight_over marks.Delay b.value.1 c.value.0 c.value.1 c.first } in
-        (f.0, subst (NestedOver vs locations) k.1 read)
+        (f.0, subst (NestedOver vs locations) {x = made} k.1 read)
 
     abbrev Nodes : List PlainNode → Type 0
     Nodes ns = All (NetNodeOver vs locations) ns
@@ -252,7 +252,7 @@ module _ (vs : List Variable) (locations : ℕ) where
         let b = both (optional marks.By (formula_of g) a.value.1) _ (c, rest) a.second in
         let made : PlainGoal × PlainRule = (invariant a.value.0, invariance_rule b.value.0) in
         let ruled = optionally marks.By (formula_of g) (λ o. Ruled (invariance_rule o)) tt (λ x m r k. formula_over m x r k) b.value.0 a.value.1 b.value.1 b.first in
-        subst Claimed (given made c b.value.1 rest b.second) (formula_over s a.value.0 a.value.1 a.first, ruled)
+        subst Claimed {x = made} (given made c b.value.1 rest b.second) (formula_over s a.value.0 a.value.1 a.first, ruled)
 
     waiting_goal_over : (w : Formula × List Formula) (s rest : Stream) → waiting_goal_of g s ≡ Ok (w, rest) → GoalOver vs locations (waiting w.0 w.1)
     unfolding waiting_goal_of
@@ -267,7 +267,7 @@ module _ (vs : List Variable) (locations : ℕ) where
         let made : Formula × List Formula = (a.value.0, d.value.0) in
         let both_over = All-cons (FormulaOver vs locations) b.value.0 (c.value.0 ∷ []) (listed_over 0 b.value.0 b1.0 b.value.1 b1.1).1 (All-cons (FormulaOver vs locations) c.value.0 [] (listed_over 1 c.value.0 c1.0 c.value.1 c1.1).1 (All-nil (FormulaOver vs locations))) in
         let all = further_fits marks.Wait (listed_formula_of g) (FormulaOver vs locations) listed_over two d.value.0 c.value.1 d.value.1 (omega arith, both_over) d.first in
-        subst (λ (v : Formula × List Formula). GoalOver vs locations (waiting v.0 v.1)) (given made w d.value.1 rest d.second) (formula_over s a.value.0 a.value.1 a.first, all.1)
+        subst (λ (v : Formula × List Formula). GoalOver vs locations (waiting v.0 v.1)) {x = made} (given made w d.value.1 rest d.second) (formula_over s a.value.0 a.value.1 a.first, all.1)
 
     levels_over : (place count : ℕ) (rule : PlainRule) (s rest : Stream) → levels_of g place count s ≡ Ok (rule, rest) → Ruled rule
     unfolding levels_of
@@ -299,7 +299,7 @@ module _ (vs : List Variable) (locations : ℕ) where
         let b = both (then_reads (expected marks.By) (waiting_by_of g (length a.value.0.1)) a.value.1) _ (c, rest) a.second in
         let d = both (expected {X = ScriptFault} marks.By a.value.1) _ b.value b.first in
         let made : PlainGoal × PlainRule = (waiting a.value.0.0 a.value.0.1, b.value.0) in
-        subst Claimed (given made c b.value.1 rest b.second) (waiting_goal_over a.value.0 s a.value.1 a.first, waiting_by_over (length a.value.0.1) d.value.0 b.value.0 d.value.1 b.value.1 d.second)
+        subst Claimed {x = made} (given made c b.value.1 rest b.second) (waiting_goal_over a.value.0 s a.value.1 a.first, waiting_by_over (length a.value.0.1) d.value.0 b.value.0 d.value.1 b.value.1 d.second)
 
     response_over : (c : PlainGoal × PlainRule) (s rest : Stream) → response_of g s ≡ Ok (c, rest) → Claimed c
     unfolding response_of
@@ -312,7 +312,7 @@ module _ (vs : List Variable) (locations : ℕ) where
         let e = both (behind_mark marks.By (rule_of g) d.value.1) _ (c, rest) d.second in
         let r = behind_it marks.By (rule_of g) e.value.0 d.value.1 e.value.1 e.first in
         let made : PlainGoal × PlainRule = (response a.value.0 b.value.0 d.value.0, e.value.0) in
-        subst Claimed (given made c e.value.1 rest e.second)
+        subst Claimed {x = made} (given made c e.value.1 rest e.second)
         ((formula_over s a.value.0 a.value.1 a.first, formula_over b1.0 b.value.0 b.value.1 b1.1, sum_over d1.0 d.value.0 d.value.1 d1.1), rule_over e.value.0 r.0 e.value.1 r.1)
 
     claimed_over : (claim : Claim) (c : PlainGoal × PlainRule) (s rest : Stream) → claimed_of g claim s ≡ Ok (c, rest) → Claimed c
@@ -330,7 +330,7 @@ module _ (vs : List Variable) (locations : ℕ) where
         let d = both (expected {X = ScriptFault} marks.Semicolon c.value.1) _ (x, rest) c.second in
         let k = behind_it marks.Colon (claimed_of g claim) b.value.0 a.value.1 b.value.1 b.first in
         let made : PlainStep = record { name = a.value.0; goal = b.value.0.0; rule = b.value.0.1; cited = c.value.0 } in
-        subst (StepOver vs locations) (given made x d.value.1 rest d.second) (claimed_over claim b.value.0 k.0 b.value.1 k.1)
+        subst (StepOver vs locations) {x = made} (given made x d.value.1 rest d.second) (claimed_over claim b.value.0 k.0 b.value.1 k.1)
 
 pub script_over : (vs : List Variable) (locations : ℕ) (names : Names) (system : System) → NamesOver vs locations (names_of names)
     → (text : List ℕ) (steps : List PlainStep) → script_spelled names system text ≡ Ok steps → All (StepOver vs locations) steps

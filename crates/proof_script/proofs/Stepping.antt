@@ -61,7 +61,7 @@ module _ (g : Setting) where
       let c = both (citations_of earlier b.value.1) _ (x, rest) b.second in
       let d = both (expected {X = ScriptFault} marks.Semicolon c.value.1) _ (x, rest) c.second in
       let made : PlainStep = record { name = a.value.0; goal = b.value.0.0; rule = b.value.0.1; cited = c.value.0 } in
-      subst (λ (y : PlainStep). is_taken earlier y.name ≡ false) (given made x d.value.1 rest d.second) (name_new earlier a.value.0 s a.value.1 a.first)
+      subst (λ (y : PlainStep). is_taken earlier y.name ≡ false) {x = made} (given made x d.value.1 rest d.second) (name_new earlier a.value.0 s a.value.1 a.first)
 
   -- a goal of nested waiting-for has at most 64 formulas
   pub waiting_few : (w : Formula × List Formula) (s rest : Stream) → waiting_goal_of g s ≡ Ok (w, rest) → length w.1 ≤ 64
@@ -75,7 +75,7 @@ module _ (g : Setting) where
       let made : Formula × List Formula = (a.value.0, d.value.0) in
       let few = (further_fits marks.Wait (listed_formula_of g) (λ f. Unit {0}) (λ n f m r k. (listed_few g n m f r k, tt)) two d.value.0 c.value.1 d.value.1
       (omega arith, All-push (λ f. Unit {0}) (b.value.0 ∷ []) c.value.0 (All-push (λ f. Unit {0}) [] b.value.0 (All-nil (λ f. Unit {0})) tt) tt) d.first).0 in
-      subst (λ (v : Formula × List Formula). length v.1 ≤ 64) (given made w d.value.1 rest d.second) few
+      subst (λ (v : Formula × List Formula). length v.1 ≤ 64) {x = made} (given made w d.value.1 rest d.second) few
 
   -- so far these steps were read, and that is left
   abbrev pub Script_on : Stream → Read ScriptFault (List PlainStep) → List PlainStep → Stream → Type 0

@@ -132,7 +132,7 @@ module _ (g : Setting) where
       let j = both (helper_of g i.value.1) _ (n, rest) i.second in
       let made : PlainNode = record { form = a.value.0; base = b.value.0; delay = c.value.0; top = d.value.0; group = i.value.0; helper = j.value.0 } in
       let k = completed_fits (place_of s) made n j.value.1 rest j.second in
-      (listed_few g before s a.value.0 a.value.1 a.first, subst (Unbroken g.system) k.1 (helper_fits i.value.1 j.value.0 j.value.1 j.first, group_fits d.value.1 i.value.0 i.value.1 i.first, k.0))
+      (listed_few g before s a.value.0 a.value.1 a.first, subst (Unbroken g.system) {x = made} k.1 (helper_fits i.value.1 j.value.0 j.value.1 j.first, group_fits d.value.1 i.value.0 i.value.1 i.first, k.0))
 
   -- what the nets of the rules are made from
   pub helped_sound : (before : ℕ) (x : Formula × ℕ) (s rest : Stream) → helped_of g before s ≡ Ok (x, rest) → first_fault g.system 0 (chain_nodes (x ∷ [])) ≡ None

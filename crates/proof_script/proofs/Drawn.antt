@@ -1,5 +1,5 @@
 -- A diagram that is read speaks of what the names stand for, and its nodes have small numbers.
-use Rattle.std.proofs.Common.{◌≡◌, ℕ, All, List, Option, Some, None, Ok}
+use Rattle.std.proofs.Common.{◌≡◌, ℕ, List, Option, Some, None, Ok}
 use Rattle.st_tokens.specs.Stream.{Stream}
 use Rattle.st_linear.specs.Linear.{Linear}
 use Rattle.st_form.specs.declared.variables.Variable.{Variable}

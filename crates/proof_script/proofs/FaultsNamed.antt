@@ -1,18 +1,17 @@
 -- Each fault of a script has a name: no text is refused for want of memory.
-use Rattle.std.proofs.Common.{◌≡◌, ℕ, Bool, cond, ◌&&◌, not, nat_eq, nat_lt, List, [], ◌∷◌, ◌++◌, length, Option, Some, None, is_none, Result, Ok, Err, refl, sym, ap, ◌∙◌, zero, suc, ◌-◌}
+use Rattle.std.proofs.Common.{◌≡◌, ℕ, Bool, ◌&&◌, not, nat_eq, nat_lt, List, [], ◌∷◌, ◌++◌, length, Option, Some, None, is_none, Ok, Err, zero, suc, ◌-◌}
 use Rattle.std.specs.Prelude.{⊤}
 use Rattle.st_tokens.specs.Stream.{Stream, behind, text_stream}
 use Rattle.st_tokens.specs.declared.kind.TokenFault.TheVariants as tokens
 use Rattle.st_reading.specs.declared.mark.Mark.{Mark}
 use Rattle.st_reading.specs.declared.mark.Mark.TheVariants as marks
 use Rattle.st_reading.specs.Sign.{is}
-use Rattle.st_reading.specs.Reading.{Stop, syntax, broken, other, Read, ahead, place_of, refusal, expected, then_reads, gives, goes, only, size}
-use Rattle.st_linear.specs.Linear.{Linear}
+use Rattle.st_reading.specs.Reading.{syntax, broken, other, Read, ahead, place_of, expected, then_reads, gives, only, size}
 use Rattle.st_form.specs.Formula.{Formula}
 use Rattle.st_program.specs.Names.{Names}
 use Rattle.expression_typer.specs.Naming.{names_of}
 use Rattle.transition_system.specs.Systems.{System}
-use Rattle.temporal_goals.specs.Texts.{PlainNode, PlainLevel, PlainNestedNode, PlainGoal, PlainRule, PlainStep}
+use Rattle.temporal_goals.specs.Texts.{PlainNode, PlainLevel, PlainNestedNode}
 use Rattle.temporal_goals.specs.declared.diagrams.DiagramKind.{DiagramKind}
 use Rattle.temporal_goals.specs.declared.diagrams.DiagramKind.TheVariants.{Wait}
 use Rattle.assertions.specs.declared.fault.FormFault.TheVariants as forming
@@ -20,7 +19,6 @@ use Rattle.assertions.specs.Reading.{Answer, form_of, linear_of}
 use Rattle.ranked_net.specs.Making.{is_unfair, is_uncompassionate}
 use Rattle.diagram_reader.specs.declared.fault.DiagramFault.{DiagramFault}
 use Rattle.diagram_reader.specs.declared.fault.DiagramFault.TheVariants as faults
-use Rattle.diagram_reader.specs.Drawn.{Setting as DrawingSetting}
 use Rattle.diagram_reader.specs.Drawing.{diagram_of}
 use Rattle.diagram_reader.specs.Transitions as diagrams
 use Rattle.proof_script.specs.declared.steps.Claim.{Claim}

@@ -1,26 +1,24 @@
 -- The rule of each step fits its goal and the system, and its groups are few.
-use Rattle.std.proofs.Common.{◌≡◌, ◌≢◌, ℕ, suc, ◌+◌, ◌-◌, ◌<◌, ◌≤◌, Bool, true, false, not, cond, nat_eq, All, List, [], ◌∷◌, ◌++◌, length, Option, Some, None, Ok, Err, refl, sym, ap, subst, ◌∙◌, arith}
+use Rattle.std.proofs.Common.{◌≡◌, ◌≢◌, ℕ, suc, ◌-◌, ◌<◌, ◌≤◌, Bool, true, false, not, cond, nat_eq, All, List, [], ◌∷◌, length, Option, Some, None, Ok, Err, refl, sym, ap, subst, ◌∙◌, arith}
 use Rattle.std.proofs.lemmas.Bool.Decides.{nat_tests}
 use Rattle.std.proofs.lemmas.List.{length-map}
 use Rattle.std.proofs.lemmas.List.Elements.{All-nil, All-push, All-weaker}
 use Rattle.st_tokens.specs.Stream.{Stream, behind}
 use Rattle.st_reading.specs.declared.mark.Mark.TheVariants as marks
 use Rattle.st_reading.specs.Sign.{is}
-use Rattle.st_reading.specs.Reading.{Read, ahead, refusal, expected, gives, then_reads, on_operator}
-use Rattle.st_linear.specs.Linear.{Linear}
+use Rattle.st_reading.specs.Reading.{Read, ahead, refusal, expected, gives, then_reads}
 use Rattle.st_form.specs.Formula.{Formula}
 use Rattle.st_program.specs.Names.{Names}
 use Rattle.transition_system.specs.Systems.{System}
-use Rattle.temporal_goals.specs.Texts.{PlainGoal, invariant, waiting, response, PlainNode, PlainDiagram, PlainRule, basic, stronger, levels, net, diagram, nested, PlainStep}
+use Rattle.temporal_goals.specs.Texts.{PlainGoal, invariant, waiting, response, PlainNode, PlainRule, levels, net, diagram, nested, PlainStep}
 use Rattle.temporal_goals.specs.declared.diagrams.DiagramKind.{DiagramKind}
 use Rattle.temporal_goals.specs.declared.diagrams.DiagramKind.TheVariants.{Wait, Chain, Rank}
-use Rattle.rule_laws.specs.Fitting.{NodesFit, DrawnNodesFit, LevelsExist}
+use Rattle.rule_laws.specs.Fitting.{NodesFit, LevelsExist}
 use Rattle.ranked_net.proofs.Faultless.{nodes-fit}
 use Rattle.nested_net.proofs.Faultless.{nodes-fit as nested-fit}
 use Rattle.response_rules.specs.Forms.{by_rank, chain_nodes, ranked_nodes, fair_nodes, fair_under}
 use Rattle.diagram_reader.specs.declared.fault.DiagramFault.{DiagramFault}
-use Rattle.diagram_reader.specs.Drawn.{Setting as DrawingSetting}
-use Rattle.diagram_reader.specs.Drawing.{diagram_of, drawing_of}
+use Rattle.diagram_reader.specs.Drawing.{diagram_of}
 use Rattle.diagram_reader.proofs.Inverses.{both}
 use Rattle.diagram_reader.proofs.Obeying.{diagram_obeys}
 use Rattle.diagram_reader.proofs.Speaking.{levels_exist, response_fits}
@@ -32,7 +30,7 @@ use Rattle.proof_script.specs.declared.fault.ScriptKind.TheVariants as kinds
 use Rattle.proof_script.specs.declared.fault.ScriptFault.{ScriptFault}
 use Rattle.proof_script.specs.Faults.{drawn}
 use Rattle.proof_script.specs.Listing.{Setting, Reader, unless, optional, behind_mark, listed, bracketed, formula_of, sum_of, listed_formula_of, further_counted, compassionate_of}
-use Rattle.proof_script.specs.Rules.{helped_of, ranked_of, fair_of, node_of, manner_in, kind_in, just_nodes_of, chain_nodes_of, ranked_nodes_of, fair_nodes_of, nodes_of, nested_nodes_of, net_rule_of, response_diagram_of, as_net, ruled_of, rule_of}
+use Rattle.proof_script.specs.Rules.{helped_of, ranked_of, fair_of, manner_in, kind_in, just_nodes_of, chain_nodes_of, ranked_nodes_of, fair_nodes_of, nodes_of, nested_nodes_of, net_rule_of, response_diagram_of, as_net, ruled_of, rule_of}
 use Rattle.proof_script.specs.Steps.{invariance_rule, ends_rule, earlier_of, new_name_of, citations_of, matched_of, invariance_of, waiting_goal_of, levels_of, wait_diagram_of, waiting_by_of, waiting_of, response_of, claimed_of, step_of}
 use Rattle.proof_script.specs.Script.{script_spelled}
 use Rattle.script_laws.specs.Obeying.{FitsInvariance, FitsWaiting, FitsResponse, RuleFits}

@@ -1,11 +1,10 @@
 -- Each fault of a formula and of a diagram has a name.
-use Rattle.std.proofs.Common.{◌≡◌, ℕ, Bool, true, cond, ◌&&◌, not, nat_lt, List, [], ◌∷◌, length, Option, Some, None, is_some, is_none, Result, Ok, Err, refl}
+use Rattle.std.proofs.Common.{◌≡◌, ℕ, Bool, true, ◌&&◌, not, nat_lt, List, [], ◌∷◌, length, Option, Some, None, is_some, is_none, Result, Ok, Err, refl}
 use Rattle.std.specs.Prelude.{⊤}
-use Rattle.std.specs.Option.{option_map}
 use Rattle.st_tokens.specs.Stream.{Stream, behind}
 use Rattle.st_reading.specs.declared.mark.Mark.TheVariants as marks
 use Rattle.st_reading.specs.Sign.{is}
-use Rattle.st_reading.specs.Reading.{Stop, syntax, broken, other, Read, ahead, gives, size}
+use Rattle.st_reading.specs.Reading.{syntax, broken, other, Read, ahead, gives, size}
 use Rattle.st_reading.specs.Faults.{Passed, passed}
 use Rattle.st_form.specs.Formula.{Formula}
 use Rattle.expression_parser.specs.ExpressionTree.{Expr}

@@ -1,6 +1,6 @@
 -- The groups of the nodes of nested nets: as the code goes through them, and what holds of all that are read. The nodes break no
 -- rule of a nested net.
-use Rattle.std.proofs.Common.{◌≡◌, ℕ, zero, suc, ◌+◌, ◌-◌, ◌<◌, ◌≤◌, Bool, true, false, cond, ◌&&◌, ◌||◌, nat_eq, All, List, [], ◌∷◌, ◌++◌, length, length-append, Option, Some, None, is_none, Result, Ok, Err, refl, sym, ap, subst, ◌∙◌, arith}
+use Rattle.std.proofs.Common.{◌≡◌, ℕ, zero, suc, ◌+◌, ◌<◌, ◌≤◌, Bool, true, false, cond, ◌&&◌, nat_eq, All, List, [], ◌∷◌, ◌++◌, length, length-append, Option, Some, None, is_none, Result, Ok, Err, refl, sym, subst, ◌∙◌, arith}
 use Rattle.std.specs.Result.{ForErr}
 use Rattle.std.proofs.lemmas.Option.{none-some}
 use Rattle.std.proofs.lemmas.List.Elements.{All-nil, All-push, All-head, All-tail, All-weaker}
@@ -15,7 +15,7 @@ use Rattle.temporal_goals.specs.declared.nested.NestedNet.{NestedNet}
 use Rattle.ranked_net.specs.Making.{is_unfair, is_uncompassionate}
 use Rattle.nested_net.specs.declared.faults.NestedFault.{NestedFault}
 use Rattle.nested_net.specs.declared.faults.NestedFault.TheVariants as faults
-use Rattle.nested_net.specs.Making.{some_uncompassionate, unless_helped, node_fault, first_fault, MakesNested}
+use Rattle.nested_net.specs.Making.{some_uncompassionate, unless_helped, first_fault, MakesNested}
 use Rattle.diagram_reader.proofs.Inverses.{both}
 use Rattle.proof_script.specs.declared.fault.ScriptKind.TheVariants as kinds
 use Rattle.proof_script.specs.declared.fault.ScriptFault.{ScriptFault}

@@ -1,12 +1,12 @@
 -- What was read by readers that went through, part by part.
-use Rattle.std.proofs.Common.{◌≡◌, ℕ, suc, ◌+◌, ◌<◌, ◌≤◌, Bool, true, false, cond, nat_lt, All, List, [], ◌∷◌, ◌++◌, length, length-append, Option, Some, None, Result, Ok, Err, refl, sym, ap, subst, ◌∙◌, arith}
+use Rattle.std.proofs.Common.{◌≡◌, ℕ, ◌<◌, ◌≤◌, Bool, true, false, cond, nat_lt, All, List, [], ◌∷◌, ◌++◌, length, length-append, Option, Some, None, Ok, Err, refl, ap, subst, arith}
 use Rattle.std.proofs.lemmas.Bool.Decides.{nat_tests}
 use Rattle.std.proofs.lemmas.List.Elements.{All-nil, All-push}
 use Rattle.st_tokens.specs.Stream.{Stream, behind}
 use Rattle.st_reading.specs.declared.mark.Mark.{Mark}
 use Rattle.st_reading.specs.declared.mark.Mark.TheVariants as marks
 use Rattle.st_reading.specs.Sign.{is}
-use Rattle.st_reading.specs.Reading.{Stop, Read, ◌>>=◌, ahead, place_of, expected, gives, then_reads, on_operator, Turn, leaves, goes, only, listing, further, size}
+use Rattle.st_reading.specs.Reading.{Stop, Read, ahead, place_of, expected, gives, then_reads, on_operator, leaves, goes, only, listing, further, size}
 use Rattle.st_form.specs.Formula.{Formula}
 use Rattle.expression_typer.specs.Naming.{names_of}
 use Rattle.assertions.specs.Reading.{Answer, form_of}

@@ -1,11 +1,11 @@
 -- Readers that stop at no fault without a name, and how they are put together.
-use Rattle.std.proofs.Common.{◌≡◌, ℕ, zero, suc, Bool, true, false, cond, List, ◌∷◌, [], ◌++◌, Option, Some, None, Result, Ok, Err, refl}
+use Rattle.std.proofs.Common.{ℕ, zero, suc, Bool, true, false, cond, List, Option, Some, None, Ok, Err}
 use Rattle.std.specs.Prelude.{⊤}
 use Rattle.st_tokens.specs.Stream.{Stream, ends, breaks, more, behind}
 use Rattle.st_reading.specs.declared.mark.Mark.{Mark}
 use Rattle.st_reading.specs.declared.sign.Sign.{Sign}
 use Rattle.st_reading.specs.Sign.{is}
-use Rattle.st_reading.specs.Reading.{Stop, syntax, broken, other, Read, ◌>>=◌, ahead, place_of, name_of, is_name, refusal, expected, named, at_end, gives, Turn, leaves, goes, turned, on_operator, chain, only, listing, further, size}
+use Rattle.st_reading.specs.Reading.{Stop, syntax, broken, other, Read, ◌>>=◌, ahead, place_of, is_name, refusal, expected, named, at_end, gives, Turn, leaves, goes, turned, on_operator, chain, only, listing, further, size}
 
 -- what the fault of a reader is, where it is one of its own
 module _ {X : Type 0} (P : X → Type 0) where

@@ -11,14 +11,14 @@ use Rattle.st_reading.specs.declared.mark.Mark.{Mark}
 use Rattle.st_reading.specs.declared.mark.Mark.TheVariants as marks
 use Rattle.st_reading.specs.declared.sign.Sign.{Sign}
 use Rattle.st_reading.specs.declared.sign.Sign.TheVariants as signs
-use Rattle.st_reading.specs.Sign.{single_sign, pair_sign, triple_sign, symbol_sign, word_mark, marked, kind_sign}
+use Rattle.st_reading.specs.Sign.{single_sign, pair_sign, symbol_sign, word_mark, marked, kind_sign}
 use Rattle.st_reading.specs.Reading.{Read, other, ahead, place_of, refusal, expected, on_operator}
 use Rattle.temporal_goals.specs.Texts.{PlainDrawnNode, PlainDiagram}
 use Rattle.diagram_reader.specs.declared.fault.DiagramFault.{DiagramFault}
 use Rattle.diagram_reader.specs.declared.fault.DiagramFault.TheVariants as faults
 use Rattle.diagram_reader.specs.declared.item.Item.{Item}
 use Rattle.diagram_reader.specs.declared.item.Item.TheVariants as items
-use Rattle.diagram_reader.specs.Drawn.{Setting, Drawing, nothing_drawn, with_terminal, with_node, with_edge, diagram_with, is_known, is_above, has_helpers}
+use Rattle.diagram_reader.specs.Drawn.{Setting, Drawing, with_terminal, with_node, with_edge, is_known, is_above, has_helpers}
 use Rattle.diagram_reader.specs.Drawing.{unless, numeral_in, numeral_of, formula_of, rank_of, helper_of, new_number_of, numbered_node_of, node_of, edge_of, terminal_of, item_of, drawing_of}
 use Rattle.diagram_reader.proofs.Inverses.{both, given, allowed}
 use Rattle.diagram_reader.proofs.Obeying.{drawn}

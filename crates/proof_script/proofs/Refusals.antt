@@ -1,5 +1,5 @@
 -- Faults between formulas, those of formulas and those of diagrams, as faults of scripts.
-use Rattle.std.proofs.Common.{◌≡◌, ℕ, Bool, true, false, cond, Option, Some, None, Result, Ok, Err, refl, sym, ap, ◌∙◌}
+use Rattle.std.proofs.Common.{◌≡◌, ℕ, Bool, true, false, cond, Option, Some, None, Ok, Err, refl, sym, ap, ◌∙◌}
 use Rattle.std.specs.Option.{option_map}
 use Rattle.st_tokens.specs.Stream.{Stream, ends, breaks, more, behind}
 use Rattle.st_tokens.specs.declared.kind.TokenFault.TheVariants as tokens
@@ -18,7 +18,7 @@ use Rattle.diagram_reader.specs.declared.fault.DiagramFault.TheVariants as drawi
 use Rattle.diagram_reader.specs.Faults as diagrams
 use Rattle.proof_script.specs.declared.fault.ScriptKind.TheVariants as kinds
 use Rattle.proof_script.specs.declared.fault.ScriptFault.{ScriptFault}
-use Rattle.proof_script.specs.declared.fault.ScriptFault.TheVariants.{At, Memory}
+use Rattle.proof_script.specs.declared.fault.ScriptFault.TheVariants.{At}
 use Rattle.proof_script.specs.Faults.{see, unit_of, drawn, of_parsing, of_forming, of_drawing, of_past, one_too_many}
 
 abbrev carried : Stop Passed → Stop ScriptFault

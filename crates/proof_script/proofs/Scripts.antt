@@ -1,5 +1,5 @@
 -- What holds of each step that is read holds of all steps of a script, where each may know the steps before it.
-use Rattle.std.proofs.Common.{◌≡◌, ℕ, List, [], ◌∷◌, ◌++◌, Result, Ok, Err, refl, ap, subst}
+use Rattle.std.proofs.Common.{◌≡◌, ℕ, List, [], ◌∷◌, ◌++◌, Ok, Err, ap, subst}
 use Rattle.st_tokens.specs.Stream.{Stream, text_stream}
 use Rattle.st_reading.specs.Reading.{Read, at_end, gives, leaves, goes, size}
 use Rattle.st_program.specs.Names.{Names}

@@ -1,5 +1,5 @@
 -- A script speaks of what the names stand for.
-use Rattle.std.proofs.Common.{◌≡◌, ℕ, suc, ◌+◌, ◌-◌, ◌^◌, ◌<◌, ◌≤◌, Bool, true, false, cond, nat_lt, pos, All, List, [], ◌∷◌, ◌++◌, length, Option, Some, None, Ok, Err, refl, sym, ap, subst, ◌∙◌, arith}
+use Rattle.std.proofs.Common.{◌≡◌, ℕ, ◌-◌, ◌<◌, ◌≤◌, Bool, true, false, cond, pos, All, List, [], ◌∷◌, length, Option, Ok, Err, subst, arith}
 use Rattle.std.proofs.lemmas.List.Elements.{All-nil, All-cons, All-push, All-head, All-tail}
 use Rattle.st_tokens.specs.Stream.{Stream, behind}
 use Rattle.st_reading.specs.declared.mark.Mark.{Mark}
@@ -10,12 +10,11 @@ use Rattle.st_linear.specs.Linear.{Linear, number}
 use Rattle.st_form.specs.Formula.{Formula}
 use Rattle.st_form.specs.declared.variables.Variable.{Variable}
 use Rattle.st_program.specs.Names.{Names}
-use Rattle.st_program.specs.Types.{LinearFits}
 use Rattle.expression_parser.specs.Reading.{below, expression_of, sum_of as plain_sum_of}
 use Rattle.transition_system.specs.Systems.{System}
-use Rattle.temporal_goals.specs.Texts.{PlainGoal, invariant, waiting, response, PlainNode, PlainLevel, PlainNestedNode, PlainRule, net, levels, diagram, nested, PlainStep}
+use Rattle.temporal_goals.specs.Texts.{PlainGoal, invariant, waiting, response, PlainNode, PlainLevel, PlainNestedNode, PlainRule, net, diagram, nested, PlainStep}
 use Rattle.temporal_goals.specs.declared.diagrams.DiagramKind.TheVariants.{Wait}
-use Rattle.response_rules.specs.Forms.{by_rank, chain_nodes, ranked_nodes, fair_nodes, fair_under}
+use Rattle.response_rules.specs.Forms.{chain_nodes, ranked_nodes, fair_nodes, fair_under}
 use Rattle.expression_typer.specs.Naming.{names_of, NamesOver}
 use Rattle.assertions.specs.Over.{FormulaOver}
 use Rattle.assertions.specs.Reading.{Answer, form_of, linear_of}
@@ -27,15 +26,14 @@ use Rattle.proof_script.specs.declared.steps.Claim.{Claim}
 use Rattle.proof_script.specs.declared.steps.Claim.TheVariants as claims
 use Rattle.proof_script.specs.declared.rules.Manner.{Manner}
 use Rattle.proof_script.specs.declared.rules.Manner.TheVariants as manners
-use Rattle.proof_script.specs.declared.fault.ScriptKind.TheVariants as kinds
 use Rattle.proof_script.specs.declared.fault.ScriptFault.{ScriptFault}
-use Rattle.proof_script.specs.Faults.{unit_of, drawn, one_too_many}
-use Rattle.proof_script.specs.Listing.{Setting, Reader, unless, optional, behind_mark, listed, bracketed, formula_of, sum_of, listed_formula_of, further_counted, compassionate_of}
-use Rattle.proof_script.specs.Rules.{wanted_helper_of, helper_of, group_of, weight_of, helped_of, ranked_of, fair_of, completed_of, node_of, group_level_of, group_levels_of, nested_node_of, manner_in, kind_in, just_nodes_of, chain_nodes_of, ranked_nodes_of, fair_nodes_of, nodes_of, nested_nodes_of, net_rule_of, as_net, response_diagram_of, ruled_of, rule_of}
-use Rattle.proof_script.specs.Steps.{invariance_rule, ends_rule, earlier_of, new_name_of, citations_of, matched_of, invariance_of, waiting_goal_of, levels_of, wait_diagram_of, waiting_by_of, waiting_of, response_of, claimed_of, step_of}
+use Rattle.proof_script.specs.Faults.{unit_of, drawn}
+use Rattle.proof_script.specs.Listing.{Setting, Reader, optional, behind_mark, listed, bracketed, formula_of, sum_of, listed_formula_of, further_counted, compassionate_of}
+use Rattle.proof_script.specs.Rules.{wanted_helper_of, helper_of, group_of, weight_of, helped_of, ranked_of, fair_of, node_of, group_level_of, group_levels_of, nested_node_of, manner_in, kind_in, just_nodes_of, chain_nodes_of, ranked_nodes_of, fair_nodes_of, nodes_of, nested_nodes_of, net_rule_of, as_net, response_diagram_of, ruled_of, rule_of}
+use Rattle.proof_script.specs.Steps.{invariance_rule, earlier_of, new_name_of, citations_of, invariance_of, waiting_goal_of, levels_of, wait_diagram_of, waiting_by_of, waiting_of, response_of, claimed_of, step_of}
 use Rattle.proof_script.specs.Script.{script_spelled}
-use Rattle.script_bounds.specs.Over.{SmallOver, GoalOver, NetNodeOver, LevelOver, NestedOver, DiagramOver, RuleOver, StepOver}
-use Rattle.proof_script.proofs.Inverses.{given, allowed, behind_it, optionally, operated, listed_few, few_listed, listed_fits, further_fits, bracketed_fits}
+use Rattle.script_bounds.specs.Over.{SmallOver, GoalOver, NetNodeOver, LevelOver, NestedOver, RuleOver, StepOver}
+use Rattle.proof_script.proofs.Inverses.{given, behind_it, optionally, operated, listed_few, few_listed, listed_fits, further_fits, bracketed_fits}
 use Rattle.proof_script.proofs.Unbroken.{completed_fits}
 use Rattle.proof_script.proofs.Grouping.{groups_keep, nested_completed_fits}
 use Rattle.proof_script.proofs.Drawn.{drawn_over}

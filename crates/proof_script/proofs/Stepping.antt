@@ -1,12 +1,12 @@
 -- The loop over the steps of a script: what a step is read to, and what the names of the earlier ones are then.
-use Rattle.std.proofs.Common.{◌≡◌, ℕ, suc, ◌+◌, ◌≤◌, Bool, true, false, All, List, [], ◌∷◌, ◌++◌, length, map, Option, Some, None, Ok, refl, sym, ap, subst, ◌∙◌, arith}
+use Rattle.std.proofs.Common.{◌≡◌, ℕ, suc, ◌+◌, ◌≤◌, Bool, false, List, [], ◌∷◌, ◌++◌, length, Option, Some, None, Ok, refl, sym, ap, subst, ◌∙◌, arith}
 use Rattle.std.specs.String.{string_bytes}
 use Rattle.std.specs.declared.string.String.{String}
 use Rattle.std.proofs.lemmas.List.{length-map, length-append}
 use Rattle.std.proofs.lemmas.List.Elements.{All-nil, All-push}
 use Rattle.st_tokens.specs.Stream.{Stream, ends, breaks, more, behind}
 use Rattle.st_reading.specs.declared.mark.Mark.TheVariants as marks
-use Rattle.st_reading.specs.Reading.{Stop, Read, IsStop, ahead, place_of, expected, named, gives, goes, size}
+use Rattle.st_reading.specs.Reading.{Stop, Read, IsStop, ahead, expected, named, goes, size}
 use Rattle.st_reading.proofs.Chains.{Running, running_next, running_ends, running_fails}
 use Rattle.st_reading.proofs.Loops.{mapped, map_fails}
 use Rattle.st_form.specs.Formula.{Formula}
@@ -19,7 +19,7 @@ use Rattle.proof_script.specs.declared.fault.ScriptFault.{ScriptFault}
 use Rattle.proof_script.specs.Listing.{Setting, behind_mark, formula_of, listed_formula_of, further_counted}
 use Rattle.proof_script.specs.Steps.{Earlier, earlier_of, is_taken, claim_in, new_name_of, citations_of, claimed_of, waiting_goal_of, step_of}
 use Rattle.proof_script.specs.Script.{step_turn, ended}
-use Rattle.proof_script.proofs.Inverses.{given, allowed, behind_it, listed_few, further_fits}
+use Rattle.proof_script.proofs.Inverses.{given, allowed, listed_few, further_fits}
 
 name_new : (earlier : Earlier) (n : List ℕ) (s rest : Stream) → new_name_of earlier s ≡ Ok (n, rest) → is_taken earlier n ≡ false
 unfolding new_name_of

@@ -1,6 +1,6 @@
 -- Faults of the code, as readers on streams name them. Each fault but want of memory is one of the readers', and no two are
 -- the same: what is read determines the fault.
-use Rattle.std.specs.Prelude.{◌≡◌, ℕ, Option, Some, None, Result, Ok, Err}
+use Rattle.std.specs.Prelude.{◌≡◌, ℕ, Option, Some, None, Ok, Err}
 use Rattle.st_tokens.specs.Stream.{Stream}
 use Rattle.st_tokens.specs.declared.kind.TokenFault.{TokenFault}
 use Rattle.st_tokens.specs.declared.kind.TokenFault.TheVariants as tokens

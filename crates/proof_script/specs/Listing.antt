@@ -1,5 +1,5 @@
 -- What a script is read for, and lists whose items know how many stand before them.
-use Rattle.std.specs.Prelude.{ℕ, Bool, true, not, cond, nat_lt, List, [], ◌∷◌, ◌++◌, length, Option, Some, None, Ok, Err}
+use Rattle.std.specs.Prelude.{ℕ, Bool, cond, nat_lt, List, [], ◌∷◌, ◌++◌, length, Option, Some, None, Ok, Err}
 use Rattle.st_tokens.specs.Stream.{Stream, behind}
 use Rattle.st_reading.specs.declared.mark.Mark.{Mark}
 use Rattle.st_reading.specs.declared.mark.Mark.TheVariants as marks

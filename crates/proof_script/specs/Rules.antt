@@ -1,12 +1,12 @@
 -- How the rule of a response is read: by one helper, a chain of helpers, ranks, the compassion of one transition, a net, a net
 -- of nodes in groups one inside the other, or a diagram. The short forms are nets (`response_rules`).
 use Rattle.std.specs.Prelude.{ℕ, zero, suc, Bool, ◌&&◌, ◌||◌, cond, nat_eq, List, [], ◌∷◌, ◌++◌, length, Option, Some, None, is_none, Ok, Err}
-use Rattle.st_tokens.specs.Stream.{Stream, behind}
+use Rattle.st_tokens.specs.Stream.{behind}
 use Rattle.st_reading.specs.declared.mark.Mark.{Mark}
 use Rattle.st_reading.specs.declared.mark.Mark.TheVariants as marks
 use Rattle.st_reading.specs.declared.sign.Sign.{Sign}
 use Rattle.st_reading.specs.Sign.{is}
-use Rattle.st_reading.specs.Reading.{Read, ahead, place_of, refusal, expected, gives, then_reads, on_operator}
+use Rattle.st_reading.specs.Reading.{ahead, place_of, refusal, gives, then_reads, on_operator}
 use Rattle.st_linear.specs.Linear.{Linear}
 use Rattle.st_form.specs.Formula.{Formula}
 use Rattle.temporal_goals.specs.Texts.{PlainNode, PlainLevel, PlainNestedNode, PlainRule, net, diagram, nested}
@@ -18,7 +18,7 @@ use Rattle.proof_script.specs.declared.rules.Manner.{Manner}
 use Rattle.proof_script.specs.declared.rules.Manner.TheVariants as manners
 use Rattle.proof_script.specs.declared.fault.ScriptKind.TheVariants as kinds
 use Rattle.proof_script.specs.Faults.{drawn}
-use Rattle.proof_script.specs.Listing.{Setting, Reader, unless, optional, behind_mark, bracketed, sum_of, listed_formula_of, transition_of, just_of, compassionate_of}
+use Rattle.proof_script.specs.Listing.{Setting, Reader, unless, optional, behind_mark, bracketed, sum_of, listed_formula_of, just_of, compassionate_of}
 
 -- how a response is proved, by the token behind "by"
 abbrev pub manner_in : Sign → Option Manner

@@ -1,6 +1,6 @@
 -- The script that a text spells: steps up to the text's end, or the first fault.
-use Rattle.std.specs.Prelude.{◌≡◌, ℕ, List, [], ◌∷◌, ◌++◌, map, Option, Result, Ok, Err, ⊤}
-use Rattle.st_tokens.specs.Stream.{Stream, text_stream}
+use Rattle.std.specs.Prelude.{◌≡◌, ℕ, List, [], ◌∷◌, ◌++◌, Result, Ok, Err, ⊤}
+use Rattle.st_tokens.specs.Stream.{text_stream}
 use Rattle.st_reading.specs.Reading.{Read, gives, then_reads, at_end, goes, chain, size, Turn}
 use Rattle.st_program.specs.Names.{Names}
 use Rattle.transition_system.specs.Systems.{System}

@@ -1,10 +1,10 @@
 -- How a step is read: what it claims, its rule, and the earlier steps that it cites.
 use Rattle.std.specs.Prelude.{ℕ, Bool, true, false, not, cond, ◌||◌, ◌-◌, nat_eq, if◌then◌else◌, List, [], ◌∷◌, length, map, Option, Some, None, is_some, Ok, Err}
-use Rattle.st_tokens.specs.Stream.{Stream, behind}
+use Rattle.st_tokens.specs.Stream.{behind}
 use Rattle.st_reading.specs.declared.mark.Mark.TheVariants as marks
 use Rattle.st_reading.specs.declared.sign.Sign.{Sign}
 use Rattle.st_reading.specs.Sign.{is}
-use Rattle.st_reading.specs.Reading.{Read, ahead, place_of, refusal, expected, named, gives, then_reads, further}
+use Rattle.st_reading.specs.Reading.{ahead, refusal, expected, named, gives, then_reads, further}
 use Rattle.st_form.specs.Formula.{Formula}
 use Rattle.st_program.specs.Names as tables
 use Rattle.expression_typer.specs.Naming.{is_text}

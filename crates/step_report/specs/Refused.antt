@@ -11,18 +11,18 @@ use Rattle.step_report.specs.declared.refusals.FileRole.TheVariants.{Program, Pr
 use Rattle.step_report.specs.declared.usage.Command.{Command}
 use Rattle.step_report.specs.declared.usage.Command.TheVariants.{Check, Verify, Prove, Workload, Trace, Invariants}
 
--- the words of a command
+-- how the words of a command read
 abbrev pub usage_text : Command → List ℕ
-usage_text Check = codes "check PROGRAM PROOF CERTS [--workers N]"
-usage_text Verify = codes "verify PROGRAM PROOF [--workers N]"
-usage_text Prove = codes "prove PROGRAM PROOF"
-usage_text Workload = codes "workload N"
-usage_text Trace = codes "trace PROGRAM PROOF SCHEDULE"
-usage_text Invariants = codes "invariants PROGRAM"
+usage_text Check = codes "usage: step check PROGRAM PROOF CERTS [--workers N]"
+usage_text Verify = codes "usage: step verify PROGRAM PROOF [--workers N]"
+usage_text Prove = codes "usage: step prove PROGRAM PROOF"
+usage_text Workload = codes "usage: step workload N"
+usage_text Trace = codes "usage: step trace PROGRAM PROOF SCHEDULE"
+usage_text Invariants = codes "usage: step invariants PROGRAM"
 
 abbrev pub usage_lines : List Command → List ℕ
 usage_lines [] = []
-usage_lines (c ∷ cs) = line (codes "usage: step " ++ usage_text c) ++ usage_lines cs
+usage_lines (c ∷ cs) = line (usage_text c) ++ usage_lines cs
 
 -- words that are none of these commands'
 abbrev pub words_refused_text : List Command → List ℕ

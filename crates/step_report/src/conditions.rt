@@ -107,6 +107,19 @@ fn push_name(
     }
 }
 
+/// The name of a condition of these steps.
+#[tactic(auto, using(crate::proofs::Pieces::step_of))]
+fn push_name_among(
+    out: &mut Vec<u8>,
+    names: &NameTable,
+    steps: &[Step],
+    name: &CondName,
+) -> Result<(), Memory>
+    ensures { OnOk result (out.new.items ≡ out.old.items ++ name_text names.now (slice_get (map plain_step steps.now) name.now.step) name.now) }
+{
+    push_name(out, names, steps.get(name.step as usize), name)
+}
+
 fn reason_text(reason: Reason) -> &'static [u8]
     ensures { result.now ≡ reason_text reason }
 {
@@ -134,7 +147,7 @@ pub fn not_proved(
     push_text(out, b"not proved: condition ")?;
     push_number(out, u64::from(number))?;
     push_text(out, b", ")?;
-    push_name(out, names, steps.get(name.step as usize), name)?;
+    push_name_among(out, names, steps, name)?;
     push_text(out, b", ")?;
     push_text(out, reason_text(reason))?;
     push_text(out, b"\n")

@@ -1,7 +1,7 @@
 //! How a sum is printed.
 
 ghost use Rattle.std.specs.Prelude.{◌≡◌, ◌++◌, length, OnOk, pos, unsigned_abs};
-ghost use Rattle.step_report.specs.Sums.{first_sign, next_sign, times_text, term_text, more_terms, constant_text, sum_text};
+ghost use Rattle.step_report.specs.Sums.{first_sign, next_sign, times_text, term_text, more_terms, constant_text, terms_text, sum_text};
 
 use crate::naming::push_variable;
 use crate::pushing::{push_int, push_size, push_text};
@@ -81,6 +81,27 @@ fn push_constant(out: &mut Vec<u8>, constant: &i128) -> Result<(), Memory>
     push_size(out, constant.unsigned_abs())
 }
 
+fn push_terms(
+    out: &mut Vec<u8>,
+    names: &NameTable,
+    variables: u32,
+    entries: &[(u32, i128)],
+    constant: &i128,
+) -> Result<(), Memory>
+    requires { variables ≡ length names.now.variables }
+    ensures { OnOk result (out.new.items ≡ out.old.items ++ terms_text names.now entries.now constant.now) }
+{
+    match entries.split_first() {
+        None => push_int(out, constant),
+        Some((first, more)) => {
+            push_text(out, first_sign(&first.1))?;
+            push_term(out, names, variables, first)?;
+            push_more_terms(out, names, variables, more)?;
+            push_constant(out, constant)
+        }
+    }
+}
+
 /// A sum over the program's variables, of which there are so many.
 pub fn push_sum(
     out: &mut Vec<u8>,
@@ -92,13 +113,5 @@ pub fn push_sum(
     ensures { OnOk result (out.new.items ≡ out.old.items ++ sum_text names.now sum.now) }
 {
     let constant = sum.constant();
-    match sum.entries().split_first() {
-        None => push_int(out, &constant),
-        Some((first, more)) => {
-            push_text(out, first_sign(&first.1))?;
-            push_term(out, names, variables, first)?;
-            push_more_terms(out, names, variables, more)?;
-            push_constant(out, &constant)
-        }
-    }
+    push_terms(out, names, variables, sum.entries(), &constant)
 }

@@ -21,12 +21,12 @@ fn usage_text(command: Command) -> &'static [u8]
     ensures { result.now ≡ usage_text command }
 {
     match command {
-        Command::Check => b"check PROGRAM PROOF CERTS [--workers N]".as_slice(),
-        Command::Verify => b"verify PROGRAM PROOF [--workers N]".as_slice(),
-        Command::Prove => b"prove PROGRAM PROOF".as_slice(),
-        Command::Workload => b"workload N".as_slice(),
-        Command::Trace => b"trace PROGRAM PROOF SCHEDULE".as_slice(),
-        Command::Invariants => b"invariants PROGRAM".as_slice(),
+        Command::Check => b"usage: step check PROGRAM PROOF CERTS [--workers N]".as_slice(),
+        Command::Verify => b"usage: step verify PROGRAM PROOF [--workers N]".as_slice(),
+        Command::Prove => b"usage: step prove PROGRAM PROOF".as_slice(),
+        Command::Workload => b"usage: step workload N".as_slice(),
+        Command::Trace => b"usage: step trace PROGRAM PROOF SCHEDULE".as_slice(),
+        Command::Invariants => b"usage: step invariants PROGRAM".as_slice(),
     }
 }
 
@@ -34,7 +34,6 @@ fn push_usage(out: &mut Vec<u8>, commands: &[Command]) -> Result<(), Memory>
     ensures { OnOk result (out.new.items ≡ out.old.items ++ usage_lines commands.now) }
 {
     for command in commands {
-        push_text(out, b"usage: step ")?;
         push_text(out, usage_text(*command))?;
         push_text(out, b"\n")?;
     }

@@ -1,4 +1,4 @@
-use Rattle.std.proofs.Common.{◌≡◌, ◌++◌, List, ℕ, map, slice_get, codes, ap, ◌∙◌}
+use Rattle.std.proofs.Common.{◌++◌, List, ℕ, map, slice_get, codes, ap, ◌∙◌}
 use Rattle.std.specs.Fmt.{decimal}
 use Rattle.temporal_goals.specs.Plain.{plain_step}
 use Rattle.step_report.specs.Conditions.{name_text, reason_text}

@@ -1,175 +1,62 @@
 -- The nodes of a drawing: read exactly where they are spelled.
-use Rattle.std.proofs.Common.{Bool, List, None, Option, Some, [], false, is_none, length, nat_lt, refl, true, ℕ, ◌&&◌, ◌++◌, ◌∷◌, ◌≡◌}
+use Rattle.std.proofs.Common.{List, [], is_none, length, nat_lt, refl, true, ℕ, ◌&&◌, ◌++◌, ◌∷◌}
 use Rattle.st_tokens.specs.Stream.{Lexeme}
 use Rattle.st_reading.proofs.ListCompleteness.{Complete}
 use Rattle.st_reading.proofs.ListSoundness.{one_mark}
-use Rattle.st_reading.specs.Mark.{number}
-use Rattle.st_reading.specs.Reading.{is_name, other}
+use Rattle.st_reading.specs.Reading.{other}
 use Rattle.st_reading.specs.Spelling.{Sound, behind_it}
-use Rattle.st_reading.specs.Steady.{Within, anything}
+use Rattle.st_reading.specs.Steady.{anything}
 use Rattle.st_reading.specs.declared.mark.Mark.TheVariants as marks
-use Rattle.st_reading.specs.declared.sign.Sign.{Sign}
-use Rattle.st_linear.specs.Linear.{Linear}
 use Rattle.temporal_goals.specs.Texts.{PlainDrawnNode}
 use Rattle.temporal_goals.specs.declared.diagrams.DiagramKind.{DiagramKind}
 use Rattle.expression_parser.specs.Calm.{calm}
-use Rattle.diagram_reader.specs.Drawing.{helper_of, node_of, numbered_node_of, rank_of}
-use Rattle.diagram_reader.specs.Drawn.{has_helpers, has_ranks}
-use Rattle.diagram_reader.specs.Drawn as diagrams
+use Rattle.diagram_reader.specs.Drawing.{node_of, numbered_node_of}
+use Rattle.diagram_reader.specs.Drawn.{has_helpers}
 use Rattle.diagram_reader.specs.declared.fault.DiagramFault.{DiagramFault}
 use Rattle.diagram_reader.specs.declared.fault.DiagramFault.TheVariants as faults
 use Rattle.proof_script.specs.Listing.{Setting}
-use Rattle.proof_grammar.specs.Drawings.{IsDrawnNode, IsNodeHelper, IsNodeRank, drawn_node, new_number, node_helper, node_rank, unhelped, unranked}
-use Rattle.proof_grammar.specs.Phrases.{Optional, after_mark, left_out, put_in}
-use Rattle.proof_grammar.specs.Units.{IsHelper}
-use Rattle.proof_grammar.proofs.Choices.{If, Where, allowed_phrase, judge_phrase, judged, roomy_phrase, where_not, where_phrase, where_so}
-use Rattle.proof_grammar.proofs.Formulas.{drawing_setting, drawn_number_phrase, drawn_truth, undrawn}
+use Rattle.proof_grammar.specs.Drawings.{IsDrawnNode, drawn_node, new_number}
+use Rattle.proof_grammar.specs.Phrases.{after_mark}
+use Rattle.proof_grammar.proofs.Formulas.{drawn_truth}
+use Rattle.proof_grammar.proofs.Judgements.{If, judge_phrase, judged, roomy_phrase}
+use Rattle.proof_grammar.proofs.NodeParts.{allowed_helper, closing, drawn_setting, fits, helper_or_closing, may_help, rank_closing_calm, rank_or_closing, rank_phrase, wanted}
 use Rattle.proof_grammar.proofs.Numerals.{new_number_phrase, new_numeral, plain_number}
-use Rattle.proof_grammar.proofs.Phrases.{Phrase, as_phrase, made, map_phrase, the_mark, then_phrase, within_phrase}
-use Rattle.proof_grammar.proofs.Tokens.{among, but, marks_within}
-use Rattle.proof_grammar.proofs.Transitions.{drawn_helper_phrase, no_dot}
-
-abbrev pub closing : Sign → Bool
-closing = among (marks.Semicolon ∷ [])
-
-abbrev pub helper_or_closing : Sign → Bool
-helper_or_closing = among (marks.Helper ∷ marks.Semicolon ∷ [])
-
-abbrev pub rank_or_closing : Sign → Bool
-rank_or_closing = among (marks.Rank ∷ marks.Helper ∷ marks.Semicolon ∷ [])
-
-pub closing_undotted : Within closing no_dot
-unfolding number
-closing_undotted = marks_within no_dot (marks.Semicolon ∷ []) refl
-
-pub closing_unhelped : Within closing (but marks.Helper)
-unfolding number
-closing_unhelped = marks_within (but marks.Helper) (marks.Semicolon ∷ []) refl
-
-pub helper_closing_calm : Within helper_or_closing calm
-unfolding number calm
-helper_closing_calm = marks_within calm (marks.Helper ∷ marks.Semicolon ∷ []) refl
-
-pub rank_closing_calm : Within rank_or_closing calm
-unfolding number calm
-rank_closing_calm = marks_within calm (marks.Rank ∷ marks.Helper ∷ marks.Semicolon ∷ []) refl
-
-pub rank_or : Within (among (marks.Rank ∷ [])) rank_or_closing
-unfolding number
-rank_or = marks_within rank_or_closing (marks.Rank ∷ []) refl
-
-pub helper_or : Within helper_or_closing rank_or_closing
-unfolding number
-helper_or = marks_within rank_or_closing (marks.Helper ∷ marks.Semicolon ∷ []) refl
-
-pub closing_calm : Within closing calm
-unfolding number calm
-closing_calm = marks_within calm (marks.Semicolon ∷ []) refl
-
-true_not_false : (b : Bool) → b ≡ true → b ≡ false → ⊥
-true_not_false b e f = cc
-
-wants : {A : Type 0} (b : Bool) (o : Option A) → (b && is_none o) ≡ false → b ≡ true → o ≡ None → ⊥
-wants true None e f h = cc
-wants true (Some x) e f h = cc
-wants false o e f h = cc
+use Rattle.proof_grammar.proofs.Phrases.{Phrase, as_phrase, the_mark, then_phrase}
+use Rattle.proof_grammar.proofs.Tokens.{among}
+use Rattle.proof_grammar.proofs.TypedTexts.{undrawn}
 
 module _ (g : Setting) (kind : DiagramKind) (highest : ℕ) where
-  abbrev pub drawn_setting : diagrams.Setting
-  drawn_setting = drawing_setting g kind highest
-
-  -- RANKS
-  abbrev pub rank_parts : Phrase DiagramFault (Option Linear) (among (marks.Rank ∷ [])) calm
-  rank_parts = then_phrase (among (marks.Rank ∷ [])) anything anything calm (λ g h. h) (the_mark marks.Rank) (λ m. map_phrase anything calm (λ e. Some e) (drawn_number_phrase g kind highest))
-
-  abbrev pub rank_where : Phrase DiagramFault (Option Linear) rank_or_closing helper_or_closing
-  rank_where = where_phrase rank_or_closing helper_or_closing (has_ranks kind) None helper_or (within_phrase (among (marks.Rank ∷ [])) calm rank_or_closing helper_or_closing rank_or helper_closing_calm rank_parts)
-
-  pub to_rank : (ts : List Lexeme) (r : Option Linear) → rank_where.language ts r → IsNodeRank g kind highest ts r
-  to_rank ts r (where_so us o e (behind_it a b m y (one_mark t f) (made c x l))) = node_rank (t ∷ c) x e (after_mark t c x f l)
-  to_rank ts r (where_not e) = unranked e
-
-  pub from_rank : (ts : List Lexeme) (r : Option Linear) → IsNodeRank g kind highest ts r → rank_where.language ts r
-  from_rank ts r (unranked e) = where_not e
-  from_rank ts r (node_rank us x e (after_mark t c y f l)) = where_so (t ∷ c) (Some y) e (behind_it (t ∷ []) c t.start (Some y) (one_mark t f) (made c y l))
-
-  abbrev pub rank_as : Phrase DiagramFault (Option Linear) rank_or_closing helper_or_closing
-  rank_as = as_phrase rank_or_closing helper_or_closing rank_where (IsNodeRank g kind highest) to_rank from_rank
-
-  pub rank_sound : Sound (rank_of drawn_setting) (IsNodeRank g kind highest)
-  unfolding rank_of
-  rank_sound = rank_as.sound
-
-  pub rank_complete : Complete helper_or_closing (rank_of drawn_setting) (IsNodeRank g kind highest)
-  unfolding rank_of
-  rank_complete = rank_as.complete
-
-  abbrev pub rank_phrase : Phrase DiagramFault (Option Linear) rank_or_closing helper_or_closing
-  rank_phrase = record { reader = rank_of drawn_setting; language = IsNodeRank g kind highest; sound = rank_sound; complete = rank_complete; begins = rank_as.begins }
-
-  -- HELPERS, which chain and rank diagrams want
-  abbrev pub MayHelp : List Lexeme → Option ℕ → Type 0
-  MayHelp = Where (has_helpers kind) (Optional marks.Helper (IsHelper g)) None
-
-  abbrev pub helper_allowed : Phrase DiagramFault (Option ℕ) helper_or_closing closing
-  helper_allowed = allowed_phrase (has_helpers kind) marks.Helper is_name no_dot closing closing_unhelped closing_undotted (drawn_helper_phrase g kind highest)
-
-  pub allowed_helper_sound : Sound (helper_of drawn_setting) MayHelp
-  unfolding helper_of
-  allowed_helper_sound = helper_allowed.sound
-
-  pub allowed_helper_complete : Complete closing (helper_of drawn_setting) MayHelp
-  unfolding helper_of
-  allowed_helper_complete = helper_allowed.complete
-
-  abbrev pub allowed_helper : Phrase DiagramFault (Option ℕ) helper_or_closing closing
-  allowed_helper = record { reader = helper_of drawn_setting; language = MayHelp; sound = allowed_helper_sound; complete = allowed_helper_complete; begins = helper_allowed.begins }
-
-  pub wanted : (ts : List Lexeme) (h : Option ℕ) → MayHelp ts h → (has_helpers kind && is_none h) ≡ false → IsNodeHelper g kind highest ts h
-  wanted ts h (where_so us o e left_out) k = absurd (wants {A = ℕ} (has_helpers kind) None k e refl)
-  wanted ts h (where_so us o e (put_in t vs x f l)) k = node_helper (t ∷ vs) x e (after_mark t vs x f l)
-  wanted ts h (where_not e) k = unhelped e
-
-  may_help : (ts : List Lexeme) (h : Option ℕ) → IsNodeHelper g kind highest ts h → MayHelp ts h
-  may_help ts h (unhelped e) = where_not e
-  may_help ts h (node_helper us x e (after_mark t vs y f l)) = where_so (t ∷ vs) (Some y) e (put_in t vs y f l)
-
-  fits : (ts : List Lexeme) (h : Option ℕ) → IsNodeHelper g kind highest ts h → (has_helpers kind && is_none h) ≡ false
-  fits ts h (unhelped e) = rw e refl
-  fits ts h (node_helper us x e l) = rw e refl
-
-  -- NODES
   abbrev pub numbered_parts : List PlainDrawnNode → Phrase DiagramFault PlainDrawnNode anything anything
   numbered_parts nodes =
       then_phrase anything anything (among (marks.Colon ∷ [])) anything (λ g h. refl) (new_number_phrase nodes g kind highest) (λ n.
       then_phrase (among (marks.Colon ∷ [])) anything undrawn anything (λ g h. refl) (the_mark marks.Colon) (λ m.
       then_phrase undrawn calm rank_or_closing anything rank_closing_calm (drawn_truth g kind highest) (λ f.
-      then_phrase rank_or_closing helper_or_closing helper_or_closing anything (λ g h. h) rank_phrase (λ r.
-      then_phrase helper_or_closing closing closing anything (λ g h. h) allowed_helper (λ h.
+      then_phrase rank_or_closing helper_or_closing helper_or_closing anything (λ g h. h) (rank_phrase g kind highest) (λ r.
+      then_phrase helper_or_closing closing closing anything (λ g h. h) (allowed_helper g kind highest) (λ h.
       judge_phrase closing anything anything (λ g h. h) (λ z. has_helpers kind && is_none h) (λ z. other (faults.NoHelper n.1)) (λ z. record { number = n.0; form = f; rank = r; helper = h }) (the_mark marks.Semicolon))))))
 
   pub to_numbered : (nodes : List PlainDrawnNode) (ts : List Lexeme) (x : PlainDrawnNode) → (numbered_parts nodes).language ts x → IsDrawnNode g kind highest nodes ts x
   to_numbered nodes ts x (behind_it a a1 n y1 l1 (behind_it b b1 m y2 (one_mark t e) (behind_it c c1 f y3 l3 (behind_it d d1 r y4 l4 (behind_it k k1 h y5 l5 (judged us z (one_mark u i) fit)))))) =
-      drawn_node a (t ∷ c) d k u n.0 f r h (plain_number nodes g kind highest a n l1) (after_mark t c f e l3) l4 (wanted k h l5 fit) i
+      drawn_node a (t ∷ c) d k u n.0 f r h (plain_number nodes g kind highest a n l1) (after_mark t c f e l3) l4 (wanted g kind highest k h l5 fit) i
 
   pub from_numbered : (nodes : List PlainDrawnNode) (ts : List Lexeme) (x : PlainDrawnNode) → IsDrawnNode g kind highest nodes ts x → (numbered_parts nodes).language ts x
   from_numbered nodes ts x (drawn_node a b c d u n f r h (new_number v n1 e1 e2 e3) (after_mark t k f1 e l3) l4 l5 i) =
       behind_it (v ∷ []) (t ∷ (k ++ (c ++ (d ++ u ∷ [])))) (n1, v.start) _ (new_numeral v n1 e1 e2 e3) (behind_it (t ∷ []) (k ++ (c ++ (d ++ u ∷ []))) t.start _ (one_mark t e) (behind_it k (c ++ (d ++ u ∷ [])) f1 _ l3
-      (behind_it c (d ++ u ∷ []) r _ l4 (behind_it d (u ∷ []) h _ (may_help d h l5) (judged (u ∷ []) u.start (one_mark u i) (fits d h l5))))))
+      (behind_it c (d ++ u ∷ []) r _ l4 (behind_it d (u ∷ []) h _ (may_help g kind highest d h l5) (judged (u ∷ []) u.start (one_mark u i) (fits g kind highest d h l5))))))
 
   abbrev pub numbered_as : List PlainDrawnNode → Phrase DiagramFault PlainDrawnNode anything anything
   numbered_as nodes = as_phrase anything anything (numbered_parts nodes) (IsDrawnNode g kind highest nodes) (to_numbered nodes) (from_numbered nodes)
 
-  pub numbered_sound : (nodes : List PlainDrawnNode) → Sound (numbered_node_of drawn_setting nodes) (IsDrawnNode g kind highest nodes)
+  pub numbered_sound : (nodes : List PlainDrawnNode) → Sound (numbered_node_of (drawn_setting g kind highest) nodes) (IsDrawnNode g kind highest nodes)
   unfolding numbered_node_of
   numbered_sound nodes = (numbered_as nodes).sound
 
-  pub numbered_complete : (nodes : List PlainDrawnNode) → Complete anything (numbered_node_of drawn_setting nodes) (IsDrawnNode g kind highest nodes)
+  pub numbered_complete : (nodes : List PlainDrawnNode) → Complete anything (numbered_node_of (drawn_setting g kind highest) nodes) (IsDrawnNode g kind highest nodes)
   unfolding numbered_node_of
   numbered_complete nodes = (numbered_as nodes).complete
 
   abbrev pub numbered_phrase : List PlainDrawnNode → Phrase DiagramFault PlainDrawnNode anything anything
-  numbered_phrase nodes = record { reader = numbered_node_of drawn_setting nodes; language = IsDrawnNode g kind highest nodes; sound = numbered_sound nodes; complete = numbered_complete nodes; begins = λ ts x l after h. refl }
+  numbered_phrase nodes = record { reader = numbered_node_of (drawn_setting g kind highest) nodes; language = IsDrawnNode g kind highest nodes; sound = numbered_sound nodes; complete = numbered_complete nodes; begins = λ ts x l after h. refl }
 
   -- where there is room
   abbrev pub RoomyNode : List PlainDrawnNode → List Lexeme → PlainDrawnNode → Type 0
@@ -178,13 +65,13 @@ module _ (g : Setting) (kind : DiagramKind) (highest : ℕ) where
   abbrev pub roomy_as : ℕ → List PlainDrawnNode → Phrase DiagramFault PlainDrawnNode anything anything
   roomy_as place nodes = roomy_phrase anything anything (nat_lt (length nodes) 64) (other (faults.Nodes place)) (numbered_phrase nodes)
 
-  pub node_sound : (place : ℕ) (nodes : List PlainDrawnNode) → Sound (node_of drawn_setting place nodes) (RoomyNode nodes)
+  pub node_sound : (place : ℕ) (nodes : List PlainDrawnNode) → Sound (node_of (drawn_setting g kind highest) place nodes) (RoomyNode nodes)
   unfolding node_of
   node_sound place nodes = (roomy_as place nodes).sound
 
-  pub node_complete : (place : ℕ) (nodes : List PlainDrawnNode) → Complete anything (node_of drawn_setting place nodes) (RoomyNode nodes)
+  pub node_complete : (place : ℕ) (nodes : List PlainDrawnNode) → Complete anything (node_of (drawn_setting g kind highest) place nodes) (RoomyNode nodes)
   unfolding node_of
   node_complete place nodes = (roomy_as place nodes).complete
 
   abbrev pub node_phrase : ℕ → List PlainDrawnNode → Phrase DiagramFault PlainDrawnNode anything anything
-  node_phrase place nodes = record { reader = node_of drawn_setting place nodes; language = RoomyNode nodes; sound = node_sound place nodes; complete = node_complete place nodes; begins = λ ts x l after h. refl }
+  node_phrase place nodes = record { reader = node_of (drawn_setting g kind highest) place nodes; language = RoomyNode nodes; sound = node_sound place nodes; complete = node_complete place nodes; begins = λ ts x l after h. refl }

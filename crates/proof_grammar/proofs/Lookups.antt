@@ -12,7 +12,7 @@ use Rattle.st_program.specs.Names.{AreApart, IsNew, named, names_in}
 use Rattle.temporal_goals.specs.Texts.{PlainGoal, PlainStep, invariant, response, waiting}
 use Rattle.expression_typer.specs.Naming.{is_text, variable_at, variable_named}
 use Rattle.proof_script.specs.Steps.{Earlier, earlier_of, is_invariance, is_taken, step_named}
-use Rattle.proof_grammar.specs.Units.{IsLemma, names_of_steps}
+use Rattle.proof_grammar.specs.Units.{IsEarlierInvariance, names_of_steps}
 
 -- BYTES
 unequal : (xs ys : List ℕ) → bytes_eq xs ys ≡ false → bytes_eq ys xs ≡ false
@@ -110,24 +110,24 @@ invariance_so (invariant p) h = (p, refl)
 invariance_so (waiting p qs) h = absurd cc
 invariance_so (response p q e) h = absurd cc
 
-here_is : (steps : List PlainStep) (s : PlainStep) (name : List ℕ) (n : ℕ) → bytes_eq name s.name ≡ true → Some (entry 0 (is_invariance s.goal)) ≡ Some (n, true) → IsLemma (s ∷ steps) name n
+here_is : (steps : List PlainStep) (s : PlainStep) (name : List ℕ) (n : ℕ) → bytes_eq name s.name ≡ true → Some (entry 0 (is_invariance s.goal)) ≡ Some (n, true) → IsEarlierInvariance (s ∷ steps) name n
 here_is steps s name n same h =
     let e : entry 0 (is_invariance s.goal) ≡ (n, true) = cc in
     let p = invariance_so s.goal (ap (λ (q : ℕ × Bool). q.1) e) in
-    subst (λ k. IsLemma (s ∷ steps) name k) (ap (λ (q : ℕ × Bool). q.0) e) (record { step = s; formula = p.0; there = refl; called = sym ((bytes_eq-Decides name s.name).0 same); claims = p.1 })
+    subst (λ k. IsEarlierInvariance (s ∷ steps) name k) (ap (λ (q : ℕ × Bool). q.0) e) (record { step = s; formula = p.0; there = refl; called = sym ((bytes_eq-Decides name s.name).0 same); claims = p.1 })
 
-later_is : (steps : List PlainStep) (s : PlainStep) (name : List ℕ) (n : ℕ) (o : Option (ℕ × Bool)) → ((m : ℕ) → o ≡ Some (m, true) → IsLemma steps name m) → option_map shifted o ≡ Some (n, true) → IsLemma (s ∷ steps) name n
+later_is : (steps : List PlainStep) (s : PlainStep) (name : List ℕ) (n : ℕ) (o : Option (ℕ × Bool)) → ((m : ℕ) → o ≡ Some (m, true) → IsEarlierInvariance steps name m) → option_map shifted o ≡ Some (n, true) → IsEarlierInvariance (s ∷ steps) name n
 later_is steps s name n None again h = absurd cc
 later_is steps s name n (Some e) again h =
     let f : (suc e.0, e.1) ≡ (n, true) = cc in
     let l = again e.0 (ap (λ b. Some (e.0, b)) (ap (λ (q : ℕ × Bool). q.1) f)) in
-    subst (λ k. IsLemma (s ∷ steps) name k) (ap (λ (q : ℕ × Bool). q.0) f) (record { step = l.step; formula = l.formula; there = l.there; called = l.called; claims = l.claims })
+    subst (λ k. IsEarlierInvariance (s ∷ steps) name k) (ap (λ (q : ℕ × Bool). q.0) f) (record { step = l.step; formula = l.formula; there = l.there; called = l.called; claims = l.claims })
 
-lemma_found : (steps : List PlainStep) (name : List ℕ) (n : ℕ) → look steps name ≡ Some (n, true) → IsLemma steps name n
+lemma_found : (steps : List PlainStep) (name : List ℕ) (n : ℕ) → look steps name ≡ Some (n, true) → IsEarlierInvariance steps name n
 lemma_found [] name n h = absurd cc
 lemma_found (s ∷ steps) name n h = at_test (λ m e. lemma_found steps name m e) (bytes_eq name s.name) refl h
   where
-    at_test : ((m : ℕ) → look steps name ≡ Some (m, true) → IsLemma steps name m) → (b : Bool) → b ≡ bytes_eq name s.name → cond b (Some (0, is_invariance s.goal)) (option_map shifted (look steps name)) ≡ Some (n, true) → IsLemma (s ∷ steps) name n
+    at_test : ((m : ℕ) → look steps name ≡ Some (m, true) → IsEarlierInvariance steps name m) → (b : Bool) → b ≡ bytes_eq name s.name → cond b (Some (0, is_invariance s.goal)) (option_map shifted (look steps name)) ≡ Some (n, true) → IsEarlierInvariance (s ∷ steps) name n
     at_test again true e h = here_is steps s name n (sym e) h
     at_test again false e h = later_is steps s name n (look steps name) again h
 
@@ -136,7 +136,7 @@ not_there x [] k step new h = absurd cc
 not_there x (s ∷ steps) zero step new h = let e : s ≡ step = cc in subst (λ (z : PlainStep). bytes_eq z.name x ≡ false) e new.0
 not_there x (s ∷ steps) (suc k) step new h = not_there x steps k step new.1 h
 
-found_lemma : (steps : List PlainStep) (name : List ℕ) (n : ℕ) → AreApart (names_of_steps steps) → IsLemma steps name n → look steps name ≡ Some (n, true)
+found_lemma : (steps : List PlainStep) (name : List ℕ) (n : ℕ) → AreApart (names_of_steps steps) → IsEarlierInvariance steps name n → look steps name ≡ Some (n, true)
 found_lemma [] name n apart l = let h = l.there in absurd cc
 found_lemma (s ∷ steps) name zero apart l =
     let e : s ≡ l.step = same s l.step l.there in
@@ -152,12 +152,12 @@ found_lemma (s ∷ steps) name (suc k) apart l =
     rw (other_name, again) refl
 
 -- BY THE NAMES OF A TEXT
-pub text_found : (steps : List PlainStep) (name : List ℕ) (n : ℕ) → step_named (earlier_of steps) name ≡ Some (n, true) → (is_text name ≡ true) × IsLemma steps name n
+pub text_found : (steps : List PlainStep) (name : List ℕ) (n : ℕ) → step_named (earlier_of steps) name ≡ Some (n, true) → (is_text name ≡ true) × IsEarlierInvariance steps name n
 text_found steps name n h = at_text (is_text name) refl h
   where
-    at_text : (b : Bool) → b ≡ is_text name → (if b then variable_named (earlier_of steps) name else None) ≡ Some (n, true) → (is_text name ≡ true) × IsLemma steps name n
+    at_text : (b : Bool) → b ≡ is_text name → (if b then variable_named (earlier_of steps) name else None) ≡ Some (n, true) → (is_text name ≡ true) × IsEarlierInvariance steps name n
     at_text true e h = (sym e, lemma_found steps name n (sym (look_is steps name) ∙ h))
     at_text false e h = absurd cc
 
-pub found_text : (steps : List PlainStep) (name : List ℕ) (n : ℕ) → AreApart (names_of_steps steps) → is_text name ≡ true → IsLemma steps name n → step_named (earlier_of steps) name ≡ Some (n, true)
+pub found_text : (steps : List PlainStep) (name : List ℕ) (n : ℕ) → AreApart (names_of_steps steps) → is_text name ≡ true → IsEarlierInvariance steps name n → step_named (earlier_of steps) name ≡ Some (n, true)
 found_text steps name n apart e l = ap (λ b. if b then variable_named (earlier_of steps) name else None) e ∙ look_is steps name ∙ found_lemma steps name n apart l

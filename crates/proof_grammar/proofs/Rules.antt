@@ -1,13 +1,12 @@
 -- The rules of a response, by the token behind "by": read exactly where they are spelled.
-use Rattle.std.proofs.Common.{Bool, List, None, Option, Some, [], cond, refl, true, ◌++◌, ◌∷◌, ◌≡◌}
+use Rattle.std.proofs.Common.{Bool, List, [], refl, ◌++◌, ◌∷◌}
 use Rattle.st_tokens.specs.Stream.{Lexeme, Stream}
 use Rattle.st_reading.proofs.ListCompleteness.{Complete}
 use Rattle.st_reading.specs.Mark.{number}
 use Rattle.st_reading.specs.Reading.{Read, ahead}
-use Rattle.st_reading.specs.Sign.{is, sign_of}
+use Rattle.st_reading.specs.Sign.{sign_of}
 use Rattle.st_reading.specs.Spelling.{Sound}
 use Rattle.st_reading.specs.Steady.{Within, anything}
-use Rattle.st_reading.specs.declared.mark.Mark.{Mark}
 use Rattle.st_reading.specs.declared.mark.Mark.TheVariants as marks
 use Rattle.st_reading.specs.declared.sign.Sign.{Sign}
 use Rattle.temporal_goals.specs.Texts.{PlainNode, PlainRule, diagram, nested, net}
@@ -22,13 +21,15 @@ use Rattle.proof_script.specs.declared.rules.Manner.TheVariants as manners
 use Rattle.proof_grammar.specs.Drawings.{IsDrawing}
 use Rattle.proof_grammar.specs.Phrases.{Bracketed}
 use Rattle.proof_grammar.specs.Rules.{IsHelped, IsNestedNode, IsNode, IsRanked, IsRule, by_chain, by_chain_diagram, by_compassion, by_just, by_nested_net, by_net, by_rank_diagram, by_ranks}
-use Rattle.proof_grammar.proofs.Choices.{Chosen, Either, behind_mark, choice_phrase, chosen, either_front, either_phrase, first_of, none_chosen, without_mark}
+use Rattle.proof_grammar.proofs.Choices.{Chosen, Either, behind_mark, choice_phrase, chosen, either_front, either_phrase, without_mark}
 use Rattle.proof_grammar.proofs.Drawings.{rule_drawing}
+use Rattle.proof_grammar.proofs.ItemEnds.{only_mark}
+use Rattle.proof_grammar.proofs.Manners.{kind_found, kind_is, manner_found, manner_is}
 use Rattle.proof_grammar.proofs.Nested.{nested_complete, nested_sound}
-use Rattle.proof_grammar.proofs.Nets.{IsFairList, IsJustList, chain_nodes_complete, chain_nodes_sound, fair_items, fair_nodes_complete, fair_nodes_sound, just_complete, just_items, just_sound, nodes_begin, nodes_complete, nodes_sound, only_mark, ranked_nodes_complete, ranked_nodes_sound}
+use Rattle.proof_grammar.proofs.Nets.{IsFairList, IsJustList, chain_nodes_complete, chain_nodes_sound, fair_items, fair_nodes_complete, fair_nodes_sound, just_complete, just_items, just_sound, nodes_begin, nodes_complete, nodes_sound, ranked_nodes_complete, ranked_nodes_sound}
+use Rattle.proof_grammar.proofs.Parts.{no_dot}
 use Rattle.proof_grammar.proofs.Phrases.{Made, Phrase, as_phrase, made, map_phrase}
-use Rattle.proof_grammar.proofs.Tokens.{among, at_mark, but, marks_within}
-use Rattle.proof_grammar.proofs.Transitions.{no_dot}
+use Rattle.proof_grammar.proofs.Tokens.{among, but, marks_within}
 
 -- what stands behind a goal with its rule
 abbrev pub ending : Sign → Bool
@@ -41,70 +42,6 @@ ending_undotted = marks_within no_dot (marks.Using ∷ marks.Semicolon ∷ []) r
 pub block_ungrouped : Within (only_mark marks.OpenBlock) (but marks.Group)
 unfolding number
 block_ungrouped = marks_within (but marks.Group) (marks.OpenBlock ∷ []) refl
-
--- WHAT THE TOKENS SAY
-abbrev pub manner_mark : Manner → Mark
-manner_mark manners.Just = marks.Just
-manner_mark manners.Chain = marks.Chain
-manner_mark manners.Ranked = marks.Ranked
-manner_mark manners.Fair = marks.Fair
-manner_mark manners.Net = marks.Net
-manner_mark manners.Diagram = marks.Diagram
-
-abbrev pub Says : Sign → Manner → Type 0
-Says g m = is g (manner_mark m) ≡ true
-
-abbrev pub ifs : Sign → Mark → Manner → Option Manner → Option Manner
-ifs g m x others = cond (is g m) (Some x) others
-
-abbrev pub from_diagram : Sign → Option Manner
-from_diagram g = ifs g marks.Diagram manners.Diagram None
-
-abbrev pub from_net : Sign → Option Manner
-from_net g = ifs g marks.Net manners.Net (from_diagram g)
-
-abbrev pub from_fair : Sign → Option Manner
-from_fair g = ifs g marks.Fair manners.Fair (from_net g)
-
-abbrev pub from_ranked : Sign → Option Manner
-from_ranked g = ifs g marks.Ranked manners.Ranked (from_fair g)
-
-abbrev pub from_chain : Sign → Option Manner
-from_chain g = ifs g marks.Chain manners.Chain (from_ranked g)
-
-manner_is : (g : Sign) (m : Manner) → manner_in g ≡ Some m → Says g m
-manner_is g m h =
-    first_of (Says g) (is g marks.Just) manners.Just m (from_chain g) (λ e. e)
-    (λ h. first_of (Says g) (is g marks.Chain) manners.Chain m (from_ranked g) (λ e. e)
-    (λ h. first_of (Says g) (is g marks.Ranked) manners.Ranked m (from_fair g) (λ e. e)
-    (λ h. first_of (Says g) (is g marks.Fair) manners.Fair m (from_net g) (λ e. e)
-    (λ h. first_of (Says g) (is g marks.Net) manners.Net m (from_diagram g) (λ e. e)
-    (λ h. first_of (Says g) (is g marks.Diagram) manners.Diagram m None (λ e. e) (λ h. none_chosen (Says g m) m h) h) h) h) h) h) h
-
-manner_found : (g : Sign) (m : Manner) → Says g m → manner_in g ≡ Some m
-unfolding number
-manner_found g manners.Just h = at_mark manner_in (Some manners.Just) marks.Just refl g h
-manner_found g manners.Chain h = at_mark manner_in (Some manners.Chain) marks.Chain refl g h
-manner_found g manners.Ranked h = at_mark manner_in (Some manners.Ranked) marks.Ranked refl g h
-manner_found g manners.Fair h = at_mark manner_in (Some manners.Fair) marks.Fair refl g h
-manner_found g manners.Net h = at_mark manner_in (Some manners.Net) marks.Net refl g h
-manner_found g manners.Diagram h = at_mark manner_in (Some manners.Diagram) marks.Diagram refl g h
-
-abbrev pub Draws : Sign → DiagramKind → Type 0
-Draws g kinds.Wait = ⊥
-Draws g kinds.Chain = is g marks.Chain ≡ true
-Draws g kinds.Rank = is g marks.Rank ≡ true
-
-kind_is : (g : Sign) (k : DiagramKind) → kind_in g ≡ Some k → Draws g k
-kind_is g k h =
-    first_of (Draws g) (is g marks.Chain) kinds.Chain k (cond (is g marks.Rank) (Some kinds.Rank) None) (λ e. e)
-    (λ h. first_of (Draws g) (is g marks.Rank) kinds.Rank k None (λ e. e) (λ h. none_chosen (Draws g k) k h) h) h
-
-kind_found : (g : Sign) (k : DiagramKind) → Draws g k → kind_in g ≡ Some k
-unfolding number
-kind_found g kinds.Wait h = absurd h
-kind_found g kinds.Chain h = at_mark kind_in (Some kinds.Chain) marks.Chain refl g h
-kind_found g kinds.Rank h = at_mark kind_in (Some kinds.Rank) marks.Rank refl g h
 
 module _ (g : Setting) where
   -- behind "net"

@@ -22,13 +22,15 @@ use Rattle.proof_grammar.specs.Grammar.{IsInvariance, IsNamed, IsResponse, IsSte
 use Rattle.proof_grammar.specs.Phrases.{After}
 use Rattle.proof_grammar.specs.Units.{IsCited, IsNewName, cited_name, names_of_steps, new_name}
 use Rattle.proof_grammar.proofs.Choices.{first_of, none_chosen}
-use Rattle.proof_grammar.proofs.Goals.{invariance_complete, invariance_sound, response_complete, response_sound, waiting_complete, waiting_sound}
+use Rattle.proof_grammar.proofs.Invariances.{invariance_complete, invariance_sound}
+use Rattle.proof_grammar.proofs.ItemEnds.{only_mark}
 use Rattle.proof_grammar.proofs.Lookups.{apart_grows, found_text, free_is, is_free_name, text_found}
 use Rattle.proof_grammar.proofs.Names.{AreFound, IsFoundName, IsFreeName, found_name, free_name, names_found, new_name_phrase, none_found, using_phrase}
-use Rattle.proof_grammar.proofs.Nets.{only_mark}
 use Rattle.proof_grammar.proofs.Phrases.{Phrase, after_phrase, as_phrase, made, map_phrase, the_mark, then_phrase}
+use Rattle.proof_grammar.proofs.Responses.{response_complete, response_sound}
 use Rattle.proof_grammar.proofs.Rules.{ending}
 use Rattle.proof_grammar.proofs.Tokens.{at_mark}
+use Rattle.proof_grammar.proofs.Waits.{waiting_complete, waiting_sound}
 
 -- WHAT THE TOKENS SAY
 abbrev pub claim_mark : Claim → Mark

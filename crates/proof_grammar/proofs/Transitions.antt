@@ -1,100 +1,30 @@
--- Transitions, just ones and compassionate ones, in scripts and in drawings: read exactly where they are spelled.
-use Rattle.std.proofs.Common.{Bool, Err, List, None, Ok, Option, Some, [], ap, cond, false, inl, inr, not, refl, slice_get, subst, sym, true, ℕ, ◌++◌, ◌∙◌, ◌∷◌, ◌≡◌, ◌⊎◌}
+-- Transitions, helpers and groups in scripts: read exactly where they are spelled.
+use Rattle.std.proofs.Common.{Bool, Err, List, None, Ok, Option, Some, ap, refl, slice_get, subst, sym, true, ℕ, ◌++◌, ◌∙◌, ◌∷◌, ◌≡◌}
 use Rattle.std.specs.Option.{option_map}
-use Rattle.st_tokens.specs.Stream.{Lexeme, Stream, behind, breaks, ends, more, ◌++>◌}
+use Rattle.st_tokens.specs.Stream.{Lexeme, Stream, ◌++>◌}
 use Rattle.st_reading.proofs.ListCompleteness.{Complete}
 use Rattle.st_reading.proofs.ListSoundness.{sound_named}
-use Rattle.st_reading.proofs.Soundness.{split, taken, values}
+use Rattle.st_reading.proofs.Soundness.{split, values}
 use Rattle.st_reading.proofs.Streams.{append_stream}
-use Rattle.st_reading.specs.Reading.{Label, Read, ahead, gives, is_name, named, on_operator, other, refusal, then_reads}
-use Rattle.st_reading.specs.Sign.{is, sign_of}
-use Rattle.st_reading.specs.Spelling.{Cut, Is, IsName, OneName, Sound, one_name}
+use Rattle.st_reading.specs.Reading.{Label, Read, ahead, gives, is_name, named, then_reads}
+use Rattle.st_reading.specs.Spelling.{IsName, OneName, Sound, one_name}
 use Rattle.st_reading.specs.Steady.{anything}
-use Rattle.st_reading.specs.declared.mark.Mark.TheVariants as marks
 use Rattle.st_reading.specs.declared.sign.Sign.{Sign}
 use Rattle.st_form.specs.declared.conditions.Part.{Part}
-use Rattle.st_form.specs.declared.conditions.Part.TheVariants.{Whole}
-use Rattle.observations.specs.declared.Fairness.{Fairness}
-use Rattle.observations.specs.declared.Fairness.TheVariants.{Compassionate, Just, Unfair}
-use Rattle.temporal_goals.specs.declared.diagrams.DiagramKind.{DiagramKind}
 use Rattle.rule_laws.specs.Fitting.{fairness_of}
-use Rattle.ranked_net.specs.Making.{is_uncompassionate, is_unfair, owes_compassion, owes_justice}
-use Rattle.diagram_reader.specs.Drawing.{just_of as drawing_just_of, transition_number_of}
-use Rattle.diagram_reader.specs.Transitions.{is_just, owes_justice as drawing_owes_justice, part_named, part_of, present, suffix_of, transition_named, transition_of as drawn_transition}
+use Rattle.ranked_net.specs.Making.{is_uncompassionate, is_unfair}
+use Rattle.diagram_reader.specs.Transitions.{part_of, present, transition_named, transition_of as drawn_transition}
 use Rattle.diagram_reader.specs.declared.fault.DiagramFault.{DiagramFault}
 use Rattle.diagram_reader.specs.declared.fault.DiagramFault.TheVariants as faults
 use Rattle.proof_script.specs.Faults.{drawn, stop_at}
 use Rattle.proof_script.specs.Listing.{Setting, compassionate_of, just_of, transition_of}
 use Rattle.proof_script.specs.declared.fault.ScriptFault.{ScriptFault}
 use Rattle.proof_script.specs.declared.fault.ScriptKind.TheVariants as kinds
-use Rattle.proof_grammar.specs.Units.{IsGroup, IsHelper, IsPart, IsTransition, a_group, a_helper, a_part, a_transition, the_whole}
-use Rattle.proof_grammar.proofs.Choices.{judge_phrase, judged}
-use Rattle.proof_grammar.proofs.Formulas.{drawing_setting}
+use Rattle.proof_grammar.specs.Units.{IsGroup, IsHelper, IsPart, IsTransition, a_group, a_helper, a_transition}
+use Rattle.proof_grammar.proofs.Fairness.{compassion_is_owed, compassionate_is, is_owed, just_is}
+use Rattle.proof_grammar.proofs.Judgements.{judge_phrase, judged}
+use Rattle.proof_grammar.proofs.Parts.{no_dot, part_complete, part_sound}
 use Rattle.proof_grammar.proofs.Phrases.{Phrase, as_phrase, made, map_phrase}
-use Rattle.proof_grammar.proofs.Tokens.{but, not_that}
-
-abbrev pub no_dot : Sign → Bool
-no_dot = but marks.Dot
-
--- PARTS
-abbrev pub stuck : Lexeme → Stream → Read DiagramFault Part
-stuck v s = Err (refusal (more v s))
-
-suffix_sound : (t : Lexeme) → Is marks.Dot t → (s : Stream) (part : Part) (rest : Stream) → suffix_of s ≡ Ok (part, rest) → Cut IsPart (more t s) part rest
-unfolding suffix_of
-suffix_sound t d (ends place) part rest h = absurd cc
-suffix_sound t d (breaks f) part rest h = absurd cc
-suffix_sound t d (more v s) part rest h = at_name (is_name (sign_of v)) refl (part_named v.text) refl h
-  where
-    at_name : (b : Bool) → b ≡ is_name (sign_of v) → (o : Option Part) → o ≡ part_named v.text → on_operator (cond b o None) (stuck v s) (λ p. gives {X = DiagramFault} p s) ≡ Ok (part, rest) → Cut IsPart (more t (more v s)) part rest
-    at_name false e o f h = absurd cc
-    at_name true e None f h = absurd cc
-    at_name true e (Some p) f h = taken {X = DiagramFault} IsPart (t ∷ v ∷ []) (gives p s) p part s rest refl h (a_part t v p d (sym e) (sym f))
-
-part_sound : Sound part_of IsPart
-unfolding part_of
-part_sound s part rest h = at_dot s (is (ahead s) marks.Dot) refl h
-  where
-    at_dot : (s : Stream) (b : Bool) → b ≡ is (ahead s) marks.Dot → cond b (suffix_of (behind s)) (Ok (Whole, s)) ≡ Ok (part, rest) → Cut IsPart s part rest
-    at_dot s false e h = taken {X = DiagramFault} IsPart [] (gives Whole s) Whole part s rest refl h the_whole
-    at_dot (ends place) true e h = absurd cc
-    at_dot (breaks f) true e h = absurd cc
-    at_dot (more t s) true e h = suffix_sound t (sym e) s part rest h
-
-part_complete : Complete no_dot part_of IsPart
-unfolding part_of suffix_of
-part_complete ts part the_whole after h = let e = not_that marks.Dot (ahead after) h in rw e refl
-part_complete ts part (a_part u v p d e f) after h = rw (d, e, f) refl
-
--- WHAT IS FAIR
-just_is : (o : Option Fairness) → not (owes_justice o) ≡ false → (o ≡ Some Just) ⊎ (o ≡ Some Compassionate)
-just_is None e = absurd cc
-just_is (Some Unfair) e = absurd cc
-just_is (Some Just) e = inl refl
-just_is (Some Compassionate) e = inr refl
-
-is_owed : (o : Option Fairness) → (o ≡ Some Just) ⊎ (o ≡ Some Compassionate) → not (owes_justice o) ≡ false
-is_owed o (inl e) = rw e refl
-is_owed o (inr e) = rw e refl
-
-drawn_just_is : (o : Option Fairness) → not (drawing_owes_justice o) ≡ false → (o ≡ Some Just) ⊎ (o ≡ Some Compassionate)
-drawn_just_is None e = absurd cc
-drawn_just_is (Some Unfair) e = absurd cc
-drawn_just_is (Some Just) e = inl refl
-drawn_just_is (Some Compassionate) e = inr refl
-
-drawn_is_owed : (o : Option Fairness) → (o ≡ Some Just) ⊎ (o ≡ Some Compassionate) → not (drawing_owes_justice o) ≡ false
-drawn_is_owed o (inl e) = rw e refl
-drawn_is_owed o (inr e) = rw e refl
-
-compassionate_is : (o : Option Fairness) → not (owes_compassion o) ≡ false → o ≡ Some Compassionate
-compassionate_is None e = absurd cc
-compassionate_is (Some Unfair) e = absurd cc
-compassionate_is (Some Just) e = absurd cc
-compassionate_is (Some Compassionate) e = refl
-
-compassion_is_owed : (o : Option Fairness) → o ≡ Some Compassionate → not (owes_compassion o) ≡ false
-compassion_is_owed o e = rw e refl
 
 -- WHAT IS DRAWN, READ IN A SCRIPT
 undrawn_read : {A : Type 0} (r : Read DiagramFault A) (y : A × Stream) → drawn r ≡ Ok y → r ≡ Ok y
@@ -152,7 +82,7 @@ module _ (g : Setting) where
   abbrev pub placed_transition : Phrase DiagramFault (ℕ × ℕ) is_name no_dot
   placed_transition = record { reader = drawn_transition g.names g.system; language = IsPlaced; sound = named_sound; complete = named_complete; begins = named_begins }
 
-  a_name_of : (ts : List Lexeme) (x : ℕ × ℕ) → IsPlaced ts x → IsTransition g ts x.0
+  pub a_name_of : (ts : List Lexeme) (x : ℕ × ℕ) → IsPlaced ts x → IsTransition g ts x.0
   a_name_of ts x (is_placed t us part n e p f) = a_transition t us part n e p f
 
   -- by its number
@@ -218,39 +148,3 @@ module _ (g : Setting) where
 
   abbrev pub group_phrase : Phrase ScriptFault ℕ is_name no_dot
   group_phrase = record { reader = compassionate_of g; language = IsGroup g; sound = group_sound; complete = group_complete; begins = group_as.begins }
-
-  -- IN DRAWINGS
-  module _ (kind : DiagramKind) (highest : ℕ) where
-    pub drawn_number_sound : Sound (transition_number_of (drawing_setting g kind highest)) (IsTransition g)
-    unfolding transition_number_of
-    drawn_number_sound = transition_phrase.sound
-
-    pub drawn_number_complete : Complete no_dot (transition_number_of (drawing_setting g kind highest)) (IsTransition g)
-    unfolding transition_number_of
-    drawn_number_complete = transition_phrase.complete
-
-    abbrev pub drawn_transition_phrase : Phrase DiagramFault ℕ is_name no_dot
-    drawn_transition_phrase = record { reader = transition_number_of (drawing_setting g kind highest); language = IsTransition g; sound = drawn_number_sound; complete = drawn_number_complete; begins = transition_phrase.begins }
-
-    abbrev pub drawn_helper_parts : Phrase DiagramFault ℕ is_name no_dot
-    drawn_helper_parts = judge_phrase is_name no_dot anything (λ g h. refl) (λ t. not (is_just g.system t.0)) (λ t. other (faults.UnfairHelper t.1)) (λ t. t.0) placed_transition
-
-    pub to_drawn_helper : (ts : List Lexeme) (n : ℕ) → drawn_helper_parts.language ts n → IsHelper g ts n
-    to_drawn_helper ts n (judged us x l k) = a_helper us x.0 (a_name_of us x l) (drawn_just_is (slice_get (fairness_of g.system) x.0) k)
-
-    pub from_drawn_helper : (ts : List Lexeme) (n : ℕ) → IsHelper g ts n → drawn_helper_parts.language ts n
-    from_drawn_helper ts n (a_helper us m (a_transition t vs part k e p f) j) = judged (t ∷ vs) (k, t.start) (is_placed t vs part k e p f) (drawn_is_owed (slice_get (fairness_of g.system) k) j)
-
-    abbrev pub drawn_helper_as : Phrase DiagramFault ℕ is_name no_dot
-    drawn_helper_as = as_phrase is_name no_dot drawn_helper_parts (IsHelper g) to_drawn_helper from_drawn_helper
-
-    pub drawn_helper_sound : Sound (drawing_just_of (drawing_setting g kind highest)) (IsHelper g)
-    unfolding drawing_just_of
-    drawn_helper_sound = drawn_helper_as.sound
-
-    pub drawn_helper_complete : Complete no_dot (drawing_just_of (drawing_setting g kind highest)) (IsHelper g)
-    unfolding drawing_just_of
-    drawn_helper_complete = drawn_helper_as.complete
-
-    abbrev pub drawn_helper_phrase : Phrase DiagramFault ℕ is_name no_dot
-    drawn_helper_phrase = record { reader = drawing_just_of (drawing_setting g kind highest); language = IsHelper g; sound = drawn_helper_sound; complete = drawn_helper_complete; begins = drawn_helper_as.begins }

@@ -12,7 +12,7 @@ use Rattle.temporal_goals.specs.declared.diagrams.DiagramKind.{DiagramKind}
 use Rattle.diagram_reader.specs.Drawn.{Drawing, diagram_with, has_helpers, has_ranks, is_above, is_known, is_upward, nothing_drawn, with_edge, with_node, with_terminal}
 use Rattle.proof_script.specs.Listing.{Setting}
 use Rattle.proof_grammar.specs.Phrases.{After}
-use Rattle.proof_grammar.specs.Units.{IsHelper, IsNumber, IsTransition, IsTruth}
+use Rattle.proof_grammar.specs.Units.{IsFormula, IsHelper, IsNumber, IsTransition}
 
 -- numeral: the number of a node that is drawn, or 0, which is the terminal node
 pub data IsDrawnNumber (nodes : List PlainDrawnNode) : List Lexeme → ℕ → Type 0 where
@@ -37,7 +37,7 @@ module _ (g : Setting) (kind : DiagramKind) (highest : ℕ) where
   -- numeral ":" expr [ "rank" sum ] [ "helper" trans ] ";"
   pub data IsDrawnNode (nodes : List PlainDrawnNode) : List Lexeme → PlainDrawnNode → Type 0 where
     drawn_node : (a b c d : List Lexeme) (u : Lexeme) (n : ℕ) (f : Formula) (r : Option Linear) (h : Option ℕ)
-        → IsNewNumber nodes a n → After marks.Colon (IsTruth g) b f → IsNodeRank c r → IsNodeHelper d h → Is marks.Semicolon u
+        → IsNewNumber nodes a n → After marks.Colon (IsFormula g) b f → IsNodeRank c r → IsNodeHelper d h → Is marks.Semicolon u
         → IsDrawnNode nodes (a ++ (b ++ (c ++ (d ++ u ∷ [])))) (record { number = n; form = f; rank = r; helper = h })
 
   -- numeral "->" numeral "on" trans { "," trans } ";"
@@ -48,7 +48,7 @@ module _ (g : Setting) (kind : DiagramKind) (highest : ℕ) where
 
   -- ":" expr ";"
   pub data IsTerminal : List Lexeme → Formula → Type 0 where
-    a_terminal : (a : List Lexeme) (u : Lexeme) (f : Formula) → After marks.Colon (IsTruth g) a f → Is marks.Semicolon u → IsTerminal (a ++ u ∷ []) f
+    a_terminal : (a : List Lexeme) (u : Lexeme) (f : Formula) → After marks.Colon (IsFormula g) a f → Is marks.Semicolon u → IsTerminal (a ++ u ∷ []) f
 
   -- "terminal" .. | "node" .. | "edge" ..: at most one terminal node, and at most 64 others
   pub data IsItem (d : Drawing) : List Lexeme → Drawing → Type 0 where

@@ -1,5 +1,5 @@
--- The grammar of scripts: which token lists stand for which steps, production by production, over the names and the
--- transitions of a program and the steps that stand before.
+-- The grammar of scripts: which token lists stand for which steps, one constructor for each production. `g` is the program:
+-- its names and its transitions. One text behind another is `a ++ b`; a rule of the language stands at what it is about.
 use Rattle.std.specs.Prelude.{List, [], length, ℕ, ◌++◌, ◌-◌, ◌∷◌, ◌≡◌, ◌≤◌}
 use Rattle.st_tokens.specs.Stream.{Lexeme, ends, text_stream, ◌++>◌}
 use Rattle.st_reading.specs.Spelling.{Is, Items, Row}
@@ -12,24 +12,24 @@ use Rattle.proof_script.specs.Listing.{Setting}
 use Rattle.proof_grammar.specs.Drawings.{IsDrawing}
 use Rattle.proof_grammar.specs.Phrases.{After}
 use Rattle.proof_grammar.specs.Rules.{IsRule}
-use Rattle.proof_grammar.specs.Units.{IsCited, IsNewName, IsNumber, IsTruth}
+use Rattle.proof_grammar.specs.Units.{IsCited, IsFormula, IsNewName, IsNumber}
 
 module _ (g : Setting) where
   -- GOALS, EACH WITH ITS RULE
   -- expr [ "by" expr ]
   pub data IsInvariance : List Lexeme → PlainGoal × PlainRule → Type 0 where
-    by_itself : (a : List Lexeme) (p : Formula) → IsTruth g a p → IsInvariance a (invariant p, basic)
-    by_stronger : (a b : List Lexeme) (p f : Formula) → IsTruth g a p → After marks.By (IsTruth g) b f → IsInvariance (a ++ b) (invariant p, stronger f)
+    by_itself : (a : List Lexeme) (p : Formula) → IsFormula g a p → IsInvariance a (invariant p, basic)
+    by_stronger : (a b : List Lexeme) (p f : Formula) → IsFormula g a p → After marks.By (IsFormula g) b f → IsInvariance (a ++ b) (invariant p, stronger f)
 
   -- expr "==>" expr "wait" expr { "wait" expr }, at most 64 formulas behind "==>"
   pub data IsWaitingGoal : List Lexeme → Formula × List Formula → Type 0 where
     waiting_goal : (a b c d : List Lexeme) (p q r : Formula) (qs : List Formula)
-        → IsTruth g a p → After marks.Unless (IsTruth g) b q → After marks.Wait (IsTruth g) c r → Items marks.Wait (IsTruth g) d qs → length (q ∷ r ∷ qs) ≤ 64
+        → IsFormula g a p → After marks.Unless (IsFormula g) b q → After marks.Wait (IsFormula g) c r → Items marks.Wait (IsFormula g) d qs → length (q ∷ r ∷ qs) ≤ 64
         → IsWaitingGoal (a ++ (b ++ (c ++ d))) (p, q ∷ r ∷ qs)
 
   -- expr { "," expr } | "diagram" "wait" drawing, for a goal with so many formulas behind "==>": as many levels
   pub data IsWaitingRule (count : ℕ) : List Lexeme → PlainRule → Type 0 where
-    by_levels : (ts : List Lexeme) (ls : List Formula) → Row marks.Comma (IsTruth g) ts ls → length ls ≤ 64 → length ls ≡ count → IsWaitingRule count ts (levels ls)
+    by_levels : (ts : List Lexeme) (ls : List Formula) → Row marks.Comma (IsFormula g) ts ls → length ls ≤ 64 → length ls ≡ count → IsWaitingRule count ts (levels ls)
     by_wait_diagram : (t u : Lexeme) (ts : List Lexeme) (d : PlainDiagram) → Is marks.Diagram t → Is marks.Wait u → IsDrawing g Wait (count - 1) ts d → IsWaitingRule count (t ∷ u ∷ ts) (diagram d)
 
   -- goal "by" rule
@@ -39,7 +39,7 @@ module _ (g : Setting) where
   -- expr "leads" expr "within" sum "by" rule
   pub data IsResponse : List Lexeme → PlainGoal × PlainRule → Type 0 where
     responds : (a b c d : List Lexeme) (p q : Formula) (e : Linear) (x : PlainRule)
-        → IsTruth g a p → After marks.Leads (IsTruth g) b q → After marks.Within (IsNumber g) c e → After marks.By (IsRule g) d x
+        → IsFormula g a p → After marks.Leads (IsFormula g) b q → After marks.Within (IsNumber g) c e → After marks.By (IsRule g) d x
         → IsResponse (a ++ (b ++ (c ++ d))) (response p q e, x)
 
 -- STEPS

@@ -11,26 +11,26 @@ use Rattle.response_rules.specs.Forms.{chain_nodes, fair_nodes, ranked_nodes}
 use Rattle.proof_script.specs.Listing.{Setting}
 use Rattle.proof_grammar.specs.Drawings.{IsDrawing}
 use Rattle.proof_grammar.specs.Phrases.{After, Bracketed, Many, Optional}
-use Rattle.proof_grammar.specs.Units.{IsGroup, IsHelper, IsNumber, IsTruth}
+use Rattle.proof_grammar.specs.Units.{IsFormula, IsGroup, IsHelper, IsNumber}
 
 module _ (g : Setting) where
   -- ITEMS
   -- expr "helper" trans
   pub data IsHelped : List Lexeme → Formula × ℕ → Type 0 where
-    helped : (a b : List Lexeme) (f : Formula) (h : ℕ) → IsTruth g a f → After marks.Helper (IsHelper g) b h → IsHelped (a ++ b) (f, h)
+    helped : (a b : List Lexeme) (f : Formula) (h : ℕ) → IsFormula g a f → After marks.Helper (IsHelper g) b h → IsHelped (a ++ b) (f, h)
 
   -- expr "rank" sum "helper" trans
   pub data IsRanked : List Lexeme → Formula × Linear × ℕ → Type 0 where
-    ranked : (a b c : List Lexeme) (f : Formula) (e : Linear) (h : ℕ) → IsTruth g a f → After marks.Rank (IsNumber g) b e → After marks.Helper (IsHelper g) c h → IsRanked (a ++ (b ++ c)) (f, e, h)
+    ranked : (a b c : List Lexeme) (f : Formula) (e : Linear) (h : ℕ) → IsFormula g a f → After marks.Rank (IsNumber g) b e → After marks.Helper (IsHelper g) c h → IsRanked (a ++ (b ++ c)) (f, e, h)
 
   -- expr [ "helper" trans ]
   pub data IsFairItem : List Lexeme → Formula × Option ℕ → Type 0 where
-    fair_item : (a b : List Lexeme) (f : Formula) (h : Option ℕ) → IsTruth g a f → Optional marks.Helper (IsHelper g) b h → IsFairItem (a ++ b) (f, h)
+    fair_item : (a b : List Lexeme) (f : Formula) (h : Option ℕ) → IsFormula g a f → Optional marks.Helper (IsHelper g) b h → IsFairItem (a ++ b) (f, h)
 
   -- expr "base" sum "delay" sum "top" sum [ "group" trans ] [ "helper" trans ], with a group or a helper
   pub data IsNode : List Lexeme → PlainNode → Type 0 where
     a_node : (a b c d e k : List Lexeme) (f : Formula) (base delay top : Linear) (group helper : Option ℕ)
-        → IsTruth g a f → After marks.Base (IsNumber g) b base → After marks.Delay (IsNumber g) c delay → After marks.Top (IsNumber g) d top
+        → IsFormula g a f → After marks.Base (IsNumber g) b base → After marks.Delay (IsNumber g) c delay → After marks.Top (IsNumber g) d top
         → Optional marks.Group (IsGroup g) e group → Optional marks.Helper (IsHelper g) k helper → (is_none group && is_none helper) ≡ false
         → IsNode (a ++ (b ++ (c ++ (d ++ (e ++ k))))) (record { form = f; base = base; delay = delay; top = top; group = group; helper = helper })
 
@@ -43,7 +43,7 @@ module _ (g : Setting) where
   -- expr { level } "delay" sum [ "helper" trans ], with at most four levels, and a level or a helper
   pub data IsNestedNode : List Lexeme → PlainNestedNode → Type 0 where
     a_nested_node : (a b c d : List Lexeme) (f : Formula) (ls : List PlainLevel) (delay : Linear) (helper : Option ℕ)
-        → IsTruth g a f → Many IsLevel b ls → length ls ≤ 4 → After marks.Delay (IsNumber g) c delay → Optional marks.Helper (IsHelper g) d helper → (nat_eq (length ls) 0 && is_none helper) ≡ false
+        → IsFormula g a f → Many IsLevel b ls → length ls ≤ 4 → After marks.Delay (IsNumber g) c delay → Optional marks.Helper (IsHelper g) d helper → (nat_eq (length ls) 0 && is_none helper) ≡ false
         → IsNestedNode (a ++ (b ++ (c ++ d))) (record { form = f; levels = ls; delay = delay; helper = helper })
 
   -- RULES

@@ -1,5 +1,5 @@
--- The units of a script: formulas, integer expressions, names of steps and names of transitions, over a program and the
--- steps that stand before.
+-- The units of a script: names of steps, formulas, integer expressions and transitions. `earlier` are the steps that stand
+-- before; `g` is the program, its names and its transitions.
 use Rattle.std.specs.Prelude.{List, Some, [], map, slice_get, true, ℕ, ◌∷◌, ◌≡◌}
 use Rattle.st_tokens.specs.Stream.{Lexeme}
 use Rattle.st_reading.specs.Spelling.{Is, IsName}
@@ -28,7 +28,7 @@ pub data IsNewName (earlier : List PlainStep) : List Lexeme → List ℕ → Typ
   new_name : (t : Lexeme) → IsName t → IsNew t.text (names_of_steps earlier) → IsNewName earlier (t ∷ []) t.text
 
 -- the earlier step of this number, counted from 0, has this name and is an invariance
-pub record IsLemma (earlier : List PlainStep) (name : List ℕ) (number : ℕ) : Type 0 where
+pub record IsEarlierInvariance (earlier : List PlainStep) (name : List ℕ) (number : ℕ) : Type 0 where
   pub step : PlainStep
   pub formula : Formula
   pub there : slice_get earlier number ≡ Some step
@@ -37,7 +37,7 @@ pub record IsLemma (earlier : List PlainStep) (name : List ℕ) (number : ℕ) :
 
 -- the name of an earlier invariance, and its number; names are ASCII, as all are in a text
 pub data IsCited (earlier : List PlainStep) : List Lexeme → ℕ → Type 0 where
-  cited_name : (t : Lexeme) (n : ℕ) → IsName t → is_text t.text ≡ true → IsLemma earlier t.text n → IsCited earlier (t ∷ []) n
+  cited_name : (t : Lexeme) (n : ℕ) → IsName t → is_text t.text ≡ true → IsEarlierInvariance earlier t.text n → IsCited earlier (t ∷ []) n
 
 -- [ "." ( "entry" | "exit" ) ]
 pub data IsPart : List Lexeme → Part → Type 0 where
@@ -47,8 +47,8 @@ pub data IsPart : List Lexeme → Part → Type 0 where
 module _ (g : Setting) where
   -- FORMULAS
   -- a formula with at most 32 levels, and an integer expression, over the program's names
-  abbrev pub IsTruth : List Lexeme → Formula → Type 0
-  IsTruth = Typed (SpellsWithin true 32) (truth_of (names_of g.names))
+  abbrev pub IsFormula : List Lexeme → Formula → Type 0
+  IsFormula = Typed (SpellsWithin true 32) (truth_of (names_of g.names))
 
   abbrev pub IsNumber : List Lexeme → Linear → Type 0
   IsNumber = Typed (IsSum true (Inside true 32)) (number_of (names_of g.names))

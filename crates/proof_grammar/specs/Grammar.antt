@@ -29,7 +29,7 @@ module _ (g : Setting) where
 
   -- expr { "," expr } | "diagram" "wait" drawing, for a goal with so many formulas behind "==>": as many levels
   pub data IsWaitingRule (count : ℕ) : List Lexeme → PlainRule → Type 0 where
-    by_levels : (ts : List Lexeme) (ls : List Formula) → Row marks.Comma (IsFormula g) ts ls → length ls ≤ 64 → length ls ≡ count → IsWaitingRule count ts (levels ls)
+    by_levels : (ts : List Lexeme) (ls : List Formula) → Row marks.Comma (IsFormula g) ts ls → length ls ≡ count → IsWaitingRule count ts (levels ls)
     by_wait_diagram : (t u : Lexeme) (ts : List Lexeme) (d : PlainDiagram) → Is marks.Diagram t → Is marks.Wait u → IsDrawing g Wait (count - 1) ts d → IsWaitingRule count (t ∷ u ∷ ts) (diagram d)
 
   -- goal "by" rule

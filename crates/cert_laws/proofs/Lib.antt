@@ -41,3 +41,4 @@ pub mod MarksLimits
 pub mod Small
 pub mod MarksCount
 pub mod Trailing
+pub mod Closing

@@ -1,11 +1,12 @@
 -- The laws of certificate texts: what is spelled is read, so is what is written, and only what is spelled is read. What is held
 -- begins with bytes; the answer is that of next_block, and what is held behind it begins right behind them, whatever follows.
+-- An answer that doesn't ask for more is that of the whole text.
 use Rattle.std.specs.Prelude.{◌≡◌, ℕ, ◌+◌, ◌^◌, ◌<◌, Bool, true, false, nat_lt, ◌||◌, List, [], ◌∷◌, ◌++◌, length}
 use Rattle.st_certificate.specs.Tree.{Tree}
 use Rattle.cert_text.specs.Grammar.{Written, IsBlock, block_tokens, meaning}
 use Rattle.cert_text.specs.Held.{Held, answer_of, taken_from}
 use Rattle.cert_text.specs.Blank.{past_blanks}
-use Rattle.cert_text.specs.Answer.{block}
+use Rattle.cert_text.specs.Answer.{block, need}
 use Rattle.cert_text.specs.Spelling.{block_text}
 use Rattle.cert_laws.specs.Spelled.{Spells, IsHeader, IsFront}
 
@@ -56,3 +57,20 @@ ReadIsSpelled =
 -- what `trailing` takes as blank, a whole header too, is read as blank: behind it the answer is the same, at the same place
 abbrev pub TrailingIsBlank : Type 0
 TrailingIsBlank = (h : Held) → answer_of (past_blanks h) ≡ answer_of h
+
+-- what is held once the rest of the text has come
+abbrev pub closed : Held → List ℕ → Held
+closed h rest = record h { bytes = h.bytes ++ rest; finished = true }
+
+-- nothing follows a finished text
+abbrev pub MayFollow : Held → List ℕ → Type 0
+MayFollow h rest = h.finished ≡ true → rest ≡ []
+
+-- with the rest of the text the answer is the same, and behind it there is what was left, and the rest
+pub record Stays (h : Held) (rest : List ℕ) : Type 0 where
+  pub answer : answer_of (closed h rest) ≡ answer_of h
+  pub left : taken_from (closed h rest) ≡ closed (taken_from h) rest
+
+-- an answer that doesn't ask for more stays, whatever follows
+abbrev pub AnswersStay : Type 0
+AnswersStay = (h : Held) (rest : List ℕ) → MayFollow h rest → (answer_of h ≡ need → ⊥) → Stays h rest

@@ -1,6 +1,6 @@
 //! The laws. Each is a function that does nothing; its contract is the law.
 
-ghost use Rattle.cert_laws.specs.Laws.{SpelledIsRead, HeaderIsRead, WrittenIsRead, OneBlock, ReadIsSpelled, TrailingIsBlank};
+ghost use Rattle.cert_laws.specs.Laws.{SpelledIsRead, HeaderIsRead, WrittenIsRead, OneBlock, ReadIsSpelled, TrailingIsBlank, AnswersStay};
 ghost use Rattle.cert_laws.specs.Refused.{NeedIsExact, EndIsExact, LimitIsExact, MalformedIsExact, MarksAreLimits};
 
 /// Bytes that spell a block are read as that block, wherever they stand and whatever follows them.
@@ -31,6 +31,11 @@ pub fn read_is_spelled()
 /// What `trailing` takes as blank is read as blank.
 pub fn trailing_is_blank()
     ensures { TrailingIsBlank }
+{}
+
+/// An answer that doesn't ask for more is that of the whole text, whatever is still to come.
+pub fn answers_stay()
+    ensures { AnswersStay }
 {}
 
 /// More is needed exactly where the text is open and what is held begins a block.

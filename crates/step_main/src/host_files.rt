@@ -7,13 +7,23 @@ use st_outside::{Failed, Files};
 use std::io::{Read, Seek, SeekFrom};
 use std::{fs, io, rt};
 
-/// Real files, opened anew at each call. They tell no content. There is one count of faults for each of the first eight
-/// words, and one for all other names; a name's count is that of the first of these words that equals it.
+/// The file of a word, open, and the place up to which it was read.
+#[derive(Drop)]
+struct Reading<F: Drop> {
+    word: usize,
+    place: u64,
+    file: F,
+}
+
+/// Real files. The one that was read last stays open: where the next call goes on behind what was read, nothing is sought,
+/// so a pipe can be named. They tell no content. There is one count of faults for each of the first eight words, and one
+/// for all other names; a name's count is that of the first of these words that equals it.
 #[derive(Drop)]
 pub struct HostFiles<'a, R: rt::Files> {
     host: &'a R,
     words: &'a [String],
     counts: [u64; 9],
+    reading: Option<Reading<R::File>>,
 }
 
 impl<'a, R: rt::Files> HostFiles<'a, R> {
@@ -22,6 +32,7 @@ impl<'a, R: rt::Files> HostFiles<'a, R> {
             host,
             words,
             counts: [0; 9],
+            reading: None,
         }
     }
 }
@@ -46,12 +57,38 @@ fn place(words: &[String], name: &str) -> usize
     first_word(first, name).unwrap_or(8).min(8)
 }
 
-fn read_once<R: rt::Files>(host: &R, name: &str, from: u64, buf: &mut [u8]) -> io::Result<usize>
+fn opened<R: rt::Files>(
+    host: &R,
+    name: &str,
+    word: usize,
+    place: u64,
+) -> io::Result<Reading<R::File>> {
+    let mut file = fs::open(host, name)?;
+    if 0 < place {
+        file.seek(SeekFrom::Start(place))?;
+    }
+    Ok(Reading { word, place, file })
+}
+
+/// Reads on where the file that is open is the word's and stands at the place, and else opens it anew.
+fn read_from<R: rt::Files>(
+    host: &R,
+    reading: &mut Option<Reading<R::File>>,
+    name: &str,
+    word: usize,
+    from: u64,
+    buf: &mut [u8],
+) -> io::Result<usize>
     ensures { ReadsAtMost result buf.new }
 {
-    let mut file = fs::open(host, name)?;
-    file.seek(SeekFrom::Start(from))?;
-    file.read(buf)
+    let mut at = match reading.take() {
+        Some(at) if at.word == word && at.place == from && word < 8 => at,
+        _ => opened(host, name, word, from)?,
+    };
+    let count = at.file.read(buf)?;
+    at.place = at.place.saturating_add(count as u64);
+    *reading = Some(at);
+    Ok(count)
 }
 
 impl<R: rt::Files> Files for HostFiles<'_, R> {
@@ -60,10 +97,10 @@ impl<R: rt::Files> Files for HostFiles<'_, R> {
     ghost faults = { λ h name. slice_index h.counts (count_place (λ w. string_bytes w) h.words.now name) };
 
     fn read_at(&mut self, name: &str, from: u64, buf: &mut [u8]) -> Result<usize, Failed> {
-        match read_once(self.host, name, from, buf) {
+        let i = place(self.words, name);
+        match read_from(self.host, &mut self.reading, name, i, from, buf) {
             Ok(count) => Ok(count),
             Err(_) => {
-                let i = place(self.words, name);
                 self.counts[i] = self.counts[i].saturating_add(1);
                 Err(Failed)
             }

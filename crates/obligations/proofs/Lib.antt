@@ -1,0 +1,7 @@
+pub mod Modest
+pub mod Fitting
+pub mod Asking
+pub mod Citing
+pub mod Refusals
+pub mod Walking
+pub mod Valid

@@ -1,0 +1,17 @@
+pub mod Refusals
+pub mod Counting
+pub mod Inverses
+pub mod Unbroken
+pub mod Grouping
+pub mod Numbering
+pub mod Drawn
+pub mod Stepping
+pub mod Scripts
+pub mod Citing
+pub mod Fitting
+pub mod Speech
+pub mod Named
+pub mod FormsNamed
+pub mod FaultsNamed
+pub mod Sizes
+pub mod Lookups

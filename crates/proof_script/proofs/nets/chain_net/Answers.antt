@@ -1,0 +1,10 @@
+use Rattle.st_tokens.specs.Stream.{stream}
+use Rattle.proof_script.specs.Listing.{setting_view}
+use Rattle.proof_script.proofs.Unbroken.{chain_sound, only_memory, few_items}
+use Rattle.proof_script.proofs.nets.chain_net.Goals as goal
+
+pub chain-requires : goal.chain-requires
+chain-requires c = few_items _ c.in_ok-items.items.items (chain_sound (setting_view c.args.setting.now) _ (stream c.args.tokens.now) _ c.in_ok-items.ensures.reads).0
+
+pub made-requires : goal.made-requires
+made-requires c = only_memory _ _ (chain_sound (setting_view c.args.setting.now) _ (stream c.args.tokens.now) _ c.in_ok-items.ensures.reads).1 c.chain.result c.chain.ensures.made

@@ -1,0 +1,6 @@
+pub mod Names
+pub mod Sums
+pub mod Refused
+pub mod Conditions
+pub mod Searches
+pub mod Goals

@@ -1,0 +1,27 @@
+//! The texts that the program prints: refusals, conditions that aren't discharged, and what is proved.
+//!
+//! Each call appends a text to `out`. After want of memory part of it may have been appended.
+#![tactic(auto)]
+
+mod conditions;
+mod goals;
+mod naming;
+mod pushing;
+mod refusals;
+mod searches;
+mod sums;
+mod trees;
+mod usage;
+
+pub use conditions::{Reason, not_proved};
+pub use goals::{counted, proved, workload};
+pub use linear_prover::{PathStep, Shown, WideStage};
+pub use refusals::{FaultKind, FileRole, limited, read_fault, refused, trailing};
+pub use searches::{open, wide};
+pub use st_certificate::Certificate;
+pub use st_form::CondName;
+pub use st_program::NameTable;
+pub use st_tokens::LimitKind;
+pub use temporal_goals::Step;
+pub use trees::node_count;
+pub use usage::{Command, words_refused};

@@ -1,0 +1,137 @@
+//! The texts of files that aren't read, of texts that are refused, and of limits.
+
+ghost use Rattle.std.specs.Prelude.{◌≡◌, ◌++◌, OnOk};
+ghost use Rattle.step_report.specs.Refused.{role_text, read_fault_text, kind_text, refused_text, most_text, limit_text, trailing_text};
+
+use crate::pushing::{push_number, push_text};
+use st_memory::Memory;
+use st_tokens::LimitKind;
+
+/// What a file is to the run.
+#[derive(Clone, Copy, Debug, PartialEq, Eq)]
+pub enum FileRole {
+    Program,
+    Proof,
+    Certificates,
+}
+
+/// What is wrong at the first place where a text breaks a rule.
+#[derive(Clone, Copy, Debug, PartialEq, Eq)]
+pub enum FaultKind {
+    Syntax,
+    BadByte,
+    LongNumber,
+    Unknown,
+    Twice,
+    WrongType,
+    NonLinear,
+    TooLarge,
+    InputAssigned,
+    SelectHead,
+    SameTarget,
+    UnknownLemma,
+    NotInvariant,
+    WrongCount,
+    UnknownTransition,
+    UnknownNode,
+    Upward,
+    NoTerminal,
+    UnfairHelper,
+    NotCompassionate,
+    NoHelper,
+}
+
+fn role_text(role: FileRole) -> &'static [u8]
+    ensures { result.now ≡ role_text role }
+{
+    match role {
+        FileRole::Program => b"program".as_slice(),
+        FileRole::Proof => b"proof".as_slice(),
+        FileRole::Certificates => b"certificates".as_slice(),
+    }
+}
+
+/// Appends the text for a file that can't be read.
+pub fn read_fault(out: &mut Vec<u8>, role: FileRole) -> Result<(), Memory>
+    ensures { OnOk result (out.new.items ≡ out.old.items ++ read_fault_text role) }
+{
+    push_text(out, b"read fault: ")?;
+    push_text(out, role_text(role))?;
+    push_text(out, b"\n")
+}
+
+fn kind_text(kind: FaultKind) -> &'static [u8]
+    ensures { result.now ≡ kind_text kind }
+{
+    match kind {
+        FaultKind::Syntax => b"Syntax".as_slice(),
+        FaultKind::BadByte => b"BadByte".as_slice(),
+        FaultKind::LongNumber => b"LongNumber".as_slice(),
+        FaultKind::Unknown => b"Unknown".as_slice(),
+        FaultKind::Twice => b"Twice".as_slice(),
+        FaultKind::WrongType => b"WrongType".as_slice(),
+        FaultKind::NonLinear => b"NonLinear".as_slice(),
+        FaultKind::TooLarge => b"TooLarge".as_slice(),
+        FaultKind::InputAssigned => b"InputAssigned".as_slice(),
+        FaultKind::SelectHead => b"SelectHead".as_slice(),
+        FaultKind::SameTarget => b"SameTarget".as_slice(),
+        FaultKind::UnknownLemma => b"UnknownLemma".as_slice(),
+        FaultKind::NotInvariant => b"NotInvariant".as_slice(),
+        FaultKind::WrongCount => b"WrongCount".as_slice(),
+        FaultKind::UnknownTransition => b"UnknownTransition".as_slice(),
+        FaultKind::UnknownNode => b"UnknownNode".as_slice(),
+        FaultKind::Upward => b"Upward".as_slice(),
+        FaultKind::NoTerminal => b"NoTerminal".as_slice(),
+        FaultKind::UnfairHelper => b"UnfairHelper".as_slice(),
+        FaultKind::NotCompassionate => b"NotCompassionate".as_slice(),
+        FaultKind::NoHelper => b"NoHelper".as_slice(),
+    }
+}
+
+/// Appends the text for a program or a proof that breaks a rule at a place, a byte offset from 0.
+pub fn refused(out: &mut Vec<u8>, role: FileRole, kind: FaultKind, place: u64) -> Result<(), Memory>
+    ensures { OnOk result (out.new.items ≡ out.old.items ++ refused_text role kind place) }
+{
+    push_text(out, role_text(role))?;
+    push_text(out, b" refused: ")?;
+    push_text(out, kind_text(kind))?;
+    push_text(out, b" at ")?;
+    push_number(out, place)?;
+    push_text(out, b"\n")
+}
+
+fn most_text(kind: LimitKind) -> &'static [u8]
+    ensures { result.now ≡ most_text kind }
+{
+    match kind {
+        LimitKind::Text => b"Text 4194304".as_slice(),
+        LimitKind::Certificates => b"Certificates 268435456".as_slice(),
+        LimitKind::Variables => b"Variables 64".as_slice(),
+        LimitKind::Processes => b"Processes 16".as_slice(),
+        LimitKind::Statements => b"Statements 400".as_slice(),
+        LimitKind::Nesting => b"Nesting 32".as_slice(),
+        LimitKind::Nodes => b"Nodes 64".as_slice(),
+        LimitKind::Conditions => b"Conditions 20000".as_slice(),
+        LimitKind::Atoms => b"Atoms 2048".as_slice(),
+        LimitKind::Weight => b"Weight 16777216".as_slice(),
+        LimitKind::Paths => b"Paths 64".as_slice(),
+    }
+}
+
+/// Appends the text for a limit that is passed.
+pub fn limited(out: &mut Vec<u8>, kind: LimitKind) -> Result<(), Memory>
+    ensures { OnOk result (out.new.items ≡ out.old.items ++ limit_text kind) }
+{
+    push_text(out, b"limit: ")?;
+    push_text(out, most_text(kind))?;
+    push_text(out, b"\n")
+}
+
+/// Appends the text for certificates behind whose last block, at this byte from 0 on, something stands that isn't blank.
+pub fn trailing(out: &mut Vec<u8>, place: u64) -> Result<(), Memory>
+    ensures { OnOk result (out.new.items ≡ out.old.items ++ trailing_text place) }
+{
+    push_text(out, b"trailing text at ")?;
+    push_number(out, place)?;
+    push_text(out, b"\n")
+}

@@ -1,4 +1,6 @@
 pub mod Decided
+pub mod Exact
+pub mod Headline
 pub mod Named
 pub mod Posing
 pub mod Readied
@@ -6,5 +8,6 @@ pub mod Sources
 pub mod Stages
 pub mod Tabled
 pub mod TakenBlocks
+pub mod Tops
 pub mod Typed
 pub mod Verdicts

@@ -54,6 +54,10 @@ module _ (P : Names) where
   numbered_only n (goes_on x) h = absurd x
   numbered_only n (asks role name go) h = (h.0, λ bytes. numbered_only n (go bytes) (h.1 bytes))
 
+  pub only_workload : (n : ℕ) → AsksOnly P (then_plan (workload_conditions n) count_posed)
+  only_workload n =
+      only_then P count_posed (workload_conditions n) (only_then P (workload_posed n) (source_of_text (program_text n)) (only_source (program_text n)) (λ p. only_posed p (proof_text n))) (λ x. tt)
+
 only_for : (request : PlainRequest) → AsksOnly (NamesFile (Some request)) (plan_for request)
 only_for (checks a b c) =
     let P : Names = NamesFile (Some (checks a b c)) in
@@ -62,8 +66,7 @@ only_for (verifies a b) = let P : Names = NamesFile (Some (verifies a b)) in onl
 only_for (proves a b) = let P : Names = NamesFile (Some (proves a b)) in only_then P prove_posed (conditions_plan a b) (only_conditions P a b refl refl) (λ x. tt)
 only_for (makes n) =
     let P : Names = NamesFile (Some (makes n)) in
-    numbered_only P n (then_plan (workload_conditions n) count_posed)
-    (only_then P count_posed (workload_conditions n) (only_then P (workload_posed n) (source_of_text (program_text n)) (only_source P (program_text n)) (λ p. only_posed P p (proof_text n))) (λ x. tt))
+    numbered_only P n (then_plan (workload_conditions n) count_posed) (only_workload P n)
 only_for (traces p q s) = tt
 only_for (finds p) = tt
 

@@ -134,3 +134,6 @@ is_written over written p system steps spelled same script =
     let is = translation_is p system same in
     let here : All (StepOver p.variables p.locations) steps = over p.variables p.locations p.names (system_of p) (names_stand f.program p f.types) script.0 steps script.1 in
     written p.variables system (ap (λ s. s.truths) is) steps (subst (λ n. All (StepOver p.variables n) steps) (sym (ap (λ s. s.locations) is)) here)
+
+pub few_drafts : (p : Typed) (steps : List PlainStep) → passes_limit p steps ≡ None → length (conditions_of p steps) ≤ 20000
+few_drafts p steps few = omega (arith, few_appended [] (drafts p steps) (omega arith) few, length-map (drafts p steps) (λ d. d.condition))

@@ -9,6 +9,7 @@ pub mod Ready
 pub mod Refusals
 pub mod Request
 pub mod Source
+pub mod StatusZero
 pub mod Taking
 pub mod Verified
 pub mod Views

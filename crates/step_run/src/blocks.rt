@@ -1,6 +1,6 @@
 //! The blocks of a whole text of certificates, taken in their order.
 
-ghost use Rattle.std.specs.Prelude.{◌≡◌, ◌<◌, ◌≤◌, ◌^◌, true, length, List, Some, None, IfOk, IfErr, IfSome, IfNone};
+ghost use Rattle.std.specs.Prelude.{◌≡◌, ◌<◌, ◌≤◌, ◌++◌, ◌∷◌, [], length, List, Some, None, IfOk, OnOk, IfErr, IfSome, IfNone};
 ghost use Rattle.st_form.specs.Condition.{Implication};
 ghost use Rattle.farkas_check.specs.Problem.{Setting};
 ghost use Rattle.st_certificate.specs.Plain.{plain as tree_of};
@@ -37,6 +37,13 @@ fn block_of(next: NextBlock) -> Result<Block, Reason>
     }
 }
 
+fn add_block(blocks: &mut Vec<Block>, block: Block) -> Result<(), Memory>
+    ensures { OnOk result (blocks.new.items ≡ blocks.old.items ++ block ∷ []) }
+{
+    blocks.push(block)?;
+    Ok(())
+}
+
 /// Takes a block for each of so many conditions, as far as there are any.
 pub fn take_blocks(alloc: Global, count: usize, reader: &mut CertReader) -> Result<Taken, Memory>
     requires few { count ≤ 20000 }
@@ -52,7 +59,7 @@ pub fn take_blocks(alloc: Global, count: usize, reader: &mut CertReader) -> Resu
     let mut blocks = Vec::new(alloc);
     while blocks.len() < count {
         match block_of(reader.next_block()?) {
-            Ok(block) => blocks.push(block)?,
+            Ok(block) => add_block(&mut blocks, block)?,
             Err(reason) => {
                 return Ok(Taken {
                     blocks,

@@ -1,6 +1,6 @@
 //! The check of a text of certificates.
 
-ghost use Rattle.std.specs.Prelude.{◌≡◌, ◌<◌, ◌≤◌, ◌+◌, length, get_or, Some, None, IfOk, IfSome, IfNone};
+ghost use Rattle.std.specs.Prelude.{◌≡◌, ◌<◌, ◌≤◌, ◌+◌, length, take, get_or, Some, None, IfOk, IfSome, IfNone};
 ghost use Rattle.std.specs.Thread.{IsSync};
 ghost use Rattle.st_form.specs.Plain.{plain_condition};
 ghost use Rattle.st_form.specs.declared.conditions.Condition.{Condition};
@@ -39,6 +39,14 @@ fn reader_of(alloc: Global, text: &[u8]) -> Result<CertReader, Memory>
     Ok(reader)
 }
 
+/// So many conditions in front.
+fn front(conditions: &[Condition], count: usize) -> &[Condition]
+    requires { count ≤ length conditions.now }
+    ensures { result.now ≡ take count conditions.now }
+{
+    &conditions[..count]
+}
+
 /// The place of the first condition without a valid block, and why it has none. Where all have one, the reader holds what is
 /// left of the text.
 fn first_lacking<R: Threads + Sync, G: Gate + Sync>(
@@ -62,12 +70,21 @@ fn first_lacking<R: Threads + Sync, G: Gate + Sync>(
 {
     searchable_is_checkable();
     let taken = take_blocks(alloc, conditions.len(), reader)?;
-    let blocks = taken.blocks.as_slice();
-    let first = &conditions[..blocks.len()];
-    match check_all(rt, alloc, gate, workers, components, variables, first, blocks)? {
+    let count = taken.blocks.len();
+    let first = front(conditions, count);
+    match check_all(
+        rt,
+        alloc,
+        gate,
+        workers,
+        components,
+        variables,
+        first,
+        &taken.blocks,
+    )? {
         Some(place) => Ok(Some((place, Reason::NotValid))),
         None => match taken.lacking {
-            Some(reason) => Ok(Some((blocks.len(), reason))),
+            Some(reason) => Ok(Some((count, reason))),
             None => Ok(None),
         },
     }
@@ -77,7 +94,7 @@ fn first_lacking<R: Threads + Sync, G: Gate + Sync>(
 fn not_proved(alloc: Global, posed: &Posed, place: usize, reason: Reason) -> Result<Ended, Memory>
     requires place { place < length posed.now.conditions.items }
     requires ready { IsReady posed.now }
-    ensures outcome { IfOk result (λ e. (any : Condition) → ended_view e
+    ensures { IfOk result (λ e. (any : Condition) → ended_view e
         ≡ not_proved (posed_view posed.now) (place + 1) (plain_condition (get_or posed.now.conditions.items place any)) reason) }
 {
     let text = not_proved_text(alloc, posed, place, reason)?;

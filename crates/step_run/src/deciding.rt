@@ -69,12 +69,14 @@ fn valid_count(verdicts: &[Verdict]) -> usize
     ensures count { result ≡ prefix_len is_valid verdicts.now }
     ensures within { result ≤ length verdicts.now }
 {
-    for (place, verdict) in verdicts.iter().enumerate() {
+    let mut count = 0;
+    for verdict in verdicts {
         if !is_valid(verdict) {
-            return place;
+            return count;
         }
+        count += 1;
     }
-    verdicts.len()
+    count
 }
 
 /// The end of a run in which the condition at a place is left open.

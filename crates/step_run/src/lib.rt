@@ -6,6 +6,7 @@ mod blocks;
 mod checking;
 mod deciding;
 mod ends;
+pub mod laws;
 mod posed;
 mod proving;
 mod refusals;

@@ -98,11 +98,14 @@ fn obliged(
 
 /// The conditions of the script that a text spells over a program, or the run's end.
 pub fn posed_of_text(alloc: Global, source: Source, text: &[u8]) -> Result<Stage<Posed>, Memory>
-    requires spelled { IsSpelled (source_view source) }
-    requires short { length text.now < 2 ^ 32 }
+    requires { IsSpelled (source_view source) }
     ensures settles { IfOk result (Settles posed_view (posed_of_text (source_view source) text.now)) }
     ensures ready { IfOk result (λ s. IfOn s IsReady) }
 {
+    // No file is so long; of a longer text a step's number might not fit.
+    if text.len() >= 1 << 32 {
+        return Err(Memory);
+    }
     scripts_are_proofs();
     scripts_are_over();
     over_is_written();

@@ -72,11 +72,13 @@ fn push_blocks(alloc: Global, text: &mut Vec<u8>, verdicts: &[Verdict]) -> Resul
     requires few { length verdicts.now ≤ 20000 }
     ensures { OnOk result (IsWritten (text.old.items ++ blocks_text 1 (trees_in verdicts.now)) text.new.items) }
 {
-    for (place, verdict) in verdicts.iter().enumerate() {
+    let mut number = 1u32;
+    for verdict in verdicts {
         if text.len() > MOST {
             return Ok(());
         }
-        push_block(alloc, text, place as u32 + 1, verdict)?;
+        push_block(alloc, text, number, verdict)?;
+        number += 1;
     }
     Ok(())
 }

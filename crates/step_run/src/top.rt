@@ -11,6 +11,7 @@ ghost use Rattle.step_run.specs.Headline.{Headline, Exactly};
 ghost use Rattle.step_run.specs.Plans.{plan_of};
 ghost use Rattle.step_run.specs.Request.{NamesFile};
 
+use crate::laws::status_zero_is_exact;
 use crate::work::work;
 use st_outside::{Files, Gate, Sink};
 use std::alloc::Global;
@@ -53,6 +54,7 @@ pub fn step_run<R: Threads + Sync, F: Files, S: Sink, G: Gate + Sync>(
     ensures same { F.told files.new ≡ F.told files.old }
     ensures later { NoneFell (F.faults files.old) (F.faults files.new) }
 {
+    status_zero_is_exact();
     match work(rt, alloc, files, gate, words) {
         Err(_) => Status::Memory,
         Ok(ended) => match write_whole(out, ended.text.as_slice()) {

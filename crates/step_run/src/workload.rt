@@ -34,7 +34,7 @@ fn conditions(alloc: Global, n: u32) -> Result<Stage<Posed>, Memory>
 
 /// An end with the line of the workload before its text.
 fn with_number(alloc: Global, n: u32, ended: Ended) -> Result<Ended, Memory>
-    ensures { IfOk result (λ e. ended_view e ≡ with_number n (ended_view ended.entry)) }
+    ensures { IfOk result (λ e. ended_view e ≡ with_number n (ended_view ended)) }
 {
     let mut text = Vec::new(alloc);
     step_report::workload(&mut text, n)?;

@@ -10,11 +10,15 @@ use Rattle.step_run.specs.Views.{posed_view}
 use Rattle.step_run.proofs.Decided.{checked_decided}
 use Rattle.step_run.proofs.work.check.Goals as goal
 
-pub returns-in-Over-2-clause-follows : goal.returns-in-Over-2-clause-follows
-returns-in-Over-2-clause-follows g c =
+pub returns-in-Over-clause-follows : goal.returns-in-Over-clause-follows
+returns-in-Over-clause-follows g c =
+    follows_first _ (check_posed c.args.certificates.now) _ _ (conditions_plan c.args.program.now c.args.proof.now) _ (rw c.in-Over.is at c.in_ok-posed.ensures.comes)
+
+pub returns-clause-follows : goal.returns-clause-follows
+returns-clause-follows g c =
     let posed = rw c.in-On.is at c.in_ok-posed.ensures.comes in
     let x = posed_view c.in-On.posed in
-    let over = onward_over bytes_view _ _ _ _ _ (file_plan Certificates c.args.certificates.now) c.in_ok-ask.field-0 _ c.in-Over-2.is c.ask_conditions.ensures.same posed.0 c.in_ok-ask.ensures.comes in
+    let over = onward_over bytes_view _ _ _ _ _ (file_plan Certificates c.args.certificates.now) c.in_ok-text.field-0 _ c.in-Over-2.is c.ask_conditions.ensures.same posed.0 c.in_ok-text.ensures.comes in
     follows_then _ (check_posed c.args.certificates.now) _ _ (conditions_plan c.args.program.now c.args.proof.now) _ _ posed.1
     (follows_first _ (λ text. ends (checked x text)) _ _ (file_plan Certificates c.args.certificates.now) _ over)
 
@@ -22,7 +26,7 @@ pub returns-in-On-2-clause-follows : goal.returns-in-On-2-clause-follows
 returns-in-On-2-clause-follows g c =
     let posed = rw c.in-On.is at c.in_ok-posed.ensures.comes in
     let x = posed_view c.in-On.posed in
-    let text = onward_on bytes_view _ _ _ _ _ (file_plan Certificates c.args.certificates.now) c.in_ok-ask.field-0 _ c.in-On-2.is c.ask_conditions.ensures.same posed.0 c.in_ok-ask.ensures.comes in
+    let text = onward_on bytes_view _ _ _ _ _ (file_plan Certificates c.args.certificates.now) c.in_ok-text.field-0 _ c.in-On-2.is c.ask_conditions.ensures.same posed.0 c.in_ok-text.ensures.comes in
     let done = rw c.deref.ensures.value at c.checked.ensures in
     IfOk-weaker c.checked.result _ _
     (λ e h. follows_then _ (check_posed c.args.certificates.now) _ _ (conditions_plan c.args.program.now c.args.proof.now) _ e posed.1

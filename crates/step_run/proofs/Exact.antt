@@ -196,22 +196,22 @@ pub shows : (law : Laws) → SpelledIsRead → (told : Told) (request : Option P
 shows law spelled told None o Said e proved said = absurd (let same : IsProved words_refused = subst IsProved (sym e) proved in cc)
 shows law spelled told (Some (checks a b c)) o Said e proved said =
     each_told (told a) _ (λ pt ia. each_told (told b) _ (λ qt ib. each_told (told c) _ (λ ct ic. (
-      let s = check_shows law spelled told o a b c pt qt ct ia ib ic e proved in
-      let t = s.2 in
-      (t.0, t.1, t.2, t.3, subst Said t.4 said)
+    let s = check_shows law spelled told o a b c pt qt ct ia ib ic e proved in
+    let t = s.2 in
+    (t.0, t.1, t.2, t.3, subst Said t.4 said)
     ))))
 shows law spelled told (Some (verifies a b)) o Said e proved said =
     each_told (told a) _ (λ pt ia. each_told (told b) _ (λ qt ib. (
-      let s = search_shows law spelled told o a b pt qt (λ x ts. goals_proved x) verify_posed (λ x. refl) ia ib e proved in
-      let t = s.1 in
-      (t.0, t.1, t.2, t.3, t.4, subst Said (ap (λ (x : Outcome). x.text) t.5) said)
+    let s = search_shows law spelled told o a b pt qt (λ x ts. goals_proved x) verify_posed (λ x. refl) ia ib e proved in
+    let t = s.1 in
+    (t.0, t.1, t.2, t.3, t.4, subst Said (ap (λ (x : Outcome). x.text) t.5) said)
     )))
 shows law spelled told (Some (proves a b)) o Said e proved said =
     each_told (told a) _ (λ pt ia. each_told (told b) _ (λ qt ib. (
-      let s = search_shows law spelled told o a b pt qt (λ x ts. certificates ts) prove_posed (λ x. refl) ia ib e proved in
-      let t = s.1 in
-      let c = certificates_passed t.2 o t.5 proved in
-      (t.0, t.1, t.2, t.3, t.4, subst Said (ap (λ (x : Outcome). x.text) c.0) said)
+    let s = search_shows law spelled told o a b pt qt (λ x ts. certificates ts) prove_posed (λ x. refl) ia ib e proved in
+    let t = s.1 in
+    let c = certificates_passed t.2 o t.5 proved in
+    (t.0, t.1, t.2, t.3, t.4, subst Said (ap (λ (x : Outcome). x.text) c.0) said)
     )))
 shows law spelled told (Some (makes n)) o Said e proved said =
     let t = workload_shows law spelled told o n e proved in
@@ -225,21 +225,21 @@ exactly law spelled told None o e = λ proved. (let same : IsProved words_refuse
 exactly law spelled told (Some (checks a b c)) o e =
     each_told (told a) _ (λ pt ia. each_told (told b) _ (λ qt ib. each_told (told c) _ (λ ct ic. (
       (λ proved. (let s = check_shows law spelled told o a b c pt qt ct ia ib ic e proved in let t = s.2 in (s.0, s.1, (t.0, t.1, t.2)))),
-      (λ h. check_ends law spelled told o a b c pt qt ct h.2.0 h.2.1 ia ib ic h.0 h.1 h.2.2 e)
+      (λ h. check_ends law spelled told o a b c pt qt ct h.2.0 h.2.1 ia ib ic h.0 h.1 h.2.2 e),
     ))))
 exactly law spelled told (Some (verifies a b)) o e =
     each_told (told a) _ (λ pt ia. each_told (told b) _ (λ qt ib. (
       (λ proved. (let s = search_shows law spelled told o a b pt qt (λ x ts. goals_proved x) verify_posed (λ x. refl) ia ib e proved in let t = s.1 in (s.0, (t.0, t.1, t.2, t.3)))),
-      (λ h. search_ends law spelled told o a b pt qt (λ x ts. goals_proved x) verify_posed (λ x. refl) h.1.0 h.1.1 h.1.2 ia ib h.0 h.1.3 refl e)
+      (λ h. search_ends law spelled told o a b pt qt (λ x ts. goals_proved x) verify_posed (λ x. refl) h.1.0 h.1.1 h.1.2 ia ib h.0 h.1.3 refl e),
     )))
 exactly law spelled told (Some (proves a b)) o e =
     each_told (told a) _ (λ pt ia. each_told (told b) _ (λ qt ib. (
       (λ proved. (
-        let s = search_shows law spelled told o a b pt qt (λ x ts. certificates ts) prove_posed (λ x. refl) ia ib e proved in
-        let t = s.1 in
-        (s.0, (t.0, t.1, t.2, t.3, (certificates_passed t.2 o t.5 proved).1))
-      )),
-      (λ h. search_ends law spelled told o a b pt qt (λ x ts. certificates ts) prove_posed (λ x. refl) h.1.0 h.1.1 h.1.2 ia ib h.0 h.1.3 (short_ends h.1.2 h.1.4) e)
+          let s = search_shows law spelled told o a b pt qt (λ x ts. certificates ts) prove_posed (λ x. refl) ia ib e proved in
+          let t = s.1 in
+          (s.0, (t.0, t.1, t.2, t.3, (certificates_passed t.2 o t.5 proved).1))
+          )),
+      (λ h. search_ends law spelled told o a b pt qt (λ x ts. certificates ts) prove_posed (λ x. refl) h.1.0 h.1.1 h.1.2 ia ib h.0 h.1.3 (short_ends h.1.2 h.1.4) e),
     )))
 exactly law spelled told (Some (makes n)) o e =
     ((λ proved. (let t = workload_shows law spelled told o n e proved in (t.0, t.1, t.2, t.3))), (λ h. workload_ends law spelled told o n h.0 h.1 h.2 h.3 e))

@@ -229,14 +229,13 @@ module _ (law : Laws) where
 
   searched_each : (p : Typed) (ds : List Draft) → Each (DraftWithin (system_of p)) ds → Each (λ d. IsSearched p d) ds
   searched_each p [] h = tt
-  searched_each p (d ∷ ds) h =
-      (
-        record {
-          given = subst (λ n. AllForms (IsProper n) d.condition.given) (sym (variables_are p)) (proper (system_of p).truths (system_of p).locations d.condition.given h.0.given);
-          shown = subst (λ n. AllForms (IsProper n) d.condition.shown) (sym (variables_are p)) (proper (system_of p).truths (system_of p).locations d.condition.shown h.0.shown);
-        },
-        searched_each p ds h.1,
-      )
+  searched_each p (d ∷ ds) h = (
+    record {
+      given = subst (λ n. AllForms (IsProper n) d.condition.given) (sym (variables_are p)) (proper (system_of p).truths (system_of p).locations d.condition.given h.0.given);
+      shown = subst (λ n. AllForms (IsProper n) d.condition.shown) (sym (variables_are p)) (proper (system_of p).truths (system_of p).locations d.condition.shown h.0.shown);
+    },
+    searched_each p ds h.1,
+  )
 
   searched_drafts : (p : Typed) (steps : List PlainStep) → IsSpelled p → IsScript p steps → Each (λ d. IsSearched p d) (drafts p steps)
   unfolding drafts
@@ -253,11 +252,10 @@ module _ (law : Laws) where
   found_valid : (p : Typed) (ds : List Draft) (ts : List Tree) → Each (λ d. IsSearched p d) ds → AreFound (setting_of p) (map (λ d. d.condition) ds) ts → AllValid p (map (λ d. d.condition) ds)
   found_valid p [] ts proper found = tt
   found_valid p (d ∷ ds) [] proper found = absurd found
-  found_valid p (d ∷ ds) (t ∷ ts) proper found =
-      (
-        control_is p d.condition (law.valid (setting_of p) d.condition.given d.condition.shown t proper.0.given proper.0.shown found.0).holds,
-        found_valid p ds ts proper.1 found.1,
-      )
+  found_valid p (d ∷ ds) (t ∷ ts) proper found = (
+    control_is p d.condition (law.valid (setting_of p) d.condition.given d.condition.shown t proper.0.given proper.0.shown found.0).holds,
+    found_valid p ds ts proper.1 found.1,
+  )
 
   pub by_search : (p : Typed) (steps : List PlainStep) (ts : List Tree) → IsSpelled p → IsScript p steps → AreFound (setting_of p) (conditions_of p steps) ts → AllValid p (conditions_of p steps)
   by_search p steps ts spelled script found = found_valid p (drafts p steps) ts (searched_drafts p steps spelled script) found

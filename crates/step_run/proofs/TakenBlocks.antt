@@ -160,8 +160,8 @@ unfolding checked
 checked_some x [] place reason e k before text are same held lt found is = absurd (omega arith)
 checked_some x (c ∷ cs) place reason e k before text are same held lt found is =
     let here : checked_from (setting_of x.program) 1 x.conditions (whole_text text) ≡ refused (place + 1) (plain_condition (get_or (c ∷ cs) place c)) reason =
-        ap (λ (l : List Implication). checked_from (setting_of x.program) 1 l (whole_text text)) are
-        ∙ ap (λ (s : Setting). checked_from s 1 (plains (c ∷ cs)) (whole_text text)) (sym same) ∙ ap (checked_from k 1 (plains (c ∷ cs))) (sym held) ∙ found c in
+    ap (λ (l : List Implication). checked_from (setting_of x.program) 1 l (whole_text text)) are
+    ∙ ap (λ (s : Setting). checked_from s 1 (plains (c ∷ cs)) (whole_text text)) (sym same) ∙ ap (checked_from k 1 (plains (c ∷ cs))) (sym held) ∙ found c in
     is c ∙ ap (check_ended x) (sym here)
 
 pub checked_none : (x : Posed) (cs : List Condition) (e : Outcome) (k : Setting) (before now last : Held) (place : Option ℕ) (text : List ℕ) → x.conditions ≡ plains cs → k ≡ setting_of x.program → before ≡ whole_text text
@@ -169,6 +169,6 @@ pub checked_none : (x : Posed) (cs : List Condition) (e : Outcome) (k : Setting)
 unfolding checked
 checked_none x cs e k before now last place text are same held found there behind is =
     let here : checked_from (setting_of x.program) 1 x.conditions (whole_text text) ≡ all_valid now =
-        ap (λ (l : List Implication). checked_from (setting_of x.program) 1 l (whole_text text)) are ∙ ap (λ (s : Setting). checked_from s 1 (plains cs) (whole_text text)) (sym same)
-        ∙ ap (checked_from k 1 (plains cs)) (sym held) ∙ found in
+    ap (λ (l : List Implication). checked_from (setting_of x.program) 1 l (whole_text text)) are ∙ ap (λ (s : Setting). checked_from s 1 (plains cs) (whole_text text)) (sym same)
+    ∙ ap (checked_from k 1 (plains cs)) (sym held) ∙ found in
     is ∙ ap (ending x) (there ∙ ap first_place behind) ∙ ap (check_ended x) (sym here)

@@ -90,12 +90,12 @@ module _ (k : Setting) where
       record {
         more = rest.more;
         is = λ any. (
-          let here = get_or cs (prefix_len is_valid vs) any in
-          ap (by_verdict n (plain_condition c) first) (verdict_is k c w a) ∙ by_valid n (plain_condition c) first w is
-          ∙ ap (found_before (tree_in w)) (rest.is any) ∙ passes (n + 1 + prefix_len is_valid vs) (plain_condition here) rest.more (tree_in w) v f
-          ∙ ap (λ (m : ℕ). by_verdict m (plain_condition here) rest.more (plain_verdict v)) sum
-          ∙ ap (λ (m : ℕ). by_verdict (n + place) (plain_condition (get_or (c ∷ cs) m any)) rest.more (plain_verdict v)) (sym at)
-        );
+            let here = get_or cs (prefix_len is_valid vs) any in
+            ap (by_verdict n (plain_condition c) first) (verdict_is k c w a) ∙ by_valid n (plain_condition c) first w is
+            ∙ ap (found_before (tree_in w)) (rest.is any) ∙ passes (n + 1 + prefix_len is_valid vs) (plain_condition here) rest.more (tree_in w) v f
+            ∙ ap (λ (m : ℕ). by_verdict m (plain_condition here) rest.more (plain_verdict v)) sum
+            ∙ ap (λ (m : ℕ). by_verdict (n + place) (plain_condition (get_or (c ∷ cs) m any)) rest.more (plain_verdict v)) (sym at)
+            );
       }
 
   none_valid : (n : ℕ) (c : Condition) (cs : List Condition) (w : Verdict) (vs : List Verdict) (place : ℕ) (v : Verdict) → IsAnswer k c w → w ≡ v → place ≡ 0 → Breaks n (c ∷ cs) (w ∷ vs) place v
@@ -176,8 +176,7 @@ settled_by : (x : Posed) (c : Condition) (cs : List Condition) (vs : List Verdic
 settled_by x c cs vs place v (On u) are a is there ends = absurd (no_truth (sym (not_valid v vs place is there) ∙ ends))
 settled_by x c cs vs place v (Over ended) are a is there ends =
     let b = breaks_at (setting_of x.program) 1 (c ∷ cs) vs place v a (sym is) (sym there) (not_valid v vs place is there) in
-    let sum : place + 1 ≡ 1 + place = omega arith in
-    (
+    let sum : place + 1 ≡ 1 + place = omega arith in (
       λ all. ends.0 b.more all ∙ ap (λ (m : ℕ). search_ended x all (by_verdict m (plain_condition (get_or (c ∷ cs) place c)) b.more (plain_verdict v))) sum
           ∙ ap (search_ended x all) (sym (ap (verified_from (setting_of x.program) 1) are ∙ b.is c)),
       ends.1,
@@ -201,21 +200,19 @@ not_decided ended n text is = subst (λ (s : Status). IsDecided s) (sym (ap (λ 
 
 pub open_ends : (x : Posed) (n : ℕ) (c : Implication) (path : Vec PathStep Global) (steps : List PathStep) (state : Option Shown) (v : Verdict) (ended : Ended) → v ≡ Open path state → steps ≡ path.items
     → ended_view ended ≡ undecided x n c Reasons.Open (open_text x.program.names (plain_path steps) (option_map plain_shown state)) → EndsAt x n c v (Over ended)
-open_ends x n c path steps state v ended is same e =
-    (
-      λ more all. e ∙ ap (λ (l : List PathStep). undecided x n c Reasons.Open (open_text x.program.names (plain_path l) (option_map plain_shown state))) same
-          ∙ ap (λ (w : Verdict). search_ended x all (by_verdict n c more (plain_verdict w))) (sym is),
-      not_decided ended n _ e,
-    )
+open_ends x n c path steps state v ended is same e = (
+  λ more all. e ∙ ap (λ (l : List PathStep). undecided x n c Reasons.Open (open_text x.program.names (plain_path l) (option_map plain_shown state))) same
+      ∙ ap (λ (w : Verdict). search_ended x all (by_verdict n c more (plain_verdict w))) (sym is),
+  not_decided ended n _ e,
+)
 
 pub wide_ends : (x : Posed) (n : ℕ) (c : Implication) (path : Vec PathStep Global) (steps : List PathStep) (stage : WideStage) (v : Verdict) (ended : Ended) → v ≡ Wide path stage → steps ≡ path.items
     → ended_view ended ≡ undecided x n c Reasons.Wide (wide_text x.program.names (plain_path steps) stage) → EndsAt x n c v (Over ended)
-wide_ends x n c path steps stage v ended is same e =
-    (
-      λ more all. e ∙ ap (λ (l : List PathStep). undecided x n c Reasons.Wide (wide_text x.program.names (plain_path l) stage)) same
-          ∙ ap (λ (w : Verdict). search_ended x all (by_verdict n c more (plain_verdict w))) (sym is),
-      not_decided ended n _ e,
-    )
+wide_ends x n c path steps stage v ended is same e = (
+  λ more all. e ∙ ap (λ (l : List PathStep). undecided x n c Reasons.Wide (wide_text x.program.names (plain_path l) stage)) same
+      ∙ ap (λ (w : Verdict). search_ended x all (by_verdict n c more (plain_verdict w))) (sym is),
+  not_decided ended n _ e,
+)
 
 -- one verdict more
 pub rest_of : (vs : List Verdict) (i : ℕ) (v : Verdict) → i < length vs → v ≡ get_or vs i v → drop i vs ≡ v ∷ drop (i + 1) vs

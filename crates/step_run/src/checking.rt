@@ -14,6 +14,7 @@ ghost use Rattle.step_run.specs.Views.{posed_view};
 ghost use Rattle.step_run.specs.Ready.{IsReady};
 
 use crate::blocks::take_blocks;
+use crate::crew::crew;
 use crate::posed::Posed;
 use crate::reports::{goals_proved, not_proved_text, variables_of};
 use cert_text::CertReader;
@@ -66,7 +67,7 @@ fn first_lacking<R: Threads + Sync, G: Gate + Sync>(
     ensures none { IfOk result (λ o. IfNone o (checked_from (setting components.now variables.now) 1 (plains conditions.now) reader.old ≡ all_valid reader.new)) }
     ensures some { IfOk result (λ o. IfSome o (λ x. (x.0 < length conditions.now)
         × ((any : Condition) → checked_from (setting components.now variables.now) 1 (plains conditions.now) reader.old
-            ≡ refused (x.0 + 1) (plain_condition (get_or conditions.now x.0 any)) x.1))) }
+        ≡ refused (x.0 + 1) (plain_condition (get_or conditions.now x.0 any)) x.1))) }
 {
     searchable_is_checkable();
     let taken = take_blocks(alloc, conditions.len(), reader)?;
@@ -141,7 +142,7 @@ pub fn checked<R: Threads + Sync, G: Gate + Sync>(
         rt,
         alloc,
         gate,
-        workers,
+        crew(workers, conditions),
         &components,
         variables,
         conditions,

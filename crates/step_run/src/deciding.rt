@@ -17,6 +17,7 @@ ghost use Rattle.step_run.specs.Deciding.{is_valid, EndsAt, Settled};
 ghost use Rattle.step_run.specs.Views.{source_view, posed_view};
 ghost use Rattle.step_run.specs.Ready.{IsReady};
 
+use crate::crew::crew;
 use crate::posed::Posed;
 use crate::reports::{not_proved_text, variable_count, variables_of};
 use control_facts::components;
@@ -47,7 +48,7 @@ pub fn decided<R: Threads + Sync, G: Gate + Sync>(
         rt,
         alloc,
         gate,
-        workers,
+        crew(workers, &posed.conditions),
         &components,
         variables,
         &posed.conditions,
@@ -156,11 +157,7 @@ fn at_verdict(
 }
 
 /// Goes on where all conditions are valid, and else ends at the first that isn't.
-pub fn all_valid(
-    alloc: Global,
-    posed: &Posed,
-    verdicts: &[Verdict],
-) -> Result<Stage<()>, Memory>
+pub fn all_valid(alloc: Global, posed: &Posed, verdicts: &[Verdict]) -> Result<Stage<()>, Memory>
     requires ready { IsReady posed.now }
     requires answers { AreAnswers (setting_of (source_view posed.now.source)) posed.now.conditions.items verdicts.now }
     ensures { IfOk result (λ s. Settled (posed_view posed.now) verdicts.now s) }

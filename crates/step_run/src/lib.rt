@@ -4,6 +4,7 @@
 
 mod blocks;
 mod checking;
+mod crew;
 mod deciding;
 mod ends;
 pub mod laws;

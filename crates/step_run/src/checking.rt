@@ -142,7 +142,7 @@ pub fn checked<R: Threads + Sync, G: Gate + Sync>(
         rt,
         alloc,
         gate,
-        crew(workers, conditions),
+        crew(workers, posed),
         &components,
         variables,
         conditions,

@@ -48,7 +48,7 @@ pub fn decided<R: Threads + Sync, G: Gate + Sync>(
         rt,
         alloc,
         gate,
-        crew(workers, &posed.conditions),
+        crew(workers, posed),
         &components,
         variables,
         &posed.conditions,

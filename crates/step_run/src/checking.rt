@@ -66,11 +66,11 @@ fn first_lacking<R: Threads + Sync, G: Gate + Sync>(
     ensures none { IfOk result (λ o. IfNone o (checked_from (setting components.now variables.now) 1 (plains conditions.now) reader.old ≡ all_valid reader.new)) }
     ensures some { IfOk result (λ o. IfSome o (λ x. (x.0 < length conditions.now)
         × ((any : Condition) → checked_from (setting components.now variables.now) 1 (plains conditions.now) reader.old
-            ≡ refused (x.0 + 1) (plain_condition (get_or conditions.now x.0 any)) x.1))) }
+        ≡ refused (x.0 + 1) (plain_condition (get_or conditions.now x.0 any)) x.1))) }
 {
     searchable_is_checkable();
     let taken = take_blocks(alloc, conditions.len(), reader)?;
-    let count = taken.blocks.len();
+    let count = taken.found.len();
     let first = front(conditions, count);
     match check_all(
         rt,
@@ -80,7 +80,7 @@ fn first_lacking<R: Threads + Sync, G: Gate + Sync>(
         components,
         variables,
         first,
-        &taken.blocks,
+        &taken.found,
     )? {
         Some(place) => Ok(Some((place, Reason::NotValid))),
         None => match taken.lacking {

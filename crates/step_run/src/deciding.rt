@@ -156,11 +156,7 @@ fn at_verdict(
 }
 
 /// Goes on where all conditions are valid, and else ends at the first that isn't.
-pub fn all_valid(
-    alloc: Global,
-    posed: &Posed,
-    verdicts: &[Verdict],
-) -> Result<Stage<()>, Memory>
+pub fn all_valid(alloc: Global, posed: &Posed, verdicts: &[Verdict]) -> Result<Stage<()>, Memory>
     requires ready { IsReady posed.now }
     requires answers { AreAnswers (setting_of (source_view posed.now.source)) posed.now.conditions.items verdicts.now }
     ensures { IfOk result (λ s. Settled (posed_view posed.now) verdicts.now s) }

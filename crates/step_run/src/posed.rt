@@ -73,12 +73,7 @@ fn passed(alloc: Global, fault: ObligationFault) -> Result<Ended, Memory>
 }
 
 /// The conditions of a script, or the run's end where they pass a limit.
-fn obliged(
-    alloc: Global,
-    source: Source,
-    fts: &Fts,
-    script: Script,
-) -> Result<Stage<Posed>, Memory>
+fn obliged(alloc: Global, source: Source, fts: &Fts, script: Script) -> Result<Stage<Posed>, Memory>
     requires spelled { IsSpelled (source_view source) }
     requires system { plain_system fts.now ≡ system_of (source_view source) }
     requires proof { IsProof (plain_system fts.now) (plain_script script) }

@@ -1,15 +1,15 @@
 -- Where only blanks are left: nothing stands behind what counts as blank.
-use Rattle.std.proofs.Common.{◌≡◌, ℕ, suc, ◌+◌, ◌^◌, ◌<◌, Bool, true, false, cond, ◌&&◌, ◌||◌, not, List, [], ◌∷◌, ◌++◌, length, drop, refl, sym, ap, ◌∙◌, arith, codes, nat_lt, nat_eq, ◌==◌, one-add, subst, append_assoc}
-use Rattle.std.specs.Prelude.{if◌then◌else◌, Option, Some, None}
+use Rattle.std.proofs.Common.{◌≡◌, ℕ, suc, ◌+◌, ◌^◌, ◌<◌, Bool, true, false, cond, ◌&&◌, ◌||◌, not, List, [], ◌∷◌, ◌++◌, length, drop, refl, sym, ap, ◌∙◌, arith, codes, nat_eq, ◌==◌, one-add}
+use Rattle.std.specs.Prelude.{Some, None}
 use Rattle.std.specs.List.{starts_with}
-use Rattle.std.proofs.lemmas.List.{length-append, drop-drop, nil_from_length}
+use Rattle.std.proofs.lemmas.List.{drop-drop, nil_from_length}
 use Rattle.std.proofs.lemmas.Bool.Decides.{nat_tests}
 use Rattle.cert_text.specs.Letters.{is_blank}
 use Rattle.cert_text.specs.Blank.{blank_len, byte_behind, header_len, front_len, past, may_begin, past_blanks, first_place}
 use Rattle.cert_text.specs.Answer.{no_more}
 use Rattle.cert_text.specs.Held.{Held, answer_of}
-use Rattle.cert_laws.specs.Spelled.{AreAll, IsHeader, IsFront}
-use Rattle.cert_laws.specs.Refused.{IsBlankOnly, IsEnded}
+use Rattle.cert_laws.specs.Spelled.{AreAll, IsFront}
+use Rattle.cert_laws.specs.Refused.{IsBlankOnly}
 use Rattle.cert_laws.proofs.HeaderRead.{regrouped}
 use Rattle.cert_laws.proofs.Trailing.{trailing-same}
 use Rattle.cert_laws.proofs.Answers.{end_is_true}
@@ -37,7 +37,7 @@ module _ (b from : ℕ) (bs blanks more : List ℕ) (is : drop from bs ≡ blank
   byte_found =
       let len : blank_len (drop from bs) ≡ length blanks = ap blank_len is ∙ blanks_before blanks b more all other in
       let there : drop (from + blank_len (drop from bs)) bs ≡ b ∷ more =
-          ap (λ n. drop (from + n) bs) len ∙ sym (drop-drop (length blanks) from bs) ∙ ap (drop (length blanks)) is ∙ drop_front blanks (b ∷ more) in
+      ap (λ n. drop (from + n) bs) len ∙ sym (drop-drop (length blanks) from bs) ∙ ap (drop (length blanks)) is ∙ drop_front blanks (b ∷ more) in
       let test : starts_with nat_eq (drop (from + blank_len (drop from bs)) bs) (b ∷ []) ≡ true = ap (λ l. starts_with nat_eq l (b ∷ [])) there ∙ here in
       ap (λ c. cond c (from + blank_len (drop from bs) + 1) 0) test ∙ ap (λ n. from + n + 1) len
 
@@ -68,7 +68,7 @@ header_found between behind more a z =
     let m = 7 + length between + 1 in
     let end : byte_behind 59 m bs ≡ m + length behind + 1 = byte_found 59 m bs behind more rest z refl refl in
     let value : header_len bs ≡ m + length behind + 1 =
-        ap (λ k. cond (k == 0) 0 (byte_behind 59 k bs)) two ∙ ap (λ c. cond c 0 (byte_behind 59 m bs)) (not_zero (7 + length between)) ∙ end in
+    ap (λ k. cond (k == 0) 0 (byte_behind 59 k bs)) two ∙ ap (λ c. cond c 0 (byte_behind 59 m bs)) (not_zero (7 + length between)) ∙ end in
     record {
       some = ap (λ k. k == 0) value ∙ not_zero (m + length behind);
       left = ap (λ k. drop k bs) value ∙ byte_left 59 m bs behind more rest z refl refl;
@@ -109,10 +109,10 @@ header_front front rest more v word is other all head blank =
     let behind : drop (blank_len bs) bs ≡ rest = ap (λ n. drop n bs) len ∙ drop_front front rest in
     let k = header_len rest in
     let by_rest : front_len true bs ≡ cond (k == 0) (blank_len bs, false) (blank_len bs + k + blank_len (drop k rest), true) =
-        ap (λ r. cond (header_len r == 0) (blank_len bs, false) (blank_len bs + header_len r + blank_len (drop (header_len r) r), true)) behind in
+    ap (λ r. cond (header_len r == 0) (blank_len bs, false) (blank_len bs + header_len r + blank_len (drop (header_len r) r), true)) behind in
     let value : (front_len true bs).0 ≡ length front + k + length more =
-        ap (λ p. p.0) by_rest ∙ ap (λ c. (cond {A = ℕ × Bool} c (blank_len bs, false) (blank_len bs + k + blank_len (drop k rest), true)).0) head.some
-        ∙ ap (λ n. n + k + blank_len (drop k rest)) len ∙ ap (λ r. length front + k + blank_len r) head.left ∙ ap (λ n. length front + k + n) (all_blanks more blank) in
+    ap (λ p. p.0) by_rest ∙ ap (λ c. (cond {A = ℕ × Bool} c (blank_len bs, false) (blank_len bs + k + blank_len (drop k rest), true)).0) head.some
+    ∙ ap (λ n. n + k + blank_len (drop k rest)) len ∙ ap (λ r. length front + k + blank_len r) head.left ∙ ap (λ n. length front + k + n) (all_blanks more blank) in
     let sum : length front + k + length more ≡ length front + (k + length more) = omega arith in
     ap (λ n. drop n bs) (value ∙ sum) ∙ sym (drop-drop (k + length more) (length front) bs) ∙ ap (drop (k + length more)) (drop_front front rest)
     ∙ sym (drop-drop (length more) k rest) ∙ ap (drop (length more)) head.left ∙ drop_whole more
@@ -133,8 +133,8 @@ blank_ends h (header, head, blanks, split, front, all) = by header front split w
       let may : may_begin h ≡ true = ap (λ c. c && not h.second) f.0 ∙ ap not f.1 in
       let bytes : h.bytes ≡ head_is.0 ++ (codes "version" ++ word) = s ∙ ap (λ l. l ++ blanks) head_is.3 ∙ regrouped head_is.0 head_is.1 head_is.2 blanks in
       none_left (past_blanks h) (
-        past_bytes (front_len (may_begin h) h.bytes) h ∙ ap (λ c. drop (front_len c h.bytes).0 h.bytes) may ∙ ap (λ bs. drop (front_len true bs).0 bs) bytes
-        ∙ header_front head_is.0 (codes "version" ++ word) blanks 118 (codes "ersion" ++ word) refl refl head_is.4 (header_found head_is.1 head_is.2 blanks head_is.5 head_is.6) all
+      past_bytes (front_len (may_begin h) h.bytes) h ∙ ap (λ c. drop (front_len c h.bytes).0 h.bytes) may ∙ ap (λ bs. drop (front_len true bs).0 bs) bytes
+      ∙ header_front head_is.0 (codes "version" ++ word) blanks 118 (codes "ersion" ++ word) refl refl head_is.4 (header_found head_is.1 head_is.2 blanks head_is.5 head_is.6) all
       )
 
 -- nothing is left behind blanks

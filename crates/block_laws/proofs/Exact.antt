@@ -1,5 +1,5 @@
 -- The blocks that the function takes are those of the grammar.
-use Rattle.std.proofs.Common.{◌≡◌, ℕ, suc, ◌+◌, ◌^◌, ◌<◌, Bool, true, false, cond, ◌||◌, List, [], ◌∷◌, ◌++◌, length, refl, sym, ap, ◌∙◌, arith, subst}
+use Rattle.std.proofs.Common.{◌≡◌, ℕ, ◌+◌, ◌^◌, ◌<◌, Bool, true, false, cond, ◌||◌, List, [], ◌∷◌, ◌++◌, length, refl, sym, ap, ◌∙◌, arith, subst}
 use Rattle.std.specs.Prelude.{Option, Some, None, ◌↔◌}
 use Rattle.st_form.specs.Condition.{Implication}
 use Rattle.st_certificate.specs.Tree.{Tree}
@@ -16,7 +16,7 @@ use Rattle.cert_laws.proofs.ReadBack.{read-spelled}
 use Rattle.step_report.specs.declared.conditions.Reason.{Reason}
 use Rattle.step_report.specs.declared.conditions.Reason.TheVariants.{NotValid}
 use Rattle.block_laws.specs.Tests.{is_certificate}
-use Rattle.block_laws.specs.Checked.{tree_tested, reason_of, block_tested, behind_block, block_judged, Checked, all_valid, checked_from}
+use Rattle.block_laws.specs.Checked.{reason_of, block_tested, behind_block, block_judged, all_valid, checked_from}
 use Rattle.block_laws.specs.Blocks.{HasBlock, behind, HasBlocks}
 use Rattle.block_laws.specs.Laws.{AllDischarged}
 use Rattle.block_laws.proofs.Ends.{blank_ends, ends_blank}

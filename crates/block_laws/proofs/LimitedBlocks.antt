@@ -1,5 +1,5 @@
 -- A block that was read is within the limits of certificates.
-use Rattle.std.proofs.Common.{◌≡◌, ℕ, Bool, true, false, cond, Option, Some, None, refl, ap, subst, sym}
+use Rattle.std.proofs.Common.{◌≡◌, ℕ, Bool, true, false, cond, Option, Some, None, refl, ap, subst}
 use Rattle.st_certificate.specs.Tree.{Tree}
 use Rattle.farkas_check.specs.Limits.{IsLimited}
 use Rattle.cert_text.specs.declared.scan.Word.{Word}

@@ -1,16 +1,14 @@
 -- What blocks that wait for their check come to.
-use Rattle.std.proofs.Common.{◌≡◌, ℕ, suc, zero, ◌+◌, ◌<◌, ◌≤◌, List, [], ◌∷◌, ◌++◌, length, map, take, drop, drop-cons, get_or, refl, sym, ◌∙◌, ap, arith, subst, Bool, true, false, cond, add-one, length-take}
-use Rattle.std.specs.Prelude.{Option, Some, None, slice_get, IsTrue}
-use Rattle.std.proofs.lemmas.List.{take-append-drop}
+use Rattle.std.proofs.Common.{◌≡◌, ℕ, suc, zero, ◌+◌, ◌<◌, ◌≤◌, List, [], ◌∷◌, ◌++◌, length, take, drop, get_or, refl, sym, ◌∙◌, ap, arith, subst, Bool, true, false, cond, length-take}
+use Rattle.std.specs.Prelude.{Some, None, slice_get}
 use Rattle.st_form.specs.Condition.{Implication}
 use Rattle.st_form.specs.Plain.{plain_condition}
 use Rattle.st_form.specs.declared.conditions.Condition.{Condition}
 use Rattle.st_certificate.specs.Tree.{Tree}
 use Rattle.st_certificate.specs.Plain.{plain as tree_of}
 use Rattle.farkas_check.specs.Problem.{Setting}
-use Rattle.farkas_check.specs.Valid.{IsCertificate}
 use Rattle.cert_text.specs.declared.reader.Block.{Block}
-use Rattle.cert_text.specs.Answer.{Answer, block}
+use Rattle.cert_text.specs.Answer.{block}
 use Rattle.cert_text.specs.Held.{Held, answer_of, taken_from}
 use Rattle.discharge.specs.First.{Proves, ProveBefore, Fails, IsFirstFailing}
 use Rattle.step_report.specs.declared.conditions.Reason.{Reason}
@@ -66,7 +64,7 @@ module _ (k : Setting) where
       ∙ ap (λ (m : ℕ). refused m (plain_condition y) NotValid) (omega arith)
   pend_fails n (y ∷ ys) (b ∷ bs) (suc i) zs h any valid fails =
       let rest = pend_fails (n + 1) ys bs i zs h any (λ j c x below there block_there. valid (suc j) c x (omega (arith, below)) there block_there)
-          (record { condition = fails.condition; block = fails.block; condition_there = fails.condition_there; block_there = fails.block_there; refused = fails.refused }) in
+      (record { condition = fails.condition; block = fails.block; condition_there = fails.condition_there; block_there = fails.block_there; refused = fails.refused }) in
       let sum : n + 1 + i ≡ n + suc i = omega arith in
       ap (block_judged n (plain_condition y) (pending_from k (n + 1) (plains ys ++ zs) (trees bs) h)) (proved_here y b (valid 0 y b (omega arith) refl refl))
       ∙ rest ∙ ap (λ (m : ℕ). refused m (plain_condition (get_or ys i any)) NotValid) sum

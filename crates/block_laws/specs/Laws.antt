@@ -1,5 +1,5 @@
 -- The laws of blocks.
-use Rattle.std.specs.Prelude.{◌≡◌, ◌↔◌, ℕ, ◌+◌, ◌^◌, ◌<◌, true, List, length, None, IsTrue}
+use Rattle.std.specs.Prelude.{◌≡◌, ◌↔◌, ℕ, ◌+◌, ◌^◌, ◌<◌, true, List, length, None}
 use Rattle.st_form.specs.Condition.{Implication}
 use Rattle.st_form.specs.Formula.{Formula}
 use Rattle.st_certificate.specs.Tree.{Tree}
@@ -10,7 +10,7 @@ use Rattle.cert_text.specs.Answer.{block}
 use Rattle.cert_text.specs.Blank.{first_place, past_blanks}
 use Rattle.cert_text.specs.Held.{Held, answer_of}
 use Rattle.block_laws.specs.Tests.{is_certificate}
-use Rattle.block_laws.specs.Checked.{Checked, all_valid, checked_from}
+use Rattle.block_laws.specs.Checked.{all_valid, checked_from}
 use Rattle.block_laws.specs.Blocks.{HasBlocks}
 
 -- the test of certificates is their validity

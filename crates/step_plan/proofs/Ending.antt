@@ -8,7 +8,7 @@ use Rattle.step_plan.specs.declared.ended.Ended.{Ended}
 use Rattle.step_plan.specs.declared.status.Status.{Status}
 use Rattle.step_plan.specs.declared.status.Status.TheVariants.{ReadFault, WriteFault, Memory}
 use Rattle.step_plan.specs.Outcome.{Outcome, ended_view, IsDecided}
-use Rattle.step_plan.specs.Plan.{Told, Counts, Plan, outcome_of, ComesTo, Plain, Faulted, Follows}
+use Rattle.step_plan.specs.Plan.{Told, Counts, Plan, outcome_of, ComesTo, Faulted, Follows}
 use Rattle.step_plan.specs.Ending.{Names, UnlessFault, IsReached, IsReadFault, IsOutput, Written, Causes, NothingFailed, EndsHonestly}
 use Rattle.step_plan.proofs.Follow.{one_end}
 

@@ -1,5 +1,5 @@
 -- How a run goes on along a plan.
-use Rattle.std.proofs.Common.{◌≡◌, inl, inr, ⊎_elim, ℕ, ◌≤◌, ◌<◌, List, length, refl, sym, subst, ◌∙◌, ap, arith, true, false}
+use Rattle.std.proofs.Common.{◌≡◌, inl, inr, ℕ, ◌≤◌, List, length, refl, sym, subst, arith, true, false}
 use Rattle.std.specs.Prelude.{Option, Some, None, IfSome, option_and_then, if◌then◌else◌, nat_lt}
 use Rattle.std.proofs.lemmas.Bool.Decides.{nat_tests}
 use Rattle.step_plan.specs.declared.ended.Ended.{Ended}
@@ -9,7 +9,7 @@ use Rattle.step_plan.specs.declared.stage.Stage.TheVariants.{On, Over}
 use Rattle.step_plan.specs.Reading.{AreTold, IsPast}
 use Rattle.step_plan.specs.Limits.{length_limit, too_long}
 use Rattle.step_plan.specs.Outcome.{Outcome, ended_view, IsDecided}
-use Rattle.step_plan.specs.Plan.{Told, Counts, Plan, ends, goes_on, asks, then_plan, file_end, LeadsTo, EndsIn, ComesTo, outcome_of, Plain, Faulted, Follows}
+use Rattle.step_plan.specs.Plan.{Told, Counts, Plan, ends, goes_on, asks, then_plan, LeadsTo, EndsIn, ComesTo, outcome_of, Follows}
 use Rattle.step_plan.specs.Stage.{Comes, Settles}
 
 -- the end, the value and the file asked for of a first part and of what follows it

@@ -1,5 +1,5 @@
 -- A plan asks only for files that may be asked for.
-use Rattle.std.proofs.Common.{◌≡◌, inl, inr, ◌⊎◌, List, ℕ, subst}
+use Rattle.std.proofs.Common.{inl, inr, List, ℕ, subst}
 use Rattle.step_report.specs.declared.refusals.FileRole.{FileRole}
 use Rattle.step_plan.specs.Ending.{Names}
 use Rattle.step_plan.specs.Plan.{Told, Plan, ends, goes_on, asks, then_plan, ComesTo}

@@ -1,5 +1,5 @@
 -- The ends of requests are decided.
-use Rattle.std.proofs.Common.{◌≡◌, ℕ, List, length, Bool, true, false, cond, nat_lt}
+use Rattle.std.proofs.Common.{ℕ, List, length, Bool, true, false, cond, nat_lt}
 use Rattle.std.specs.Prelude.{Option, Some, None}
 use Rattle.st_tokens.specs.declared.limit.LimitKind.TheVariants as limits
 use Rattle.st_certificate.specs.Tree.{Tree}

@@ -1,26 +1,21 @@
 -- Status 0 comes exactly where the texts are so.
-use Rattle.std.proofs.Common.{◌≡◌, inl, inr, ◌⊎◌, ℕ, ◌+◌, ◌^◌, ◌<◌, ◌≤◌, Bool, true, false, cond, nat_lt, List, [], ◌∷◌, ◌++◌, length, map, refl, sym, ap, ◌∙◌, subst, arith}
-use Rattle.std.specs.Prelude.{◌↔◌, Option, Some, None, Result, Ok, Err, IfSome}
+use Rattle.std.proofs.Common.{◌≡◌, inl, inr, ℕ, ◌+◌, ◌^◌, ◌<◌, ◌≤◌, Bool, true, false, cond, nat_lt, List, [], ◌∷◌, ◌++◌, length, refl, sym, ap, ◌∙◌, subst, arith}
+use Rattle.std.specs.Prelude.{Option, Some, None, Ok, IfSome}
 use Rattle.std.proofs.lemmas.Bool.Decides.{nat_tests}
-use Rattle.std.proofs.lemmas.List.{length-map}
 use Rattle.st_tokens.specs.declared.limit.LimitKind.TheVariants as limits
 use Rattle.st_form.specs.Condition.{Implication}
 use Rattle.st_certificate.specs.Tree.{Tree}
 use Rattle.temporal_goals.specs.Texts.{PlainStep}
 use Rattle.farkas_check.specs.Problem.{Setting}
-use Rattle.search_laws.specs.Moves.{Verdict, valid, decided}
 use Rattle.spl_parser.specs.Theorems.{SpelledIsRead}
 use Rattle.spl_typer.specs.Programs.{Typed}
-use Rattle.cert_text.specs.Blank.{first_place, past_blanks}
-use Rattle.block_laws.specs.Checked.{all_valid, whole_text, checked_from}
-use Rattle.block_laws.specs.Blocks.{HasBlocks}
+use Rattle.block_laws.specs.Checked.{whole_text}
 use Rattle.block_laws.specs.Laws.{AllDischarged}
 use Rattle.step_words.specs.Request.{PlainRequest, checks, verifies, proves, makes, traces, finds}
 use Rattle.step_workload.specs.Texts.{program_text, proof_text}
 use Rattle.step_report.specs.declared.refusals.FileRole.{FileRole}
 use Rattle.step_report.specs.declared.refusals.FileRole.TheVariants.{Program, Proof, Certificates}
 use Rattle.step_report.specs.Goals.{certificates_text, workload_line}
-use Rattle.step_plan.specs.declared.status.Status.{Status}
 use Rattle.step_plan.specs.declared.status.Status.TheVariants.{Proved}
 use Rattle.step_plan.specs.Limits.{length_limit, limited}
 use Rattle.step_plan.specs.Outcome.{Outcome}
@@ -30,9 +25,9 @@ use Rattle.step_run.specs.Outcome.{words_refused}
 use Rattle.step_run.specs.Source.{source_spelled}
 use Rattle.step_run.specs.Conditions.{Posed, setting_of, conditions_of}
 use Rattle.step_run.specs.Checked.{goals_proved, ending, check_ended, checked}
-use Rattle.step_run.specs.Verified.{Verified, all_found, found_before, by_verdict, verdict_on, verified_from, search_ended, searched, certificates, goals_counted, verified, written, counted}
+use Rattle.step_run.specs.Verified.{all_found, found_before, by_verdict, verdict_on, verified_from, search_ended, searched, certificates, goals_counted, counted}
 use Rattle.step_run.specs.Plans.{source_of_text, script_of_text, obliged, posed_of_text, posed_plan, conditions_plan, check_posed, verify_posed, prove_posed, workload_posed, workload_conditions, count_posed, with_number, numbered, plan_for, plan_of}
-use Rattle.step_run.specs.Headline.{Reads, Checks, AreFound, Decides, Hold, report, numbers, Both, AreShort, IsShort, Headline, Exactly}
+use Rattle.step_run.specs.Headline.{Reads, Checks, AreFound, Decides, Hold, report, numbers, AreShort, IsShort, Headline, Exactly}
 use Rattle.step_run.proofs.Sources.{source_read}
 use Rattle.step_run.proofs.Posing.{script_read, obliged_is, few_drafts}
 use Rattle.step_run.proofs.Stages.{goes_then}
@@ -134,7 +129,7 @@ module _ (law : Laws) (spelled : SpelledIsRead) (told : Told) (o : Outcome) wher
       → AreShort pt qt × IsShort ct × ((p : Typed) × (steps : List PlainStep) × Checks pt qt ct p steps × Hold p steps × (o.text ≡ report p steps))
   check_shows a b c pt qt ct ia ib ic e proved =
       let f = from_files law spelled told o a b pt qt (check_posed c) ia ib e proved in
-      let last = file_proved told o Certificates c ct (λ text. ends (checked (posed f.p f.steps) text)) ic f.goes proved in
+      let last = file_proved told o {A = ⊥} Certificates c ct (λ text. ends (checked (posed f.p f.steps) text)) ic f.goes proved in
       let passed = check_passed (posed f.p f.steps) ct o last.1 proved in
       let blocks = (law.blocks (setting_of f.p) (conditions_of f.p f.steps) (whole_text ct) refl (room pt qt f.p f.steps f.reads_them)).0 passed.all in
       let holds = hold law f.p f.steps (pt, f.source) (qt, f.reads_them.script) (by_blocks law f.p (conditions_of f.p f.steps) (whole_text ct) blocks) in
@@ -144,7 +139,7 @@ module _ (law : Laws) (spelled : SpelledIsRead) (told : Told) (o : Outcome) wher
       → EndsIn told (plan_for (checks a b c)) o → IsProved o
   check_ends a b c pt qt ct p steps ia ib ic short third h e =
       let goes = files_go law spelled told o a b pt qt p steps (check_posed c) ia ib short h.reads e in
-      let last : checked (posed p steps) ct ≡ o = file_goes told o Certificates c ct (λ text. ends (checked (posed p steps) text)) ic third goes in
+      let last : checked (posed p steps) ct ≡ o = file_goes {A = ⊥} told o Certificates c ct (λ text. ends (checked (posed p steps) text)) ic third goes in
       let all = (law.blocks (setting_of p) (conditions_of p steps) (whole_text ct) refl (room pt qt p steps h.reads)).1 h.blocks in
       subst IsProved (sym (discharged_ends (posed p steps) ct all) ∙ last) refl
 

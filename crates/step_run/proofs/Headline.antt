@@ -1,6 +1,6 @@
 -- From an end with status 0 to what it shows.
-use Rattle.std.proofs.Common.{◌≡◌, inl, inr, ◌⊎◌, ℕ, zero, suc, ◌+◌, ◌^◌, ◌<◌, ◌≤◌, Bool, true, false, cond, nat_lt, List, [], ◌∷◌, ◌++◌, length, map, refl, sym, ap, ◌∙◌, subst, arith}
-use Rattle.std.specs.Prelude.{Option, Some, None, Result, Ok, Err, All, slice_get, ℤ}
+use Rattle.std.proofs.Common.{◌≡◌, inl, inr, ℕ, zero, suc, ◌+◌, ◌^◌, ◌<◌, ◌≤◌, Bool, true, false, cond, nat_lt, List, [], ◌∷◌, length, map, refl, sym, ap, ◌∙◌, subst, arith}
+use Rattle.std.specs.Prelude.{Option, Some, None, Result, Ok, Err, slice_get, ℤ}
 use Rattle.st_tokens.specs.declared.limit.LimitKind.{LimitKind}
 use Rattle.st_tokens.specs.declared.limit.LimitKind.TheVariants as limits
 use Rattle.std.proofs.lemmas.Bool.Decides.{nat_tests}
@@ -10,7 +10,6 @@ use Rattle.st_form.specs.Formula.{Formula, Formulas, truth_value, row, equal, bo
 use Rattle.st_linear.specs.Linear.{Linear, AllBelow}
 use Rattle.st_certificate.specs.Tree.{Tree}
 use Rattle.temporal_goals.specs.Texts.{PlainStep}
-use Rattle.control_states.specs.Control.{ControlFacts}
 use Rattle.control_facts.specs.Alternatives.{control_of}
 use Rattle.farkas_check.specs.Problem.{Setting}
 use Rattle.farkas_check.specs.Meaning.{IsValidCondition}
@@ -24,17 +23,15 @@ use Rattle.vc_generator.specs.declared.faults.VcFault.{VcFault}
 use Rattle.condition_sizes.specs.Within.{Each, DraftWithin}
 use Rattle.script_laws.specs.Script.{script_list}
 use Rattle.script_laws.specs.Laws.{ScriptsProve, ScriptsAreWithin}
-use Rattle.script_laws.specs.Refused.{refused_at}
 use Rattle.script_bounds.specs.Over.{OverIsWritten}
 use Rattle.spl_semantics.proofs.ControlMet.{reached_meets}
 use Rattle.spl_translation.specs.Translation.{translation}
 use Rattle.spl_translation.proofs.Corresponding.{corresponds}
 use Rattle.spl_translation.proofs.Observed.{run_seen}
 use Rattle.spl_translation.proofs.Systemic.{translation_is_system}
-use Rattle.obligation_laws.specs.Obligations.{AreValid, HoldsOnRuns}
+use Rattle.obligation_laws.specs.Obligations.{AreValid}
 use Rattle.obligation_laws.proofs.Enough.{enough}
 use Rattle.script_obligations.proofs.Programs.{scripts-hold}
-use Rattle.spl_parser.specs.ProgramTree as raw
 use Rattle.spl_parser.specs.Theorems.{ReadIsSpelled}
 use Rattle.spl_typer.specs.Programs.{Typed, typing}
 use Rattle.spl_typer.specs.ProgramRules.{program_faults}
@@ -49,7 +46,6 @@ use Rattle.block_laws.specs.Checked.{Checked, all_valid, refused, whole_text, ch
 use Rattle.block_laws.specs.Blocks.{HasBlocks, behind}
 use Rattle.block_laws.specs.Laws.{AllDischarged, BlocksAreExact}
 use Rattle.step_report.specs.declared.refusals.FileRole.{FileRole}
-use Rattle.step_report.specs.declared.refusals.FileRole.TheVariants.{Program, Proof, Certificates}
 use Rattle.step_report.specs.Goals.{certificates_text}
 use Rattle.step_plan.specs.declared.status.Status.TheVariants.{Proved}
 use Rattle.step_plan.specs.Limits.{length_limit, length_kind, limited}
@@ -63,10 +59,10 @@ use Rattle.step_run.specs.Outcome.{program_refused, proof_refused}
 use Rattle.step_run.specs.Source.{source_spelled, IsSpelled}
 use Rattle.step_run.specs.Conditions.{Posed, system_of, setting_of, steps_spelled, drafts, conditions_of, passes_limit, limit_of}
 use Rattle.step_run.specs.Checked.{goals_proved, ending, check_ended, checked}
-use Rattle.step_run.specs.Verified.{Verified, all_found, left_open, given_up, found_before, by_verdict, verdict_on, verified_from, search_ended, searched, certificates}
-use Rattle.step_run.specs.Plans.{program_or_end, source_of_text, source_plan, steps_or_end, script_of_text, posed_or_end, obliged, posed_of_text, posed_plan, conditions_plan}
+use Rattle.step_run.specs.Verified.{Verified, all_found, left_open, given_up, by_verdict, verdict_on, verified_from, search_ended, searched, certificates}
+use Rattle.step_run.specs.Plans.{program_or_end, source_of_text, steps_or_end, posed_or_end, obliged, posed_of_text}
 use Rattle.step_run.specs.Posing.{IsScript}
-use Rattle.step_run.specs.Headline.{Reads, Checks, AreFound, Decides, Hold}
+use Rattle.step_run.specs.Headline.{Reads, AreFound, Hold}
 use Rattle.step_run.proofs.Sources.{source_read}
 use Rattle.step_run.proofs.Posing.{script_read, obliged_is, is_proof, is_written}
 use Rattle.step_run.proofs.Typed.{from_text, well_typed}

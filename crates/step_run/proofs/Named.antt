@@ -1,5 +1,5 @@
 -- A run asks for files that its request names.
-use Rattle.std.proofs.Common.{◌≡◌, ℕ, List, refl, ap, subst, sym}
+use Rattle.std.proofs.Common.{ℕ, List, refl}
 use Rattle.std.specs.Prelude.{Option, Some, None, Result, Ok, Err}
 use Rattle.temporal_goals.specs.Texts.{PlainStep}
 use Rattle.vc_generator.specs.declared.faults.VcFault.{VcFault}
@@ -7,12 +7,12 @@ use Rattle.spl_typer.specs.Programs.{Typed}
 use Rattle.proof_script.specs.declared.fault.ScriptFault.{ScriptFault}
 use Rattle.step_words.specs.Request.{PlainRequest, checks, verifies, proves, makes, traces, finds}
 use Rattle.step_report.specs.declared.refusals.FileRole.{FileRole}
-use Rattle.step_report.specs.declared.refusals.FileRole.TheVariants.{Program, Proof, Certificates}
+use Rattle.step_report.specs.declared.refusals.FileRole.TheVariants.{Program, Proof}
 use Rattle.step_plan.specs.Ending.{Names}
 use Rattle.step_plan.specs.Plan.{Told, Plan, ends, goes_on, asks, then_plan, ComesTo}
 use Rattle.step_plan.proofs.Named.{AsksOnly, only_then, only_comes}
 use Rattle.step_run.specs.declared.refusals.Refusal.{Refusal}
-use Rattle.step_run.specs.Conditions.{Posed, steps_spelled, passes_limit}
+use Rattle.step_run.specs.Conditions.{steps_spelled, passes_limit}
 use Rattle.step_run.specs.Source.{source_spelled}
 use Rattle.step_run.specs.Request.{NamesFile}
 use Rattle.step_run.specs.Plans.{program_or_end, source_of_text, source_plan, steps_or_end, script_of_text, posed_or_end, obliged, posed_of_text, posed_plan, conditions_plan, check_posed, verify_posed, prove_posed, count_posed, workload_posed, workload_conditions, numbered, plan_for, plan_of}

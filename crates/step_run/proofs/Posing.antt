@@ -1,6 +1,6 @@
 -- A script and its conditions, as stages of a plan.
 use Rattle.std.proofs.Common.{◌≡◌, ℕ, ◌+◌, ◌≤◌, ◌<◌, Bool, true, false, nat_le, nat_lt, List, [], ◌∷◌, ◌++◌, map, length, ap, ◌∙◌, sym, subst, arith, refl, length-append}
-use Rattle.std.specs.Prelude.{Option, Some, None, Result, Ok, Err, if◌then◌else◌, All}
+use Rattle.std.specs.Prelude.{Option, Some, None, Result, Err, if◌then◌else◌, All}
 use Rattle.std.proofs.lemmas.Bool.Decides.{nat_tests}
 use Rattle.std.proofs.lemmas.List.{length-map}
 use Rattle.st_form.specs.Condition.{Implication}
@@ -31,16 +31,15 @@ use Rattle.spl_translation.specs.Translation.{translation}
 use Rattle.spl_typer.specs.Programs.{Typed}
 use Rattle.spl_typer.proofs.Tabled.{names_stand}
 use Rattle.step_plan.specs.declared.ended.Ended.{Ended}
-use Rattle.step_plan.specs.Outcome.{Outcome, ended_view, IsDecided}
-use Rattle.step_plan.specs.Limits.{limited}
-use Rattle.step_plan.specs.Plan.{Plan, ends, goes_on, then_plan}
+use Rattle.step_plan.specs.Outcome.{ended_view, IsDecided}
+use Rattle.step_plan.specs.Plan.{ends, goes_on}
 use Rattle.step_run.specs.declared.refusals.Refusal.{Refusal}
-use Rattle.step_run.specs.declared.refusals.Refusal.TheVariants.{Fault, Limit, Memory}
+use Rattle.step_run.specs.declared.refusals.Refusal.TheVariants.{Memory}
 use Rattle.step_run.specs.Refusals.{of_script}
 use Rattle.step_run.specs.Outcome.{proof_refused}
 use Rattle.step_run.specs.Source.{IsSpelled}
-use Rattle.step_run.specs.Conditions.{system_of, steps_spelled, drafts, conditions_of, passes_limit, limit_of, Posed}
-use Rattle.step_run.specs.Plans.{steps_or_end, script_of_text, posed_or_end, obliged, posed_of_text}
+use Rattle.step_run.specs.Conditions.{system_of, steps_spelled, drafts, conditions_of, passes_limit}
+use Rattle.step_run.specs.Plans.{steps_or_end, script_of_text, posed_or_end, obliged}
 use Rattle.step_run.specs.Posing.{IsScript, IsPassed}
 use Rattle.step_run.proofs.Sources.{not_memory}
 use Rattle.step_run.proofs.Typed.{from_text}
@@ -72,7 +71,7 @@ drafts_are : (p : Typed) (system : System) (steps : List PlainStep) → system �
 unfolding drafts
 drafts_are p system steps same = ap (λ s. script_list s steps) same
 
-obliged_is : (p : Typed) (steps : List PlainStep) (o : Option (VcFault × ℕ)) → passes_limit p steps ≡ o → obliged p steps ≡ posed_or_end p steps o
+pub obliged_is : (p : Typed) (steps : List PlainStep) (o : Option (VcFault × ℕ)) → passes_limit p steps ≡ o → obliged p steps ≡ posed_or_end p steps o
 unfolding obliged
 obliged_is p steps o is = ap (posed_or_end p steps) is
 

@@ -1,10 +1,10 @@
 -- The program that a text spells, as a stage of a plan.
 use Rattle.std.proofs.Common.{◌≡◌, ℕ, List, ap, ◌∙◌, sym, subst}
-use Rattle.std.specs.Prelude.{Result, Ok, Err}
+use Rattle.std.specs.Prelude.{Result, Err}
 use Rattle.spl_typer.specs.Programs.{Typed}
 use Rattle.step_plan.specs.declared.ended.Ended.{Ended}
 use Rattle.step_plan.specs.Outcome.{Outcome, ended_view, IsDecided}
-use Rattle.step_plan.specs.Plan.{Plan, ends, goes_on}
+use Rattle.step_plan.specs.Plan.{ends}
 use Rattle.step_run.specs.declared.refusals.Refusal.{Refusal}
 use Rattle.step_run.specs.declared.refusals.Refusal.TheVariants.{Fault, Limit, Memory}
 use Rattle.step_run.specs.Refusals.{Fails}

@@ -4,7 +4,7 @@ use Rattle.step_plan.specs.declared.ended.Ended.{Ended}
 use Rattle.step_plan.specs.declared.stage.Stage.{Stage}
 use Rattle.step_plan.specs.declared.stage.Stage.TheVariants.{On, Over}
 use Rattle.step_plan.specs.Outcome.{Outcome, ended_view, IsDecided}
-use Rattle.step_plan.specs.Plan.{Told, Counts, Plan, ends, goes_on, then_plan, EndsIn, Follows}
+use Rattle.step_plan.specs.Plan.{Told, Counts, Plan, ends, goes_on, then_plan, Follows}
 use Rattle.step_plan.specs.Stage.{Settles}
 
 module _ {V A B : Type 0} (view : V → B) (next : A → Plan B) (plan : Plan A) where

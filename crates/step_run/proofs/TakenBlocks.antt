@@ -1,11 +1,10 @@
 -- Blocks that are taken from a text, and what they come to.
-use Rattle.std.proofs.Common.{◌≡◌, ℕ, zero, suc, ◌+◌, ◌<◌, ◌≤◌, List, [], ◌∷◌, ◌++◌, length, map, get_or, ap, ◌∙◌, sym, subst, arith, refl, take, drop, length-append, length-take}
+use Rattle.std.proofs.Common.{◌≡◌, ℕ, zero, suc, ◌+◌, ◌<◌, ◌≤◌, List, [], ◌∷◌, ◌++◌, length, get_or, ap, ◌∙◌, sym, subst, arith, refl, take, drop, length-take}
 use Rattle.std.specs.Prelude.{Option, Some, None, IfSome, IfNone, slice_get}
 use Rattle.st_form.specs.Plain.{plain_condition}
 use Rattle.std.proofs.lemmas.List.{length-map}
 use Rattle.st_form.specs.Condition.{Implication}
 use Rattle.st_form.specs.declared.conditions.Condition.{Condition}
-use Rattle.st_certificate.specs.Tree.{Tree}
 use Rattle.st_certificate.specs.Plain.{plain as tree_of}
 use Rattle.control_states.specs.Control.{ControlFacts}
 use Rattle.control_facts.specs.Alternatives.{control_of}
@@ -15,7 +14,6 @@ use Rattle.farkas_check.specs.Problem.{Setting}
 use Rattle.farkas_check.specs.PlainProblem.{setting}
 use Rattle.discharge.specs.First.{AreCheckable, IsFirstFailing}
 use Rattle.discharge.specs.Verdicts.{AreSearchable}
-use Rattle.condition_sizes.specs.Within.{Each}
 use Rattle.cert_text.specs.declared.reader.Block.{Block}
 use Rattle.cert_text.specs.Answer.{Answer, block, need, no_more, malformed_at, limit_at}
 use Rattle.cert_text.specs.Held.{Held, outcome, answer_at, answer_of, taken_at, taken_from}
@@ -25,7 +23,7 @@ use Rattle.cert_text.specs.Blank.{first_place, past_blanks}
 use Rattle.spl_typer.specs.Programs.{Typed}
 use Rattle.step_report.specs.declared.conditions.Reason.{Reason}
 use Rattle.step_report.specs.declared.conditions.Reason.TheVariants.{NotValid}
-use Rattle.block_laws.specs.Checked.{Checked, all_valid, refused, reason_of, block_tested, whole_text, checked_from, pending_from}
+use Rattle.block_laws.specs.Checked.{all_valid, refused, reason_of, block_tested, whole_text, checked_from, pending_from}
 use Rattle.block_laws.specs.Plain.{trees, plains}
 use Rattle.block_laws.proofs.Pending.{pend_more, all_discharged, one_refused, none_next}
 use Rattle.step_plan.specs.Outcome.{Outcome}

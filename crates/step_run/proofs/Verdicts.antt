@@ -1,19 +1,17 @@
 -- Verdicts on conditions, and what they come to.
-use Rattle.std.proofs.Common.{◌≡◌, ℕ, zero, suc, ◌+◌, ◌<◌, ◌≤◌, ◌^◌, Bool, true, false, cond, List, [], ◌∷◌, ◌++◌, length, map, get_or, drop, drop-cons, add-one, append_assoc, ap, ◌∙◌, sym, subst, arith, refl, one-add}
+use Rattle.std.proofs.Common.{◌≡◌, ℕ, zero, suc, ◌+◌, ◌<◌, ◌≤◌, Bool, true, false, cond, List, [], ◌∷◌, ◌++◌, length, get_or, drop, drop-cons, add-one, append_assoc, ap, ◌∙◌, sym, subst, arith, refl, one-add}
 use Rattle.std.specs.Prelude.{Option, Some, None, slice_get}
 use Rattle.std.specs.Option.{option_map}
 use Rattle.std.specs.declared.vec.Vec.{Vec}
 use Rattle.std.specs.declared.alloc.Global.{Global}
+use Rattle.std.specs.Prelude.{ltb}
 use Rattle.std.specs.List.{prefix_len}
-use Rattle.std.proofs.lemmas.List.{length-map}
+use Rattle.std.proofs.lemmas.Bool.Decides.{nat_tests}
 use Rattle.st_form.specs.Condition.{Implication}
-use Rattle.st_form.specs.Plain.{plain, plain_condition}
+use Rattle.st_form.specs.Plain.{plain_condition}
 use Rattle.st_form.specs.declared.conditions.Condition.{Condition}
 use Rattle.st_certificate.specs.Tree.{Tree}
-use Rattle.st_certificate.specs.Plain.{plain as tree_of}
 use Rattle.farkas_check.specs.Problem.{Setting}
-use Rattle.search_laws.specs.Moves.{valid, decided}
-use Rattle.search_laws.specs.Moves as moves
 use Rattle.search_laws.specs.Sizes.{nodes}
 use Rattle.linear_prover.specs.declared.verdict.Verdict.{Verdict}
 use Rattle.linear_prover.specs.declared.verdict.Verdict.TheVariants.{Valid, Open, Wide}
@@ -37,7 +35,7 @@ use Rattle.step_plan.specs.declared.stage.Stage.{Stage}
 use Rattle.step_plan.specs.declared.stage.Stage.TheVariants.{On, Over}
 use Rattle.step_plan.specs.Outcome.{Outcome, ended_view, IsDecided}
 use Rattle.step_run.specs.Conditions.{Posed, setting_of}
-use Rattle.step_run.specs.Verified.{Verified, all_found, left_open, given_up, found_before, by_verdict, verdict_on, verified_from, search_ended, searched, undecided, nodes_in}
+use Rattle.step_run.specs.Verified.{Verified, all_found, found_before, by_verdict, verdict_on, verified_from, search_ended, searched, undecided, nodes_in}
 use Rattle.step_run.specs.Deciding.{is_valid, tree_in, trees_in, AreValid, AreModest, EndsAt, Settled}
 
 no_truth : false ≡ true → ⊥
@@ -134,6 +132,28 @@ answers_same k [] [] a = refl
 answers_same k [] (v ∷ vs) a = absurd a
 answers_same k (c ∷ cs) [] a = absurd a
 answers_same k (c ∷ cs) (v ∷ vs) a = ap suc (answers_same k cs vs a.1)
+
+get_is : (vs : List Verdict) (place : ℕ) (v : Verdict) → place < length vs → v ≡ get_or vs place v → Some v ≡ slice_get vs place
+get_is [] place v lt is = absurd (omega (arith, lt))
+get_is (x ∷ vs) zero v lt is = ap Some is
+get_is (x ∷ vs) (suc place) v lt is = get_is vs place v (omega (arith, lt)) is
+
+get_past : (vs : List Verdict) (place : ℕ) → length vs ≤ place → None ≡ slice_get vs place
+get_past [] place h = refl
+get_past (x ∷ vs) zero h = absurd (omega (arith, h))
+get_past (x ∷ vs) (suc place) h = get_past vs place (omega (arith, h))
+
+test_below : (n m : ℕ) → true ≡ ltb n m → n < m
+test_below n m e = grind (arith, nat_tests)
+
+test_past : (n m : ℕ) → false ≡ ltb n m → m ≤ n
+test_past n m e = grind (arith, nat_tests)
+
+pub found_at : (vs : List Verdict) (place : ℕ) (v : Verdict) → true ≡ ltb place (length vs) → v ≡ get_or vs place v → Some v ≡ slice_get vs place
+found_at vs place v lt is = get_is vs place v (test_below place (length vs) lt) is
+
+pub none_at : (vs : List Verdict) (place : ℕ) → false ≡ ltb place (length vs) → None ≡ slice_get vs place
+none_at vs place past = get_past vs place (test_past place (length vs) past)
 
 pub few_answers : (k : Setting) (cs : List Condition) (vs : List Verdict) → AreAnswers k cs vs → length cs ≤ 20000 → length vs ≤ 20000
 few_answers k cs vs a few = let n = answers_same k cs vs a in omega (arith, n, few)

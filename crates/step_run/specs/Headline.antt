@@ -12,7 +12,7 @@ use Rattle.spl_typer.specs.Programs.{Typed, typing}
 use Rattle.spl_typer.specs.ProgramRules.{program_faults}
 use Rattle.block_laws.specs.Checked.{whole_text}
 use Rattle.block_laws.specs.Blocks.{HasBlocks}
-use Rattle.step_words.specs.Request.{PlainRequest, checks, verifies, proves, makes, traces, finds}
+use Rattle.step_words.specs.Request.{PlainRequest, checks, verifies, proves, makes}
 use Rattle.step_workload.specs.Texts.{program_text, proof_text}
 use Rattle.step_report.specs.Goals.{proved_text, counted_text, workload_line, certificates_text}
 use Rattle.step_plan.specs.declared.status.Status.{Status}

@@ -1,5 +1,5 @@
 -- How runs end.
-use Rattle.std.specs.Prelude.{ℕ, List, [], ◌∷◌}
+use Rattle.std.specs.Prelude.{List, [], ◌∷◌}
 use Rattle.step_report.specs.declared.refusals.FileRole.TheVariants.{Program, Proof}
 use Rattle.step_report.specs.declared.usage.Command.{Command}
 use Rattle.step_report.specs.declared.usage.Command.TheVariants as commands

@@ -19,7 +19,7 @@ use step_report::Reason;
 /// The blocks that were taken, and why there is no further one where one is wanted.
 #[derive(Drop)]
 pub struct Taken {
-    pub blocks: Vec<Block>,
+    pub found: Vec<Block>,
     pub lacking: Option<Reason>,
 }
 
@@ -49,10 +49,10 @@ pub fn take_blocks(alloc: Global, count: usize, reader: &mut CertReader) -> Resu
     requires few { count ≤ 20000 }
     requires number { reader.old.number ≡ 1 }
     ensures waits { IfOk result (λ t. (k : Setting) (cs : List Implication) → length cs ≡ count
-        → pending_from k 1 cs (trees t.blocks.items) reader.new ≡ checked_from k 1 cs reader.old) }
-    ensures limited { IfOk result (λ t. AreLimitedBlocks t.blocks.items) }
-    ensures all { IfOk result (λ t. IfNone t.lacking (length t.blocks.items ≡ count)) }
-    ensures lacking { IfOk result (λ t. IfSome t.lacking (λ r. (length t.blocks.items < count)
+        → pending_from k 1 cs (trees t.found.items) reader.new ≡ checked_from k 1 cs reader.old) }
+    ensures limited { IfOk result (λ t. AreLimitedBlocks t.found.items) }
+    ensures all { IfOk result (λ t. IfNone t.lacking (length t.found.items ≡ count)) }
+    ensures lacking { IfOk result (λ t. IfSome t.lacking (λ r. (length t.found.items < count)
         × ((k : Setting) (c : Implication) → block_tested k c reader.new ≡ Some r))) }
 {
     blocks_are_limited();
@@ -62,14 +62,14 @@ pub fn take_blocks(alloc: Global, count: usize, reader: &mut CertReader) -> Resu
             Ok(block) => add_block(&mut blocks, block)?,
             Err(reason) => {
                 return Ok(Taken {
-                    blocks,
+                    found: blocks,
                     lacking: Some(reason),
                 });
             }
         }
     }
     Ok(Taken {
-        blocks,
+        found: blocks,
         lacking: None,
     })
 }

@@ -71,7 +71,7 @@ fn first_lacking<R: Threads + Sync, G: Gate + Sync>(
 {
     searchable_is_checkable();
     let taken = take_blocks(alloc, conditions.len(), reader)?;
-    let count = taken.blocks.len();
+    let count = taken.found.len();
     let first = front(conditions, count);
     match check_all(
         rt,
@@ -81,7 +81,7 @@ fn first_lacking<R: Threads + Sync, G: Gate + Sync>(
         components,
         variables,
         first,
-        &taken.blocks,
+        &taken.found,
     )? {
         Some(place) => Ok(Some((place, Reason::NotValid))),
         None => match taken.lacking {

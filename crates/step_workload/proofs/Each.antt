@@ -1,5 +1,5 @@
 -- One number more.
-use Rattle.std.proofs.Common.{◌≡◌, ℕ, suc, ◌+◌, ◌-◌, ◌<◌, List, ◌++◌, refl, sym, ap, ◌∙◌, arith, append_assoc}
+use Rattle.std.proofs.Common.{◌≡◌, ℕ, suc, ◌+◌, ◌-◌, ◌<◌, List, ◌++◌, sym, ap, ◌∙◌, arith, append_assoc}
 use Rattle.step_workload.specs.Parts.{each_from}
 
 each_one : (text : ℕ → List ℕ) (i last : ℕ) → i < last + 1 → each_from text i (last + 1 - i) ≡ text i ++ each_from text (i + 1) (last + 1 - (i + 1))

@@ -1,6 +1,6 @@
 -- The texts of the workload with n processes: a program in which one semaphore lets one of them at a time into its critical
 -- section, and a proof that it does, and that the first process comes in within 2n - 1 rounds.
-use Rattle.std.specs.Prelude.{ℕ, ◌+◌, ◌-◌, ◌*◌, List, ◌++◌, codes}
+use Rattle.std.specs.Prelude.{ℕ, ◌-◌, ◌*◌, List, ◌++◌, codes}
 use Rattle.std.specs.Fmt.{decimal}
 use Rattle.step_workload.specs.Parts.{filled, each_from, filled_unless}
 

@@ -1,10 +1,12 @@
+use Rattle.std.proofs.Common.{◌≡◌}
 use Rattle.st_outside.specs.Sink.{behind}
 use Rattle.step_run.proofs.Exact.{shows, exactly}
+use Rattle.step_run.proofs.Headline.{Laws}
 use Rattle.step_run.proofs.laws.status_zero_is_exact.Goals as goal
 
 pub returns : goal.returns
 returns c =
-    let law = record {
+    let law : Laws = record {
       spelled = c.what_is_read_is_spelled.ensures;
       typed = c.read_is_typed.ensures;
       proofs = c.scripts_are_proofs.ensures;

@@ -1,6 +1,6 @@
 use Rattle.std.proofs.lemmas.Result.{IfOk-weaker}
 use Rattle.step_report.specs.declared.refusals.FileRole.TheVariants.{Proof}
-use Rattle.step_plan.specs.Plan.{file_plan, then_plan}
+use Rattle.step_plan.specs.Plan.{file_plan}
 use Rattle.step_plan.specs.Stage.{bytes_view}
 use Rattle.step_plan.proofs.Follow.{onward_on, onward_over, follows_then, follows_first, comes_then, comes_text}
 use Rattle.step_run.specs.Plans.{source_plan, posed_of_text, posed_plan}

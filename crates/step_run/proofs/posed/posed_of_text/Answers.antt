@@ -1,7 +1,6 @@
 use Rattle.std.proofs.lemmas.Result.{IfOk-weaker}
 use Rattle.transition_system.specs.Plain.{plain_system}
 use Rattle.temporal_goals.specs.Plain.{plain_script}
-use Rattle.step_plan.specs.Stage.{Settles}
 use Rattle.step_plan.specs.Outcome.{ended_view}
 use Rattle.step_run.specs.Plans.{script_of_text, obliged}
 use Rattle.step_run.specs.Views.{source_view, posed_view}

@@ -1,6 +1,6 @@
 use Rattle.step_words.specs.Definition.{words_of}
 use Rattle.step_words.specs.Request.{request_of}
-use Rattle.step_plan.proofs.Ending.{output, outcome_is, written_is, honest_is, causes_are, not_nothing, memory_honest}
+use Rattle.step_plan.proofs.Ending.{output, outcome_is, written_is, honest_is, not_nothing, memory_honest}
 use Rattle.step_run.specs.Plans.{plan_of}
 use Rattle.step_run.specs.Request.{NamesFile}
 use Rattle.step_run.proofs.Named.{named}

@@ -1,8 +1,6 @@
-use Rattle.std.proofs.Common.{sym, ap, ◌∙◌, List, ℕ}
 use Rattle.std.proofs.lemmas.Result.{IfOk-weaker}
-use Rattle.step_workload.specs.Texts.{program_text, proof_text}
-use Rattle.step_plan.specs.Stage.{Settles}
-use Rattle.step_run.specs.Plans.{source_of_text, posed_of_text, workload_posed}
+use Rattle.step_workload.specs.Texts.{program_text}
+use Rattle.step_run.specs.Plans.{source_of_text, workload_posed}
 use Rattle.step_run.specs.Views.{source_view, posed_view}
 use Rattle.step_run.proofs.Stages.{settles_then}
 use Rattle.step_run.proofs.workload.conditions.Goals as goal

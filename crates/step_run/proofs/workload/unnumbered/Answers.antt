@@ -1,11 +1,11 @@
-use Rattle.std.proofs.Common.{sym, ap, subst, ◌∙◌}
+use Rattle.std.proofs.Common.{sym, ap, subst}
 use Rattle.std.proofs.lemmas.Result.{IfOk-weaker}
 use Rattle.step_plan.specs.Outcome.{Outcome, ended_view, IsDecided}
 use Rattle.step_plan.specs.Plan.{ends}
 use Rattle.step_run.specs.Plans.{workload_conditions, count_posed}
 use Rattle.step_run.specs.Views.{posed_view}
 use Rattle.step_run.proofs.Decided.{counted_decided}
-use Rattle.step_run.proofs.Stages.{goes_then, ends_then}
+use Rattle.step_run.proofs.Stages.{goes_then}
 use Rattle.step_run.proofs.workload.unnumbered.Goals as goal
 
 pub returns-in-On-clause-outcome : goal.returns-in-On-clause-outcome

@@ -1,6 +1,4 @@
-use Rattle.std.proofs.Common.{◌≡◌}
-use Rattle.step_workload.specs.Parts.{filled, filled_unless}
-use Rattle.step_workload.specs.Texts.{alone_inside}
+use Rattle.step_workload.specs.Parts.{filled}
 use Rattle.step_workload.proofs.Each.{each_more}
 use Rattle.step_workload.proofs.parts.push_each.Goals as goal
 

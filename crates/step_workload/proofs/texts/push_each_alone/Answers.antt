@@ -1,5 +1,3 @@
-use Rattle.std.proofs.Common.{◌≡◌}
-use Rattle.step_workload.specs.Parts.{filled, filled_unless}
 use Rattle.step_workload.specs.Texts.{alone_inside}
 use Rattle.step_workload.proofs.Each.{each_more}
 use Rattle.step_workload.proofs.texts.push_each_alone.Goals as goal

@@ -1,4 +1,4 @@
-use Rattle.std.proofs.Common.{◌≡◌, ◌++◌, ◌+◌, ◌-◌, ◌≤◌}
+use Rattle.std.proofs.Common.{◌≡◌, ◌++◌, ◌+◌, ◌-◌}
 use Rattle.step_workload.specs.Parts.{each_from}
 use Rattle.step_workload.specs.Texts.{alone_inside}
 use Rattle.step_workload.proofs.texts.push_each_alone.Given as goal

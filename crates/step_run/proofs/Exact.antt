@@ -34,7 +34,7 @@ use Rattle.step_run.proofs.Stages.{goes_then}
 use Rattle.step_run.proofs.Typed.{spelled_ok}
 use Rattle.step_run.proofs.Named.{only_workload}
 use Rattle.step_plan.proofs.Named.{AsksOnly}
-use Rattle.step_run.proofs.Headline.{IsProved, posed, file_proved, source_proved, posed_proved, Laws, reads, hold, by_blocks, by_search, check_passed, search_passed, certificates_passed}
+use Rattle.step_run.proofs.Headline.{IsProved, posed, file_proved, source_proved, posed_proved, Laws, script_of, reads, hold, by_blocks, by_search, check_passed, search_passed, certificates_passed}
 
 -- a file that is told and within its limit is gone on with
 file_goes : {A : Type 0} (told : Told) (o : Outcome) (role : FileRole) (name text : List ℕ) (go : List ℕ → Plan A) → told name ≡ Some text → length text ≤ length_limit role → EndsIn told (asks role name go) o → EndsIn told (go text) o
@@ -48,7 +48,7 @@ module _ (law : Laws) (spelled : SpelledIsRead) where
   source_goes pt qt p steps r = source_read pt (Ok p) (spelled_ok pt r.text p (spelled pt r.text r.spelled) r.typed)
 
   posed_goes : (pt qt : List ℕ) (p : Typed) (steps : List PlainStep) → Reads pt qt p steps → posed_of_text p qt ≡ goes_on (posed p steps)
-  posed_goes pt qt p steps r = goes_then (obliged p) (script_of_text p qt) steps (goes_on (posed p steps)) (script_read p qt (Ok steps) r.script) (obliged_is p steps None r.few)
+  posed_goes pt qt p steps r = goes_then (obliged p) (script_of_text p qt) steps (goes_on (posed p steps)) (script_read p qt (Ok steps) (script_of law qt p steps r.script)) (obliged_is p steps None r.few)
 
   module _ (told : Told) (o : Outcome) where
     -- the files are read, and the conditions posed
@@ -132,7 +132,7 @@ module _ (law : Laws) (spelled : SpelledIsRead) (told : Told) (o : Outcome) wher
       let last = file_proved told o {A = ⊥} Certificates c ct (λ text. ends (checked (posed f.p f.steps) text)) ic f.goes proved in
       let passed = check_passed (posed f.p f.steps) ct o last.1 proved in
       let blocks = (law.blocks (setting_of f.p) (conditions_of f.p f.steps) (whole_text ct) refl (room pt qt f.p f.steps f.reads_them)).0 passed.all in
-      let holds = hold law f.p f.steps (pt, f.source) (qt, f.reads_them.script) (by_blocks law f.p (conditions_of f.p f.steps) (whole_text ct) blocks) in
+      let holds = hold law f.p f.steps (pt, f.source) (qt, script_of law qt f.p f.steps f.reads_them.script) (by_blocks law f.p (conditions_of f.p f.steps) (whole_text ct) blocks) in
       (f.short, last.0, (f.p, f.steps, record { reads = f.reads_them; blocks = blocks }, holds, ap (λ (x : Outcome). x.text) passed.same))
 
   check_ends : (a b c pt qt ct : List ℕ) (p : Typed) (steps : List PlainStep) → told a ≡ Some pt → told b ≡ Some qt → told c ≡ Some ct → AreShort pt qt → IsShort ct → Checks pt qt ct p steps
@@ -152,7 +152,7 @@ module _ (law : Laws) (spelled : SpelledIsRead) (told : Told) (o : Outcome) wher
       let x = posed f.p f.steps in
       let last : searched x (all x) ≡ o = subst (λ (q : Plan ⊥). EndsIn told q o) (is x) f.goes in
       let found = search_passed x (all x) o last proved in
-      let holds = hold law f.p f.steps (pt, f.source) (qt, f.reads_them.script) (by_search law f.p f.steps found.trees (pt, f.source) (qt, f.reads_them.script) found.found) in
+      let holds = hold law f.p f.steps (pt, f.source) (qt, script_of law qt f.p f.steps f.reads_them.script) (by_search law f.p f.steps found.trees (pt, f.source) (qt, script_of law qt f.p f.steps f.reads_them.script) found.found) in
       (f.short, (f.p, f.steps, found.trees, record { reads = f.reads_them; found = found.found }, holds, found.same))
 
   search_ends : (a b pt qt : List ℕ) (all : Posed → List Tree → Outcome) (next : Posed → Plan ⊥) → ((x : Posed) → next x ≡ ends (searched x (all x))) → (p : Typed) (steps : List PlainStep) (ts : List Tree)

@@ -57,7 +57,9 @@ use Rattle.step_run.specs.declared.refusals.Refusal.TheVariants.{Fault, Limit, M
 use Rattle.step_run.specs.Refusals.{of_script}
 use Rattle.step_run.specs.Outcome.{program_refused, proof_refused}
 use Rattle.step_run.specs.Source.{source_spelled, IsSpelled}
-use Rattle.step_run.specs.Conditions.{Posed, system_of, setting_of, steps_spelled, drafts, conditions_of, passes_limit, limit_of}
+use Rattle.proof_grammar.specs.Grammar.{SpellsScript}
+use Rattle.proof_grammar.specs.Theorems.{SpelledScriptsAreRead, ReadScriptsAreSpelled}
+use Rattle.step_run.specs.Conditions.{Posed, system_of, setting_of, words_over, steps_spelled, drafts, conditions_of, passes_limit, limit_of}
 use Rattle.step_run.specs.Checked.{goals_proved, ending, check_ended, checked}
 use Rattle.step_run.specs.Verified.{Verified, all_found, left_open, given_up, by_verdict, verdict_on, verified_from, search_ended, searched, certificates}
 use Rattle.step_run.specs.Plans.{program_or_end, source_of_text, steps_or_end, posed_or_end, obliged, posed_of_text}
@@ -163,6 +165,8 @@ module _ (truths : List Bool) (locations : ℕ) where
 -- the laws of the crates below
 pub record Laws : Type 0 where
   pub spelled : ReadIsSpelled
+  pub scripts_spelled : ReadScriptsAreSpelled
+  pub scripts_read : SpelledScriptsAreRead
   pub typed : ReadIsTyped
   pub proofs : ScriptsAreProofs
   pub over : ScriptsAreOver
@@ -176,6 +180,10 @@ told_least : (t : Result Typed TypeFault) (p : Typed) (fs : List TypeFault) → 
 told_least t p fs is h = subst (λ r. TellsLeast r fs) is h
 
 module _ (law : Laws) where
+  -- the script that a text spells is read
+  pub script_of : (qt : List ℕ) (p : Typed) (steps : List PlainStep) → SpellsScript (words_over p) qt steps → steps_spelled p qt ≡ Ok steps
+  script_of qt p steps h = law.scripts_read (words_over p) qt steps h
+
   -- the texts are well formed
   pub reads : (pt qt : List ℕ) (p : Typed) (steps : List PlainStep) → source_spelled pt ≡ Ok p → steps_spelled p qt ≡ Ok steps → passes_limit p steps ≡ None → Reads pt qt p steps
   reads pt qt p steps source script few =
@@ -185,7 +193,7 @@ module _ (law : Laws) where
         spelled = law.spelled pt f.program f.reads;
         lawful = told_least (typing f.program) p (program_faults f.program) f.types (law.typed pt f.program f.reads).1;
         typed = f.types;
-        script = script;
+        script = law.scripts_spelled (words_over p) qt steps script;
         few = few;
       }
 

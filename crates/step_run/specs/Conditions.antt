@@ -15,6 +15,7 @@ use Rattle.script_laws.specs.Script.{script_list}
 use Rattle.script_laws.specs.Refused.{refused_at}
 use Rattle.spl_translation.specs.Translation.{translation}
 use Rattle.spl_typer.specs.Programs.{Typed}
+use Rattle.proof_script.specs.Listing as scripts
 use Rattle.proof_script.specs.Script.{script_spelled}
 use Rattle.proof_script.specs.declared.fault.ScriptFault.{ScriptFault}
 
@@ -25,6 +26,10 @@ system_of p = translation p.variables p.initial p.processes p.locations
 -- what conditions of a program are about
 unfoldable pub setting_of : Typed → Setting
 setting_of p = setting (control_of p.processes) p.variables
+
+-- what a script's names stand for
+abbrev pub words_over : Typed → scripts.Setting
+words_over p = record { names = p.names; system = system_of p }
 
 -- the steps that a text spells over the program, or its first fault
 abbrev pub steps_spelled : Typed → List ℕ → Result (List PlainStep) ScriptFault

@@ -12,13 +12,14 @@ use Rattle.spl_typer.specs.Programs.{Typed, typing}
 use Rattle.spl_typer.specs.ProgramRules.{program_faults}
 use Rattle.block_laws.specs.Checked.{whole_text}
 use Rattle.block_laws.specs.Blocks.{HasBlocks}
+use Rattle.proof_grammar.specs.Grammar.{SpellsScript}
 use Rattle.step_words.specs.Request.{PlainRequest, checks, verifies, proves, makes}
 use Rattle.step_workload.specs.Texts.{program_text, proof_text}
 use Rattle.step_report.specs.Goals.{proved_text, counted_text, workload_line, certificates_text}
 use Rattle.step_plan.specs.declared.status.Status.{Status}
 use Rattle.step_plan.specs.declared.status.Status.TheVariants.{Proved}
 use Rattle.step_plan.specs.Plan.{Told}
-use Rattle.step_run.specs.Conditions.{setting_of, conditions_of, steps_spelled, passes_limit}
+use Rattle.step_run.specs.Conditions.{setting_of, words_over, conditions_of, passes_limit}
 use Rattle.step_run.specs.Verified.{nodes_in}
 
 -- The texts of a program and of a proof are well formed: the one spells a program, within the limits of programs, in which no
@@ -28,7 +29,7 @@ pub record Reads (program_text proof_text : List ℕ) (p : Typed) (steps : List 
   pub spelled : Spells program_text text
   pub lawful : program_faults text ≡ []
   pub typed : typing text ≡ Ok p
-  pub script : steps_spelled p proof_text ≡ Ok steps
+  pub script : SpellsScript (words_over p) proof_text steps
   pub few : passes_limit p steps ≡ None
 
 -- and the text of certificates holds a valid block for each condition, in order, with only blanks behind

@@ -3,6 +3,7 @@
 ghost use Rattle.step_run.specs.StatusZero.{EndsShow, EndsAreExact};
 
 use block_laws::laws::blocks_are_exact;
+use proof_grammar::laws::{read_scripts_are_spelled, spelled_scripts_are_read};
 use proof_script::laws::{scripts_are_over, scripts_are_proofs};
 use script_bounds::laws::over_is_written;
 use script_laws::laws::{scripts_are_within, scripts_prove};
@@ -19,6 +20,8 @@ pub fn status_zero_is_exact()
     what_is_read_is_spelled();
     what_is_spelled_is_read();
     read_is_typed();
+    read_scripts_are_spelled();
+    spelled_scripts_are_read();
     scripts_are_proofs();
     scripts_are_over();
     over_is_written();

@@ -8,6 +8,8 @@ pub returns : goal.returns
 returns c =
     let law : Laws = record {
       spelled = c.what_is_read_is_spelled.ensures;
+      scripts_spelled = c.read_scripts_are_spelled.ensures;
+      scripts_read = c.spelled_scripts_are_read.ensures;
       typed = c.read_is_typed.ensures;
       proofs = c.scripts_are_proofs.ensures;
       over = c.scripts_are_over.ensures;

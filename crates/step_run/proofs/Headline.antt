@@ -1,126 +1,331 @@
--- From status 0 to what it shows.
-use Rattle.std.proofs.Common.{◌≡◌, ℕ, List, [], length, refl, subst}
-use Rattle.std.specs.Prelude.{Bool, true, false, Option, Some, None, Result, Ok, Err, IfSome, option_and_then, if◌then◌else◌, nat_lt}
+-- From an end with status 0 to what it shows.
+use Rattle.std.proofs.Common.{◌≡◌, inl, inr, ℕ, zero, suc, ◌+◌, ◌^◌, ◌<◌, ◌≤◌, Bool, true, false, cond, nat_lt, List, [], ◌∷◌, length, map, refl, sym, ap, ◌∙◌, subst, arith}
+use Rattle.std.specs.Prelude.{Option, Some, None, Result, Ok, Err, slice_get, ℤ}
+use Rattle.st_tokens.specs.declared.limit.LimitKind.{LimitKind}
 use Rattle.st_tokens.specs.declared.limit.LimitKind.TheVariants as limits
+use Rattle.std.proofs.lemmas.Bool.Decides.{nat_tests}
+use Rattle.std.proofs.lemmas.List.{length-map}
 use Rattle.st_form.specs.Condition.{Implication}
+use Rattle.st_form.specs.Formula.{Formula, Formulas, truth_value, row, equal, bool_var, at, negation, every, some, none, more}
+use Rattle.st_linear.specs.Linear.{Linear, AllBelow}
+use Rattle.st_certificate.specs.Tree.{Tree}
+use Rattle.temporal_goals.specs.Texts.{PlainStep}
 use Rattle.control_facts.specs.Alternatives.{control_of}
-use Rattle.cert_text.specs.Held.{Held}
-use Rattle.cert_text.specs.Blank.{first_place, past_blanks}
+use Rattle.farkas_check.specs.Problem.{Setting}
+use Rattle.farkas_check.specs.Meaning.{IsValidCondition}
+use Rattle.farkas_check.proofs.Law.{certified}
+use Rattle.search_laws.specs.Forms.{AllForms, AllFormsOf, IsProper}
+use Rattle.search_laws.specs.Laws.{CertificatesAreValid}
+use Rattle.search_laws.specs.Moves.{Verdict, valid, open_at, wide_at, decided}
+use Rattle.transition_system.specs.Bounds.{IsSystem, LinearWithin, EntriesWithin, FormulaWithin, FormulasWithin}
+use Rattle.vc_generator.specs.Building.{Draft}
 use Rattle.vc_generator.specs.declared.faults.VcFault.{VcFault}
-use Rattle.vc_generator.specs.Refusing.{refusals}
-use Rattle.spl_parser.specs.ProgramTree as raw
-use Rattle.spl_parser.proofs.ProgramTheorems.{what_is_read_is_spelled}
-use Rattle.spl_typer.specs.Programs.{Typed}
+use Rattle.condition_sizes.specs.Within.{Each, DraftWithin}
+use Rattle.script_laws.specs.Script.{script_list}
+use Rattle.script_laws.specs.Laws.{ScriptsProve, ScriptsAreWithin}
+use Rattle.script_bounds.specs.Over.{OverIsWritten}
+use Rattle.spl_semantics.proofs.ControlMet.{reached_meets}
+use Rattle.spl_translation.specs.Translation.{translation}
+use Rattle.spl_translation.proofs.Corresponding.{corresponds}
+use Rattle.spl_translation.proofs.Observed.{run_seen}
+use Rattle.spl_translation.proofs.Systemic.{translation_is_system}
+use Rattle.obligation_laws.specs.Obligations.{AreValid}
+use Rattle.obligation_laws.proofs.Enough.{enough}
+use Rattle.script_obligations.proofs.Programs.{scripts-hold}
+use Rattle.spl_parser.specs.Theorems.{ReadIsSpelled}
+use Rattle.spl_typer.specs.Programs.{Typed, typing}
+use Rattle.spl_typer.specs.ProgramRules.{program_faults}
+use Rattle.expression_typer.specs.declared.fault.TypeFault.{TypeFault}
+use Rattle.typing_laws.specs.Laws.{ReadIsTyped, TellsLeast}
+use Rattle.proof_script.specs.Obeying.{ScriptsAreProofs}
+use Rattle.proof_script.specs.Speaking.{ScriptsAreOver}
+use Rattle.proof_script.specs.declared.fault.ScriptFault.{ScriptFault}
+use Rattle.cert_text.specs.Blank.{first_place, past_blanks}
+use Rattle.cert_text.specs.Held.{Held}
+use Rattle.block_laws.specs.Checked.{Checked, all_valid, refused, whole_text, checked_from}
+use Rattle.block_laws.specs.Blocks.{HasBlocks, behind}
+use Rattle.block_laws.specs.Laws.{AllDischarged, BlocksAreExact}
+use Rattle.step_report.specs.declared.refusals.FileRole.{FileRole}
+use Rattle.step_report.specs.Goals.{certificates_text}
+use Rattle.step_plan.specs.declared.status.Status.TheVariants.{Proved}
+use Rattle.step_plan.specs.Limits.{length_limit, length_kind, limited}
+use Rattle.step_plan.specs.Outcome.{Outcome}
+use Rattle.step_plan.specs.Reading.{AreTold}
+use Rattle.step_plan.specs.Plan.{Told, Plan, asks, then_plan, EndsIn}
 use Rattle.step_run.specs.declared.refusals.Refusal.{Refusal}
-use Rattle.step_run.specs.declared.refusals.Refusal.TheVariants as texts
-use Rattle.step_run.specs.declared.status.Status.{Status}
-use Rattle.step_run.specs.declared.status.Status.TheVariants.{Proved}
-use Rattle.expression_typer.specs.Naming.{names_of}
-use Rattle.step_run.specs.Source.{source_spelled}
-use Rattle.step_run.specs.ProofText.{Goal, goal_spelled}
-use Rattle.step_run.specs.Conditions.{drafts, conditions_of, setting_of}
-use Rattle.step_run.specs.Check.{whole_text, Checked, all_valid, refused, checked_from}
-use Rattle.step_run.specs.Plan.{Outcome, outcome_of}
-use Rattle.step_run.specs.Outcome.{word, is_check, limited, ending, outcome_of_checked, judged, plan_of, plan_of_words, plan_of_program, plan_of_goal, plan_of_conditions}
-use Rattle.step_run.specs.Headline.{Shows, Headline}
-use Rattle.step_run.specs.Top.{UnlessFault}
-use Rattle.step_run.proofs.Typed.{from_text}
-use Rattle.step_run.proofs.Obliged.{AllValid, goal_holds}
-use Rattle.step_run.proofs.Blocks.{all_are_valid}
+use Rattle.step_run.specs.declared.refusals.Refusal.TheVariants.{Fault, Limit, Memory}
+use Rattle.step_run.specs.Refusals.{of_script}
+use Rattle.step_run.specs.Outcome.{program_refused, proof_refused}
+use Rattle.step_run.specs.Source.{source_spelled, IsSpelled}
+use Rattle.proof_grammar.specs.Grammar.{SpellsScript}
+use Rattle.proof_grammar.specs.Theorems.{SpelledScriptsAreRead, ReadScriptsAreSpelled}
+use Rattle.step_run.specs.Conditions.{Posed, system_of, setting_of, words_over, steps_spelled, drafts, conditions_of, passes_limit, limit_of}
+use Rattle.step_run.specs.Checked.{goals_proved, ending, check_ended, checked}
+use Rattle.step_run.specs.Verified.{Verified, all_found, left_open, given_up, by_verdict, verdict_on, verified_from, search_ended, searched, certificates}
+use Rattle.step_run.specs.Plans.{program_or_end, source_of_text, steps_or_end, posed_or_end, obliged, posed_of_text}
+use Rattle.step_run.specs.Posing.{IsScript}
+use Rattle.step_run.specs.Headline.{Reads, AreFound, Hold}
+use Rattle.step_run.proofs.Sources.{source_read}
+use Rattle.step_run.proofs.Posing.{script_read, obliged_is, is_proof, is_written}
+use Rattle.step_run.proofs.Typed.{from_text, well_typed}
 
--- status 0 comes only where all blocks are valid and blanks follow
-record Behind (p : Typed) (cs : List Implication) (text : List ℕ) : Type 0 where
-  rest : Held
-  valid : checked_from (setting_of p) 1 cs (whole_text text) ≡ all_valid rest
-  blank : first_place (past_blanks rest) ≡ None
+abbrev pub IsProved : Outcome → Type 0
+IsProved o = o.status ≡ Proved
 
-by_ending : (n : ℕ) (goal : List ℕ) (place : Option ℕ) → Proved ≡ (ending n goal place).status → place ≡ None
-by_ending n goal None e = refl
-by_ending n goal (Some place) e = absurd cc
+-- a program, its script and its conditions
+abbrev pub posed : Typed → List PlainStep → Posed
+posed p steps = record { program = p; steps = steps; conditions = conditions_of p steps }
 
-by_checked : (p : Typed) (goal : List ℕ) (cs : List Implication) (text : List ℕ) (n : ℕ) (r : Checked) → checked_from (setting_of p) 1 cs (whole_text text) ≡ r → Proved ≡ (outcome_of_checked p goal n r).status → Behind p cs text
-by_checked p goal cs text n (all_valid rest) is e = record { rest = rest; valid = is; blank = by_ending n goal (first_place (past_blanks rest)) e }
-by_checked p goal cs text n (refused m c reason) is e = absurd cc
+-- what stands before the conditions ends no run with status 0
+refused_not : (refusal : Refusal) → IsProved (program_refused refusal) → ⊥
+refused_not (Fault kind place) e = cc
+refused_not (Limit kind) e = cc
+refused_not Memory e = cc
 
-proved_behind : (p : Typed) (goal : List ℕ) (cs : List Implication) (text : List ℕ) → Proved ≡ (judged p goal cs text).status → Behind p cs text
-unfolding judged
-proved_behind p goal cs text e = by_checked p goal cs text _ (checked_from (setting_of p) 1 cs (whole_text text)) refl e
+proof_not : (refusal : Refusal) → IsProved (proof_refused refusal) → ⊥
+proof_not (Fault kind place) e = cc
+proof_not (Limit kind) e = cc
+proof_not Memory e = cc
 
-valid_in : (p : Typed) (cs : List Implication) → AllValid (setting_of p).control cs → AllValid (control_of p.processes) cs
-unfolding setting_of
-valid_in p cs h = h
+limited_not : (kind : LimitKind) → IsProved (limited kind) → ⊥
+limited_not kind e = cc
 
-abbrev Shown : List ℕ → List ℕ → List ℕ → Type 0
-Shown pt qt certificates = (text : raw.Program) × ((p : Typed) × ((g : Goal) × Shows pt qt certificates text p g))
+module _ (told : Told) (o : Outcome) where
+  ends_as : (p : Outcome) → (IsProved p → ⊥) → p ≡ o → IsProved o → ⊥
+  ends_as p never is e = never (subst IsProved (sym is) e)
 
-shown : (pt qt certificates : List ℕ) (p : Typed) (g : Goal) → source_spelled pt ≡ Ok p → goal_spelled (names_of p.names) qt ≡ Ok g → Proved ≡ (judged p g.name (conditions_of p g) certificates).status → Shown pt qt certificates
-shown pt qt certificates p g program goal e =
-    let b = proved_behind p g.name (conditions_of p g) certificates e in
-    let f = from_text pt p program in (
-      f.program,
-      (
-        p,
-        (
-          g,
-          record {
-            spelled = what_is_read_is_spelled pt f.program f.reads;
-            program = f.types;
-            goal = goal;
-            rest = b.rest;
-            valid = b.valid;
-            blank = b.blank;
-            holds = goal_holds p g (pt, program) (valid_in p (conditions_of p g) (all_are_valid (setting_of p) 1 (conditions_of p g) (whole_text certificates) b.rest b.valid));
-          },
-        ),
-      ),
-    )
+  -- a file that is told is within its limit, and its bytes are gone on with
+  pub file_proved : {A : Type 0} (role : FileRole) (name text : List ℕ) (go : List ℕ → Plan A) → told name ≡ Some text → EndsIn told (asks role name go) o → IsProved o → (length text ≤ length_limit role) × EndsIn told (go text) o
+  file_proved role name text go is (inl long) e = absurd (limited_not (length_kind role) (subst IsProved long.1 e))
+  file_proved role name text go is (inr m) e =
+      let same : m.0 ≡ text = subst (λ (t : Option (List ℕ)). AreTold t m.0) is m.1 in
+      (subst (λ (b : List ℕ). length b ≤ length_limit role) same m.2, subst (λ (b : List ℕ). EndsIn told (go b) o) same m.3)
 
-abbrev IsProved : Outcome → Type 0
-IsProved o = Proved ≡ o.status
+  -- the text of the program spells one
+  pub source_proved : (text : List ℕ) (f : Typed → Plan Posed) (next : Posed → Plan ⊥) → EndsIn told (then_plan (then_plan (source_of_text text) f) next) o → IsProved o
+      → (p : Typed) × (source_spelled text ≡ Ok p) × EndsIn told (then_plan (f p) next) o
+  source_proved text f next e proved =
+      by (source_spelled text) refl (subst (λ (q : Plan Typed). EndsIn told (then_plan (then_plan q f) next) o) (source_read text (source_spelled text) refl) e) where
+        by : (r : Result Typed Refusal) → source_spelled text ≡ r → EndsIn told (then_plan (then_plan (program_or_end r) f) next) o → (p : Typed) × (source_spelled text ≡ Ok p) × EndsIn told (then_plan (f p) next) o
+        by (Ok p) is g = (p, is, g)
+        by (Err refusal) is g = absurd (ends_as (program_refused refusal) (refused_not refusal) g proved)
 
--- a file that is told, within its limit
-by_limit : (Q : Type 0) (long : Outcome) (b : Bool) (o : Option Outcome) → (IsProved long → ⊥) → (IfSome o IsProved → Q) → IfSome (if b then Some long else o) IsProved → Q
-by_limit Q long true o not_long h e = absurd (not_long e)
-by_limit Q long false o not_long h e = h e
+  -- the text of the proof spells a script, and no condition passes a limit
+  pub record IsPosed (p : Typed) (text : List ℕ) (next : Posed → Plan ⊥) : Type 0 where
+    pub steps : List PlainStep
+    pub script : steps_spelled p text ≡ Ok steps
+    pub few : passes_limit p steps ≡ None
+    pub goes : EndsIn told (next (posed p steps)) o
 
-asked : (Q : List ℕ → Type 0) (limit : ℕ) (long : Outcome) (next : List ℕ → Option Outcome) → (IsProved long → ⊥) → ((bytes : List ℕ) → IfSome (next bytes) IsProved → Q bytes)
-    → (o : Option (List ℕ)) → IfSome (option_and_then (λ bytes. if nat_lt limit (length bytes) then Some long else next bytes) o) IsProved → IfSome o Q
-asked Q limit long next not_long h None e = tt
-asked Q limit long next not_long h (Some bytes) e = by_limit (Q bytes) long (nat_lt limit (length bytes)) (next bytes) not_long (h bytes) e
+  pub posed_proved : (p : Typed) (text : List ℕ) (next : Posed → Plan ⊥) → EndsIn told (then_plan (posed_of_text p text) next) o → IsProved o → IsPosed p text next
+  posed_proved p text next e proved =
+      by (steps_spelled p text) refl (subst (λ (q : Plan (List PlainStep)). EndsIn told (then_plan (then_plan q (obliged p)) next) o) (script_read p text (steps_spelled p text) refl) e) where
+        by_limit : (steps : List PlainStep) (r : Option (VcFault × ℕ)) → steps_spelled p text ≡ Ok steps → passes_limit p steps ≡ r → EndsIn told (then_plan (posed_or_end p steps r) next) o → IsPosed p text next
+        by_limit steps None script few g = record { steps = steps; script = script; few = few; goes = g }
+        by_limit steps (Some passed) script few g = absurd (ends_as (limited (limit_of passed.0)) (limited_not (limit_of passed.0)) g proved)
 
-module _ (told : List ℕ → Option (List ℕ)) (words : List (List ℕ)) where
-  abbrev Last : List ℕ → List ℕ → Type 0
-  Last pt qt = IfSome (told (word words 4)) (λ certificates. Shown pt qt certificates)
+        by : (r : Result (List PlainStep) ScriptFault) → steps_spelled p text ≡ r → EndsIn told (then_plan (then_plan (steps_or_end r) (obliged p)) next) o → IsPosed p text next
+        by (Ok steps) is g =
+            by_limit steps (passes_limit p steps) is refl (subst (λ (q : Plan Posed). EndsIn told (then_plan q next) o) (obliged_is p steps (passes_limit p steps) refl) g)
+        by (Err fault) is g = absurd (ends_as (proof_refused (of_script fault)) (proof_not (of_script fault)) g proved)
 
-  by_conditions : (pt qt : List ℕ) (p : Typed) (g : Goal) → source_spelled pt ≡ Ok p → goal_spelled (names_of p.names) qt ≡ Ok g
-      → (fault : Option VcFault) → IfSome (outcome_of told (plan_of_conditions words p g fault)) IsProved → Last pt qt
-  by_conditions pt qt p g program goal (Some fault) e = absurd cc
-  by_conditions pt qt p g program goal None e =
-      asked (λ certificates. Shown pt qt certificates) 268435456 (limited limits.Certificates) (λ bytes. Some (judged p g.name (conditions_of p g) bytes)) (λ x. cc)
-      (λ bytes x. shown pt qt bytes p g program goal x) (told (word words 4)) e
+-- what is within bounds is as the search wants it
+record IsSearched (p : Typed) (d : Draft) : Type 0 where
+  given : AllForms (IsProper (length (setting_of p).variables)) d.condition.given
+  shown : AllForms (IsProper (length (setting_of p).variables)) d.condition.shown
 
-  by_goal : (pt qt : List ℕ) (p : Typed) → source_spelled pt ≡ Ok p → (o : Result Goal Refusal) → goal_spelled (names_of p.names) qt ≡ o → IfSome (outcome_of told (plan_of_goal words p o)) IsProved → Last pt qt
-  by_goal pt qt p program (Err (texts.Fault kind place)) goal e = absurd cc
-  by_goal pt qt p program (Err (texts.Limit kind)) goal e = absurd cc
-  by_goal pt qt p program (Err texts.Memory) goal e = absurd cc
-  by_goal pt qt p program (Ok g) goal e = by_conditions pt qt p g program goal (refusals [] (drafts p g)) e
+module _ (truths : List Bool) (locations : ℕ) where
+  there : (xs : List Bool) (v : ℕ) (b : Bool) → slice_get xs v ≡ Some b → v < length xs
+  there [] v b e = cc e
+  there (x ∷ xs) zero b e = omega arith
+  there (x ∷ xs) (suc v) b e = let h = there xs v b e in omega arith
 
-  by_program : (pt : List ℕ) (r : Result Typed Refusal) → source_spelled pt ≡ r → IfSome (outcome_of told (plan_of_program words r)) IsProved → IfSome (told (word words 3)) (λ qt. Last pt qt)
-  by_program pt (Err (texts.Fault kind place)) program e = absurd cc
-  by_program pt (Err (texts.Limit kind)) program e = absurd cc
-  by_program pt (Err texts.Memory) program e = absurd cc
-  by_program pt (Ok p) program e =
-      asked (λ qt. Last pt qt) 4194304 (limited limits.Text) (λ bytes. outcome_of told (plan_of_goal words p (goal_spelled (names_of p.names) bytes))) (λ x. cc)
-      (λ qt x. by_goal pt qt p program (goal_spelled (names_of p.names) qt) refl x) (told (word words 3)) e
+  entries_below : (es : List (ℕ × ℤ)) → EntriesWithin truths (2 ^ 69) es → AllBelow (length truths) es
+  entries_below [] h = tt
+  entries_below (e ∷ es) h = (there truths e.0 false h.0, entries_below es h.2)
 
-  by_words : (b : Bool) → IfSome (outcome_of told (plan_of_words b words)) IsProved → Headline told words
-  by_words false e = absurd cc
-  by_words true e =
-      asked (λ pt. IfSome (told (word words 3)) (λ qt. Last pt qt)) 4194304 (limited limits.Text) (λ bytes. outcome_of told (plan_of_program words (source_spelled bytes))) (λ x. cc)
-      (λ pt x. by_program pt (source_spelled pt) refl x) (told (word words 2)) e
+  proper_form : (f : Linear) → LinearWithin truths (2 ^ 69) f → IsProper (length truths) f
+  proper_form f h = record { entries = h.rising; below = entries_below f.entries h.entries }
 
-  -- a run that ended with status 0 has shown its goal
-  pub headline : (s : Status) → s ≡ Proved → UnlessFault s (IfSome (outcome_of told (plan_of words)) (λ o. s ≡ o.status)) → Headline told words
-  headline s is h =
-      let there : IfSome (outcome_of told (plan_of words)) IsProved = subst (λ (x : Status). UnlessFault x (IfSome (outcome_of told (plan_of words)) (λ o. x ≡ o.status))) is h in
-      by_words (is_check words) there
+  mutual
+    proper : (f : Formula) → FormulaWithin truths locations (2 ^ 69) f → AllForms (IsProper (length truths)) f
+    proper (truth_value b) h = tt
+    proper (row f) h = proper_form f h
+    proper (equal f) h = proper_form f h
+    proper (bool_var v) h = tt
+    proper (at l) h = tt
+    proper (negation f) h = proper f h
+    proper (every fs) h = all_proper fs h
+    proper (some fs) h = all_proper fs h
+
+    all_proper : (fs : Formulas) → FormulasWithin truths locations (2 ^ 69) fs → AllFormsOf (IsProper (length truths)) fs
+    all_proper none h = tt
+    all_proper (more f fs) h = (proper f h.0, all_proper fs h.1)
+
+-- the laws of the crates below
+pub record Laws : Type 0 where
+  pub spelled : ReadIsSpelled
+  pub scripts_spelled : ReadScriptsAreSpelled
+  pub scripts_read : SpelledScriptsAreRead
+  pub typed : ReadIsTyped
+  pub proofs : ScriptsAreProofs
+  pub over : ScriptsAreOver
+  pub written : OverIsWritten
+  pub within : ScriptsAreWithin
+  pub prove : ScriptsProve
+  pub blocks : BlocksAreExact
+  pub valid : CertificatesAreValid
+
+told_least : (t : Result Typed TypeFault) (p : Typed) (fs : List TypeFault) → t ≡ Ok p → TellsLeast t fs → fs ≡ []
+told_least t p fs is h = subst (λ r. TellsLeast r fs) is h
+
+module _ (law : Laws) where
+  -- the script that a text spells is read
+  pub script_of : (qt : List ℕ) (p : Typed) (steps : List PlainStep) → SpellsScript (words_over p) qt steps → steps_spelled p qt ≡ Ok steps
+  script_of qt p steps h = law.scripts_read (words_over p) qt steps h
+
+  -- the texts are well formed
+  pub reads : (pt qt : List ℕ) (p : Typed) (steps : List PlainStep) → source_spelled pt ≡ Ok p → steps_spelled p qt ≡ Ok steps → passes_limit p steps ≡ None → Reads pt qt p steps
+  reads pt qt p steps source script few =
+      let f = from_text pt p source in
+      record {
+        text = f.program;
+        spelled = law.spelled pt f.program f.reads;
+        lawful = told_least (typing f.program) p (program_faults f.program) f.types (law.typed pt f.program f.reads).1;
+        typed = f.types;
+        script = law.scripts_spelled (words_over p) qt steps script;
+        few = few;
+      }
+
+  -- where all conditions are valid, the goals hold
+  abbrev pub AllValid : Typed → List Implication → Type 0
+  AllValid p [] = Unit {0}
+  AllValid p (c ∷ cs) = IsValidCondition (control_of p.processes) c.given c.shown × AllValid p cs
+
+  valid_drafts : (p : Typed) (ds : List Draft) → AllValid p (map (λ d. d.condition) ds) → AreValid (control_of p.processes) ds
+  valid_drafts p [] h = tt
+  valid_drafts p (d ∷ ds) h = (h.0, valid_drafts p ds h.1)
+
+  pub hold : (p : Typed) (steps : List PlainStep) → IsSpelled p → IsScript p steps → AllValid p (conditions_of p steps) → Hold p steps
+  unfolding drafts system_of
+  hold p steps spelled script valid_all =
+      let k = well_typed p spelled in
+      let system = translation p.variables p.initial p.processes p.locations in
+      let both = corresponds p.variables p.initial p.processes p.locations k.well k.typed k.start in
+      let proof = is_proof law.proofs p system steps refl script in
+      scripts-hold p.processes p.initial system law.prove
+      (λ lemmas conditions goal proves cited all. enough p.processes p.initial system (λ st r. reached_meets p.processes p.initial k.well st r)
+      (λ o run. run_seen p.processes p.initial k.well.numbered system both o run) lemmas conditions goal proves cited all)
+      steps proof (valid_drafts p (script_list system steps) valid_all)
+
+  control_is : (p : Typed) (c : Implication) → IsValidCondition (setting_of p).control c.given c.shown → IsValidCondition (control_of p.processes) c.given c.shown
+  unfolding setting_of
+  control_is p c h = h
+
+  -- the conditions of a script are as the search wants them
+  variables_are : (p : Typed) → length (setting_of p).variables ≡ length (system_of p).truths
+  unfolding setting_of system_of
+  variables_are p = sym (length-map p.variables (λ v. v.truth))
+
+  system_whole : (p : Typed) → IsSpelled p → IsSystem (system_of p)
+  unfolding system_of
+  system_whole p spelled = translation_is_system p.variables p.initial p.processes p.locations p.statements (well_typed p spelled)
+
+  searched_each : (p : Typed) (ds : List Draft) → Each (DraftWithin (system_of p)) ds → Each (λ d. IsSearched p d) ds
+  searched_each p [] h = tt
+  searched_each p (d ∷ ds) h = (
+    record {
+      given = subst (λ n. AllForms (IsProper n) d.condition.given) (sym (variables_are p)) (proper (system_of p).truths (system_of p).locations d.condition.given h.0.given);
+      shown = subst (λ n. AllForms (IsProper n) d.condition.shown) (sym (variables_are p)) (proper (system_of p).truths (system_of p).locations d.condition.shown h.0.shown);
+    },
+    searched_each p ds h.1,
+  )
+
+  searched_drafts : (p : Typed) (steps : List PlainStep) → IsSpelled p → IsScript p steps → Each (λ d. IsSearched p d) (drafts p steps)
+  unfolding drafts
+  searched_drafts p steps spelled script =
+      searched_each p (script_list (system_of p) steps)
+      (law.within (system_of p) steps (system_whole p spelled) (is_written law.over law.written p (system_of p) steps spelled refl script))
+
+  -- valid blocks show valid conditions
+  pub by_blocks : (p : Typed) (cs : List Implication) (h : Held) → HasBlocks (setting_of p) cs h → AllValid p cs
+  by_blocks p [] h b = tt
+  by_blocks p (c ∷ cs) h b = (control_is p c (certified (setting_of p) c.given c.shown _ b.0.valid), by_blocks p cs (behind h b.0) b.1)
+
+  -- so do certificates that are found
+  found_valid : (p : Typed) (ds : List Draft) (ts : List Tree) → Each (λ d. IsSearched p d) ds → AreFound (setting_of p) (map (λ d. d.condition) ds) ts → AllValid p (map (λ d. d.condition) ds)
+  found_valid p [] ts proper found = tt
+  found_valid p (d ∷ ds) [] proper found = absurd found
+  found_valid p (d ∷ ds) (t ∷ ts) proper found = (
+    control_is p d.condition (law.valid (setting_of p) d.condition.given d.condition.shown t proper.0.given proper.0.shown found.0).holds,
+    found_valid p ds ts proper.1 found.1,
+  )
+
+  pub by_search : (p : Typed) (steps : List PlainStep) (ts : List Tree) → IsSpelled p → IsScript p steps → AreFound (setting_of p) (conditions_of p steps) ts → AllValid p (conditions_of p steps)
+  by_search p steps ts spelled script found = found_valid p (drafts p steps) ts (searched_drafts p steps spelled script) found
+
+-- the outcome of a check with status 0
+by_ending : (x : Posed) (place : Option ℕ) → IsProved (ending x place) → (place ≡ None) × (ending x place ≡ goals_proved x)
+by_ending x None e = (refl, refl)
+by_ending x (Some place) e = absurd cc
+
+pub record Passed (x : Posed) (text : List ℕ) (o : Outcome) : Type 0 where
+  pub all : AllDischarged (setting_of x.program) x.conditions (whole_text text)
+  pub same : o ≡ goals_proved x
+
+by_check : (x : Posed) (text : List ℕ) (o : Outcome) (r : Checked) → checked_from (setting_of x.program) 1 x.conditions (whole_text text) ≡ r → check_ended x r ≡ o → IsProved o → Passed x text o
+by_check x text o (all_valid rest) is e proved =
+    let b = by_ending x (first_place (past_blanks rest)) (subst IsProved (sym e) proved) in
+    record { all = record { rest = rest; valid = is; blank = b.0 }; same = sym e ∙ b.1 }
+by_check x text o (refused n c reason) is e proved = absurd (let same : IsProved (check_ended x (refused n c reason)) = subst IsProved (sym e) proved in cc)
+
+pub check_passed : (x : Posed) (text : List ℕ) (o : Outcome) → checked x text ≡ o → IsProved o → Passed x text o
+unfolding checked
+check_passed x text o e proved = by_check x text o (checked_from (setting_of x.program) 1 x.conditions (whole_text text)) refl e proved
+
+-- the outcome of a search with status 0
+pub record Found (x : Posed) (all : List Tree → Outcome) (o : Outcome) : Type 0 where
+  pub trees : List Tree
+  pub found : AreFound (setting_of x.program) x.conditions trees
+  pub same : o ≡ all trees
+
+found_first : (k : Setting) (n : ℕ) (c : Implication) (cs : List Implication) (ts : List Tree) (v : Verdict) (r : Verified) → decided k c.given c.shown ≡ v → verified_from k (n + 1) cs ≡ r
+    → ((us : List Tree) → r ≡ all_found us → AreFound k cs us) → by_verdict n c r v ≡ all_found ts → AreFound k (c ∷ cs) ts
+found_first k n c cs ts (valid t) (all_found us) is rest go e =
+    let same : t ∷ us ≡ ts = cc in subst (AreFound k (c ∷ cs)) same (is, go us refl)
+found_first k n c cs ts (valid t) (left_open m d path state) is rest go e = absurd cc
+found_first k n c cs ts (valid t) (given_up m d path stage) is rest go e = absurd cc
+found_first k n c cs ts (open_at path state) r is rest go e = absurd cc
+found_first k n c cs ts (wide_at path stage) r is rest go e = absurd cc
+
+verdict_unfolds : (k : Setting) (c : Implication) → verdict_on k c ≡ decided k c.given c.shown
+unfolding verdict_on
+verdict_unfolds k c = refl
+
+all_are_found : (k : Setting) (n : ℕ) (cs : List Implication) (ts : List Tree) → verified_from k n cs ≡ all_found ts → AreFound k cs ts
+all_are_found k n [] ts e = (let same : [] ≡ ts = cc in sym same)
+all_are_found k n (c ∷ cs) ts e =
+    found_first k n c cs ts (decided k c.given c.shown) (verified_from k (n + 1) cs) refl refl (λ us is. all_are_found k (n + 1) cs us is)
+    (ap (by_verdict n c (verified_from k (n + 1) cs)) (sym (verdict_unfolds k c)) ∙ e)
+
+by_search_ended : (x : Posed) (all : List Tree → Outcome) (o : Outcome) (r : Verified) → verified_from (setting_of x.program) 1 x.conditions ≡ r → search_ended x all r ≡ o → IsProved o → Found x all o
+by_search_ended x all o (all_found ts) is e proved = record { trees = ts; found = all_are_found (setting_of x.program) 1 x.conditions ts is; same = sym e }
+by_search_ended x all o (left_open n c path state) is e proved = absurd (let same : IsProved (search_ended x all (left_open n c path state)) = subst IsProved (sym e) proved in cc)
+by_search_ended x all o (given_up n c path stage) is e proved = absurd (let same : IsProved (search_ended x all (given_up n c path stage)) = subst IsProved (sym e) proved in cc)
+
+pub search_passed : (x : Posed) (all : List Tree → Outcome) (o : Outcome) → searched x all ≡ o → IsProved o → Found x all o
+unfolding searched
+search_passed x all o e proved = by_search_ended x all o (verified_from (setting_of x.program) 1 x.conditions) refl e proved
+
+-- the text of certificates with status 0
+abbrev written_end : List Tree → Bool → Outcome
+written_end ts b = cond b (limited limits.Certificates) (record { status = Proved; text = certificates_text ts })
+
+pub certificates_passed : (ts : List Tree) (o : Outcome) → o ≡ certificates ts → IsProved o → (o ≡ record { status = Proved; text = certificates_text ts }) × (length (certificates_text ts) ≤ 268435456)
+certificates_passed ts o is proved = by (nat_lt 268435456 (length (certificates_text ts))) refl where
+  below : (n : ℕ) → nat_lt 268435456 n ≡ false → n ≤ 268435456
+  below n e = grind (arith, nat_tests)
+
+  by : (b : Bool) → nat_lt 268435456 (length (certificates_text ts)) ≡ b → (o ≡ record { status = Proved; text = certificates_text ts }) × (length (certificates_text ts) ≤ 268435456)
+  by true e = absurd (let same : IsProved (written_end ts true) = subst IsProved (is ∙ ap (written_end ts) e) proved in cc)
+  by false e = (is ∙ ap (written_end ts) e, below (length (certificates_text ts)) e)

@@ -1,37 +1,78 @@
--- A run asks for files that its words name.
-use Rattle.std.proofs.Common.{inl, inr, ℕ, List, [], subst, Bool, true, false}
+-- A run asks for files that its request names.
+use Rattle.std.proofs.Common.{ℕ, List, refl}
 use Rattle.std.specs.Prelude.{Option, Some, None, Result, Ok, Err}
+use Rattle.temporal_goals.specs.Texts.{PlainStep}
 use Rattle.vc_generator.specs.declared.faults.VcFault.{VcFault}
-use Rattle.vc_generator.specs.Refusing.{refusals}
 use Rattle.spl_typer.specs.Programs.{Typed}
-use Rattle.step_run.specs.declared.status.FileRole.{FileRole}
+use Rattle.proof_script.specs.declared.fault.ScriptFault.{ScriptFault}
+use Rattle.step_words.specs.Request.{PlainRequest, checks, verifies, proves, makes, traces, finds}
+use Rattle.step_report.specs.declared.refusals.FileRole.{FileRole}
+use Rattle.step_report.specs.declared.refusals.FileRole.TheVariants.{Program, Proof}
+use Rattle.step_plan.specs.Ending.{Names}
+use Rattle.step_plan.specs.Plan.{Told, Plan, ends, goes_on, asks, then_plan, ComesTo}
+use Rattle.step_plan.proofs.Named.{AsksOnly, only_then, only_comes}
 use Rattle.step_run.specs.declared.refusals.Refusal.{Refusal}
-use Rattle.expression_typer.specs.Naming.{names_of}
+use Rattle.step_run.specs.Conditions.{steps_spelled, passes_limit}
 use Rattle.step_run.specs.Source.{source_spelled}
-use Rattle.step_run.specs.ProofText.{Goal, goal_spelled}
-use Rattle.step_run.specs.Conditions.{drafts}
-use Rattle.step_run.specs.Plan.{ComesTo}
-use Rattle.step_run.specs.Outcome.{is_check, names_file, NamesFile, plan_of, plan_of_words, plan_of_program, plan_of_goal, plan_of_conditions}
+use Rattle.step_run.specs.Request.{NamesFile}
+use Rattle.step_run.specs.Plans.{program_or_end, source_of_text, source_plan, steps_or_end, script_of_text, posed_or_end, obliged, posed_of_text, posed_plan, conditions_plan, check_posed, verify_posed, prove_posed, count_posed, workload_posed, workload_conditions, numbered, plan_for, plan_of}
+use Rattle.step_workload.specs.Texts.{program_text, proof_text}
 
-module _ (told : List ℕ → Option (List ℕ)) (words : List (List ℕ)) (role : FileRole) (name : List ℕ) where
-  named_conditions : (p : Typed) (g : Goal) (fault : Option VcFault) → ComesTo told (plan_of_conditions words p g fault) role name → names_file true words role name
-  named_conditions p g (Some fault) none = absurd none
-  named_conditions p g None (inl is) = subst (λ (r : FileRole). names_file true words r name) is.0 is.1
-  named_conditions p g None (inr more) = absurd more.3
+module _ (P : Names) where
+  or_end : (r : Result Typed Refusal) → AsksOnly P (program_or_end r)
+  or_end (Ok p) = tt
+  or_end (Err refusal) = tt
 
-  named_goal : (p : Typed) (goal : Result Goal Refusal) → ComesTo told (plan_of_goal words p goal) role name → names_file true words role name
-  named_goal p (Err refusal) none = absurd none
-  named_goal p (Ok g) asked = named_conditions p g (refusals [] (drafts p g)) asked
+  only_source : (text : List ℕ) → AsksOnly P (source_of_text text)
+  unfolding source_of_text
+  only_source text = or_end (source_spelled text)
 
-  named_program : (program : Result Typed Refusal) → ComesTo told (plan_of_program words program) role name → names_file true words role name
-  named_program (Err refusal) none = absurd none
-  named_program (Ok p) (inl is) = subst (λ (r : FileRole). names_file true words r name) is.0 is.1
-  named_program (Ok p) (inr more) = named_goal p (goal_spelled (names_of p.names) more.0) more.3
+  steps_end : (r : Result (List PlainStep) ScriptFault) → AsksOnly P (steps_or_end r)
+  steps_end (Ok steps) = tt
+  steps_end (Err fault) = tt
 
-  named_words : (check : Bool) → ComesTo told (plan_of_words check words) role name → names_file check words role name
-  named_words false none = absurd none
-  named_words true (inl is) = subst (λ (r : FileRole). names_file true words r name) is.0 is.1
-  named_words true (inr more) = named_program (source_spelled more.0) more.3
+  only_script : (p : Typed) (text : List ℕ) → AsksOnly P (script_of_text p text)
+  unfolding script_of_text
+  only_script p text = steps_end (steps_spelled p text)
 
-  pub named : ComesTo told (plan_of words) role name → NamesFile words role name
-  named asked = named_words (is_check words) asked
+  posed_end : (p : Typed) (steps : List PlainStep) (o : Option (VcFault × ℕ)) → AsksOnly P (posed_or_end p steps o)
+  posed_end p steps None = tt
+  posed_end p steps (Some passed) = tt
+
+  only_obliged : (p : Typed) (steps : List PlainStep) → AsksOnly P (obliged p steps)
+  unfolding obliged
+  only_obliged p steps = posed_end p steps (passes_limit p steps)
+
+  only_posed : (p : Typed) (text : List ℕ) → AsksOnly P (posed_of_text p text)
+  only_posed p text = only_then P (obliged p) (script_of_text p text) (only_script p text) (only_obliged p)
+
+  only_conditions : (a b : List ℕ) → P Program a → P Proof b → AsksOnly P (conditions_plan a b)
+  only_conditions a b first second = only_then P (posed_plan b) (source_plan a) (first, only_source) (λ p. (second, only_posed p))
+
+  numbered_only : (n : ℕ) (plan : Plan ⊥) → AsksOnly P plan → AsksOnly P (numbered n plan)
+  numbered_only n (ends o) h = tt
+  numbered_only n (goes_on x) h = absurd x
+  numbered_only n (asks role name go) h = (h.0, λ bytes. numbered_only n (go bytes) (h.1 bytes))
+
+  pub only_workload : (n : ℕ) → AsksOnly P (then_plan (workload_conditions n) count_posed)
+  only_workload n =
+      only_then P count_posed (workload_conditions n) (only_then P (workload_posed n) (source_of_text (program_text n)) (only_source (program_text n)) (λ p. only_posed p (proof_text n))) (λ x. tt)
+
+only_for : (request : PlainRequest) → AsksOnly (NamesFile (Some request)) (plan_for request)
+only_for (checks a b c) =
+    let P : Names = NamesFile (Some (checks a b c)) in
+    only_then P (check_posed c) (conditions_plan a b) (only_conditions P a b refl refl) (λ x. (refl, λ text. tt))
+only_for (verifies a b) = let P : Names = NamesFile (Some (verifies a b)) in only_then P verify_posed (conditions_plan a b) (only_conditions P a b refl refl) (λ x. tt)
+only_for (proves a b) = let P : Names = NamesFile (Some (proves a b)) in only_then P prove_posed (conditions_plan a b) (only_conditions P a b refl refl) (λ x. tt)
+only_for (makes n) =
+    let P : Names = NamesFile (Some (makes n)) in
+    numbered_only P n (then_plan (workload_conditions n) count_posed) (only_workload P n)
+only_for (traces p q s) = tt
+only_for (finds p) = tt
+
+only_of : (o : Option PlainRequest) → AsksOnly (NamesFile o) (plan_of o)
+only_of None = tt
+only_of (Some request) = only_for request
+
+pub named : (told : Told) (o : Option PlainRequest) (role : FileRole) (name : List ℕ) → ComesTo told (plan_of o) role name → NamesFile o role name
+named told o role name asked = only_comes (NamesFile o) told (plan_of o) role name (only_of o) asked

@@ -1,33 +1,92 @@
--- What a run that ends with status 0 has shown: the program's text spells a program of SPL, which is well typed, the
--- proof's text spells a goal over its variables and locations, the certificates' text begins with a valid block for each
--- condition of basic invariance and has only blanks behind, and the goal holds in every state of every run of that program
--- by SPL's interleaved steps.
-use Rattle.std.specs.Prelude.{◌≡◌, ℕ, List, Option, None, IfSome, Ok}
+-- What a run has shown that ends with status 0, and when it does.
+use Rattle.std.specs.Prelude.{◌≡◌, ◌↔◌, ℕ, ◌≤◌, List, [], ◌∷◌, ◌++◌, length, All, Option, Some, None, IfSome, Ok}
+use Rattle.st_form.specs.Condition.{Implication}
+use Rattle.st_certificate.specs.Tree.{Tree}
+use Rattle.temporal_goals.specs.Texts.{PlainStep}
+use Rattle.farkas_check.specs.Problem.{Setting}
+use Rattle.search_laws.specs.Moves.{valid, decided}
+use Rattle.obligation_laws.specs.Obligations.{HoldsOnRuns}
 use Rattle.spl_parser.specs.ProgramTree as raw
 use Rattle.spl_parser.specs.Theorems.{Spells}
 use Rattle.spl_typer.specs.Programs.{Typed, typing}
-use Rattle.temporal_goals.specs.Texts.{invariant}
-use Rattle.obligation_laws.specs.Obligations.{HoldsOnRuns}
-use Rattle.cert_text.specs.Held.{Held}
-use Rattle.cert_text.specs.Blank.{first_place, past_blanks}
-use Rattle.expression_typer.specs.Naming.{names_of}
-use Rattle.step_run.specs.ProofText.{Goal, goal_spelled}
-use Rattle.step_run.specs.Conditions.{conditions_of, setting_of}
-use Rattle.step_run.specs.Check.{whole_text, all_valid, checked_from}
-use Rattle.step_run.specs.Outcome.{word}
+use Rattle.spl_typer.specs.ProgramRules.{program_faults}
+use Rattle.block_laws.specs.Checked.{whole_text}
+use Rattle.block_laws.specs.Blocks.{HasBlocks}
+use Rattle.proof_grammar.specs.Grammar.{SpellsScript}
+use Rattle.step_words.specs.Request.{PlainRequest, checks, verifies, proves, makes}
+use Rattle.step_workload.specs.Texts.{program_text, proof_text}
+use Rattle.step_report.specs.Goals.{proved_text, counted_text, workload_line, certificates_text}
+use Rattle.step_plan.specs.declared.status.Status.{Status}
+use Rattle.step_plan.specs.declared.status.Status.TheVariants.{Proved}
+use Rattle.step_plan.specs.Plan.{Told}
+use Rattle.step_run.specs.Conditions.{setting_of, words_over, conditions_of, passes_limit}
+use Rattle.step_run.specs.Verified.{nodes_in}
 
--- the texts of the three files show the goal
-pub record Shows (program_text proof_text certificates : List ℕ) (text : raw.Program) (p : Typed) (g : Goal) : Type 0 where
+-- The texts of a program and of a proof are well formed: the one spells a program, within the limits of programs, in which no
+-- rule of typing is broken, the other a script over it, and no condition of the script passes a limit.
+pub record Reads (program_text proof_text : List ℕ) (p : Typed) (steps : List PlainStep) : Type 0 where
+  pub text : raw.Program
   pub spelled : Spells program_text text
-  pub program : typing text ≡ Ok p
-  pub goal : goal_spelled (names_of p.names) proof_text ≡ Ok g
-  pub rest : Held
-  pub valid : checked_from (setting_of p) 1 (conditions_of p g) (whole_text certificates) ≡ all_valid rest
-  pub blank : first_place (past_blanks rest) ≡ None
-  pub holds : HoldsOnRuns p.processes p.initial (invariant g.claim)
+  pub lawful : program_faults text ≡ []
+  pub typed : typing text ≡ Ok p
+  pub script : SpellsScript (words_over p) proof_text steps
+  pub few : passes_limit p steps ≡ None
 
--- where the three files tell their bytes, these show a goal
-abbrev pub Headline : (List ℕ → Option (List ℕ)) → List (List ℕ) → Type 0
-Headline told words =
-    IfSome (told (word words 2)) (λ program_text. IfSome (told (word words 3)) (λ proof_text. IfSome (told (word words 4)) (λ certificates.
-    (text : raw.Program) × ((p : Typed) × ((g : Goal) × Shows program_text proof_text certificates text p g)))))
+-- and the text of certificates holds a valid block for each condition, in order, with only blanks behind
+pub record Checks (program_text proof_text certificates : List ℕ) (p : Typed) (steps : List PlainStep) : Type 0 where
+  pub reads : Reads program_text proof_text p steps
+  pub blocks : HasBlocks (setting_of p) (conditions_of p steps) (whole_text certificates)
+
+-- the search finds these certificates
+abbrev pub AreFound : Setting → List Implication → List Tree → Type 0
+AreFound k [] ts = ts ≡ []
+AreFound k (c ∷ cs) [] = ⊥
+AreFound k (c ∷ cs) (t ∷ ts) = (decided k c.given c.shown ≡ valid t) × AreFound k cs ts
+
+-- and each condition is decided valid
+pub record Decides (program_text proof_text : List ℕ) (p : Typed) (steps : List PlainStep) (ts : List Tree) : Type 0 where
+  pub reads : Reads program_text proof_text p steps
+  pub found : AreFound (setting_of p) (conditions_of p steps) ts
+
+-- each goal holds on every run of the program
+abbrev pub Hold : Typed → List PlainStep → Type 0
+Hold p steps = All (λ s. HoldsOnRuns p.processes p.initial s.goal) steps
+
+abbrev pub report : Typed → List PlainStep → List ℕ
+report p steps = proved_text p.names steps (length (conditions_of p steps))
+
+abbrev pub numbers : Typed → List PlainStep → List Tree → List ℕ
+numbers p steps ts = counted_text steps (length (conditions_of p steps)) (nodes_in ts)
+
+-- where the bytes of both files are told
+abbrev pub Both : Told → List ℕ → List ℕ → (List ℕ → List ℕ → Type 0) → Type 0
+Both told a b P = IfSome (told a) (λ pt. IfSome (told b) (λ qt. P pt qt))
+
+-- texts of a program and of a proof are at most 2^22 bytes long, and those of certificates at most 2^28
+abbrev pub AreShort : List ℕ → List ℕ → Type 0
+AreShort pt qt = (length pt ≤ 4194304) × (length qt ≤ 4194304)
+
+abbrev pub IsShort : List ℕ → Type 0
+IsShort ct = length ct ≤ 268435456
+
+-- with status 0 goals hold, and the output names them: `prove` writes their certificates, and a workload counts them
+abbrev pub Headline : Told → (List ℕ → Type 0) → Option PlainRequest → Type 0
+Headline told Said (Some (checks a b c)) =
+    Both told a b (λ pt qt. IfSome (told c) (λ ct. (p : Typed) × (steps : List PlainStep) × Checks pt qt ct p steps × Hold p steps × Said (report p steps)))
+Headline told Said (Some (verifies a b)) = Both told a b (λ pt qt. (p : Typed) × (steps : List PlainStep) × (ts : List Tree) × Decides pt qt p steps ts × Hold p steps × Said (report p steps))
+Headline told Said (Some (proves a b)) =
+    Both told a b (λ pt qt. (p : Typed) × (steps : List PlainStep) × (ts : List Tree) × Decides pt qt p steps ts × Hold p steps × Said (certificates_text ts))
+Headline told Said (Some (makes n)) =
+    (p : Typed) × (steps : List PlainStep) × (ts : List Tree) × Decides (program_text n) (proof_text n) p steps ts × Hold p steps × Said (workload_line n ++ numbers p steps ts)
+Headline told Said _ = ⊥
+
+-- status 0 comes exactly where all conditions are discharged, or decided valid
+abbrev pub Exactly : Told → Status → Option PlainRequest → Type 0
+Exactly told status (Some (checks a b c)) =
+    Both told a b (λ pt qt. IfSome (told c) (λ ct. (status ≡ Proved) ↔ (AreShort pt qt × IsShort ct × ((p : Typed) × (steps : List PlainStep) × Checks pt qt ct p steps))))
+Exactly told status (Some (verifies a b)) =
+    Both told a b (λ pt qt. (status ≡ Proved) ↔ (AreShort pt qt × ((p : Typed) × (steps : List PlainStep) × (ts : List Tree) × Decides pt qt p steps ts)))
+Exactly told status (Some (proves a b)) =
+    Both told a b (λ pt qt. (status ≡ Proved) ↔ (AreShort pt qt × ((p : Typed) × (steps : List PlainStep) × (ts : List Tree) × Decides pt qt p steps ts × IsShort (certificates_text ts))))
+Exactly told status (Some (makes n)) = (status ≡ Proved) ↔ ((p : Typed) × (steps : List PlainStep) × (ts : List Tree) × Decides (program_text n) (proof_text n) p steps ts)
+Exactly told status _ = status ≡ Proved → ⊥

@@ -1,16 +1,16 @@
 -- Why the text of a program or of a proof is refused: the fault of its first place, or the limit that is passed there.
-use Rattle.std.specs.Prelude.{◌≡◌, Option, Some, None, Result, Ok, Err}
+use Rattle.std.specs.Prelude.{◌≡◌, ℕ, Option, Some, None, Result, Ok, Err}
 use Rattle.st_tokens.specs.declared.kind.TokenFault.{TokenFault}
 use Rattle.st_tokens.specs.declared.kind.TokenFault.TheVariants as tokens
-use Rattle.st_tokens.specs.declared.limit.LimitKind.TheVariants as limits
-use Rattle.st_tokens.specs.Stream.{Stream}
 use Rattle.st_reading.specs.Reading.{Stop, syntax, broken, other}
 use Rattle.st_reading.specs.Faults.{Passed, passed}
 use Rattle.expression_typer.specs.declared.fault.TypeFault.{TypeFault}
 use Rattle.expression_typer.specs.declared.fault.TypeFault.TheVariants as faults
-use Rattle.assertions.specs.declared.fault.FormFault.{FormFault}
-use Rattle.assertions.specs.declared.fault.FormFault.TheVariants as forms
-use Rattle.step_run.specs.declared.refusals.FaultKind.TheVariants as kinds
+use Rattle.proof_script.specs.declared.fault.ScriptKind.{ScriptKind}
+use Rattle.proof_script.specs.declared.fault.ScriptKind.TheVariants as scripts
+use Rattle.proof_script.specs.declared.fault.ScriptFault.{ScriptFault}
+use Rattle.proof_script.specs.declared.fault.ScriptFault.TheVariants as fault
+use Rattle.step_report.specs.declared.refusals.FaultKind.TheVariants as kinds
 use Rattle.step_run.specs.declared.refusals.Refusal.{Refusal}
 use Rattle.step_run.specs.declared.refusals.Refusal.TheVariants.{Fault, Limit, Memory}
 
@@ -18,7 +18,7 @@ abbrev pub of_token : TokenFault → Refusal
 of_token (tokens.BadByte place) = Fault kinds.BadByte place
 of_token (tokens.LongNumber place) = Fault kinds.LongNumber place
 
--- the first fault of the grammar
+-- the first fault of the grammar of programs
 abbrev pub of_stop : Stop Passed → Refusal
 of_stop (syntax place) = Fault kinds.Syntax place
 of_stop (broken f) = of_token f
@@ -37,16 +37,31 @@ of_rule (faults.SameTarget place) = Fault kinds.SameTarget place
 of_rule (faults.Limit kind place) = Limit kind
 of_rule faults.Memory = Memory
 
--- the first fault of a formula
-abbrev pub of_form : FormFault → Refusal
-of_form (forms.Syntax place) = Fault kinds.Syntax place
-of_form (forms.Unknown place) = Fault kinds.Unknown place
-of_form (forms.WrongType place) = Fault kinds.WrongType place
-of_form (forms.NonLinear place) = Fault kinds.NonLinear place
-of_form (forms.TooLarge place) = Fault kinds.TooLarge place
-of_form (forms.Token f) = of_token f
-of_form (forms.Nesting place) = Limit limits.Nesting
-of_form forms.Memory = Memory
+-- the first fault of a script
+abbrev pub of_kind : ScriptKind → ℕ → Refusal
+of_kind scripts.Syntax place = Fault kinds.Syntax place
+of_kind scripts.BadByte place = Fault kinds.BadByte place
+of_kind scripts.LongNumber place = Fault kinds.LongNumber place
+of_kind scripts.Unknown place = Fault kinds.Unknown place
+of_kind scripts.WrongType place = Fault kinds.WrongType place
+of_kind scripts.NonLinear place = Fault kinds.NonLinear place
+of_kind scripts.TooLarge place = Fault kinds.TooLarge place
+of_kind scripts.Twice place = Fault kinds.Twice place
+of_kind scripts.UnknownLemma place = Fault kinds.UnknownLemma place
+of_kind scripts.NotInvariant place = Fault kinds.NotInvariant place
+of_kind scripts.WrongCount place = Fault kinds.WrongCount place
+of_kind scripts.UnknownTransition place = Fault kinds.UnknownTransition place
+of_kind scripts.UnknownNode place = Fault kinds.UnknownNode place
+of_kind scripts.Upward place = Fault kinds.Upward place
+of_kind scripts.NoTerminal place = Fault kinds.NoTerminal place
+of_kind scripts.UnfairHelper place = Fault kinds.UnfairHelper place
+of_kind scripts.NotCompassionate place = Fault kinds.NotCompassionate place
+of_kind scripts.NoHelper place = Fault kinds.NoHelper place
+of_kind (scripts.Limit kind) place = Limit kind
+
+abbrev pub of_script : ScriptFault → Refusal
+of_script (fault.At kind place) = of_kind kind place
+of_script fault.Memory = Memory
 
 -- what a refusal of the code is, where `see` tells the fault; want of memory else
 abbrev pub IsRefusal : Refusal → Option (Stop Passed) → Type 0
@@ -62,8 +77,3 @@ Fails refusal text = text ≡ Err refusal
 abbrev pub Gives : {X Y : Type 0} → (X → Y) → Result X Refusal → Result Y Refusal → Type 0
 Gives view (Ok x) text = text ≡ Ok (view x)
 Gives view (Err refusal) text = Fails refusal text
-
--- the same, with what is left of the text
-abbrev pub Takes : {X Y : Type 0} → (X → Y) → Result X Refusal → Stream → Result (Y × Stream) Refusal → Type 0
-Takes view (Ok x) rest text = text ≡ Ok (view x, rest)
-Takes view (Err refusal) rest text = Fails refusal text

@@ -1,20 +1,22 @@
-//! The program's one call over files and a sink that are handed in: it reads what the words name, checks, and writes
-//! the report.
+//! The program's one call over files and a sink that are handed in: it reads what the words name, checks or decides the
+//! conditions of the script, and writes the report.
 #![tactic(auto)]
 
+mod blocks;
 mod checking;
-mod claims;
-mod conditions;
-mod reading;
-mod reasons;
+mod crew;
+mod deciding;
+mod ends;
+pub mod laws;
+mod posed;
+mod proving;
 mod refusals;
-mod report;
+mod reports;
 mod source;
-mod status;
 mod top;
-mod words;
 mod work;
-mod writing;
+mod workload;
 
-pub use status::{Ended, FileRole, Status};
+pub use step_plan::{FileRole, Status};
+pub use step_workload::workload_texts;
 pub use top::step_run;

@@ -1,30 +1,13 @@
 //! Why the text of a program or of a proof is refused.
 
 ghost use Rattle.std.specs.Prelude.{◌≡◌};
-ghost use Rattle.step_run.specs.Refusals.{of_token};
+ghost use Rattle.step_run.specs.Refusals.{of_kind, of_token};
 
-use assertions::FormFault;
+use proof_script::{ScriptFault, ScriptKind};
 use spl_parser::ParseFault;
 use spl_typer::TypeFault;
 use st_tokens::{LimitKind, TokenFault};
-
-/// What is wrong at the first place where a text breaks a rule.
-#[derive(Clone, Copy, Debug, PartialEq, Eq)]
-pub enum FaultKind {
-    Syntax,
-    BadByte,
-    LongNumber,
-    Unknown,
-    Twice,
-    WrongType,
-    NonLinear,
-    TooLarge,
-    InputAssigned,
-    SelectHead,
-    SameTarget,
-    /// A form that isn't taken yet.
-    Unsupported,
-}
+use step_report::FaultKind;
 
 /// Why a text is refused.
 #[derive(Clone, Copy, Debug, PartialEq, Eq)]
@@ -83,22 +66,43 @@ impl From<TypeFault> for Refusal {
     }
 }
 
-impl From<FormFault> for Refusal {
+/// The first fault of a script.
+fn of_kind(kind: ScriptKind, place: u64) -> Refusal
+    ensures { result ≡ of_kind kind place }
+{
+    match kind {
+        ScriptKind::Syntax => Refusal::Fault(FaultKind::Syntax, place),
+        ScriptKind::BadByte => Refusal::Fault(FaultKind::BadByte, place),
+        ScriptKind::LongNumber => Refusal::Fault(FaultKind::LongNumber, place),
+        ScriptKind::Unknown => Refusal::Fault(FaultKind::Unknown, place),
+        ScriptKind::WrongType => Refusal::Fault(FaultKind::WrongType, place),
+        ScriptKind::NonLinear => Refusal::Fault(FaultKind::NonLinear, place),
+        ScriptKind::TooLarge => Refusal::Fault(FaultKind::TooLarge, place),
+        ScriptKind::Twice => Refusal::Fault(FaultKind::Twice, place),
+        ScriptKind::UnknownLemma => Refusal::Fault(FaultKind::UnknownLemma, place),
+        ScriptKind::NotInvariant => Refusal::Fault(FaultKind::NotInvariant, place),
+        ScriptKind::WrongCount => Refusal::Fault(FaultKind::WrongCount, place),
+        ScriptKind::UnknownTransition => Refusal::Fault(FaultKind::UnknownTransition, place),
+        ScriptKind::UnknownNode => Refusal::Fault(FaultKind::UnknownNode, place),
+        ScriptKind::Upward => Refusal::Fault(FaultKind::Upward, place),
+        ScriptKind::NoTerminal => Refusal::Fault(FaultKind::NoTerminal, place),
+        ScriptKind::UnfairHelper => Refusal::Fault(FaultKind::UnfairHelper, place),
+        ScriptKind::NotCompassionate => Refusal::Fault(FaultKind::NotCompassionate, place),
+        ScriptKind::NoHelper => Refusal::Fault(FaultKind::NoHelper, place),
+        ScriptKind::Limit(kind) => Refusal::Limit(kind),
+    }
+}
+
+impl From<ScriptFault> for Refusal {
     ghost use Rattle.std.specs.Prelude.{◌≡◌};
-    ghost use Rattle.step_run.specs.Refusals.{of_form};
+    ghost use Rattle.step_run.specs.Refusals.{of_script};
 
-    ghost from_gives = { λ fault refusal. refusal ≡ of_form fault };
+    ghost from_gives = { λ fault refusal. refusal ≡ of_script fault };
 
-    fn from(fault: FormFault) -> Self {
+    fn from(fault: ScriptFault) -> Self {
         match fault {
-            FormFault::Syntax(place) => Refusal::Fault(FaultKind::Syntax, place),
-            FormFault::Unknown(place) => Refusal::Fault(FaultKind::Unknown, place),
-            FormFault::WrongType(place) => Refusal::Fault(FaultKind::WrongType, place),
-            FormFault::NonLinear(place) => Refusal::Fault(FaultKind::NonLinear, place),
-            FormFault::TooLarge(place) => Refusal::Fault(FaultKind::TooLarge, place),
-            FormFault::Token(fault) => of_token(fault),
-            FormFault::Nesting(_) => Refusal::Limit(LimitKind::Nesting),
-            FormFault::Memory => Refusal::Memory,
+            ScriptFault::At(kind, place) => of_kind(kind, place),
+            ScriptFault::Memory => Refusal::Memory,
         }
     }
 }

@@ -1,218 +1,147 @@
-//! The work that the words ask for, up to the output text.
+//! The work that a request asks for, up to the output text.
 
-ghost use Rattle.std.specs.Prelude.{◌≡◌, ◌+◌, ◌≤◌, ◌^◌, ◌<◌, Ok, length, map, option_map, IfOk, true};
+ghost use Rattle.std.specs.Prelude.{◌≡◌, ◌<◌, ◌≤◌, Some, IfOk};
+ghost use Rattle.std.specs.Thread.{IsSync};
 ghost use Rattle.st_outside.specs.Faults.{NoneFell};
-ghost use Rattle.st_form.specs.Plain.{plain_condition};
-ghost use Rattle.expression_typer.specs.Naming.{names_of};
-ghost use Rattle.step_run.specs.Asked.{Answers};
-ghost use Rattle.step_run.specs.Source.{IsSpelled, source_spelled};
-ghost use Rattle.step_run.specs.SourceView.{source_view};
-ghost use Rattle.step_run.specs.ProofText.{IsGoal, goal_spelled};
-ghost use Rattle.step_run.specs.GoalView.{goal_of};
-ghost use Rattle.step_run.specs.Conditions.{AreNarrow};
-ghost use Rattle.step_run.specs.Report.{read_fault_text};
-ghost use Rattle.step_run.specs.Outcome.{is_check, plan_of, plan_of_words, plan_of_program, plan_of_goal, plan_of_blocks, word, words_of};
-ghost use Rattle.step_run.specs.Plan.{Follows};
+ghost use Rattle.step_words.specs.Definition.{words_of};
+ghost use Rattle.step_words.specs.Request.{plain_request, request_of, IsStated};
+ghost use Rattle.step_plan.specs.Plan.{then_plan, Follows};
+ghost use Rattle.step_run.specs.Plans.{conditions_plan, check_posed, verify_posed, prove_posed, plan_for, plan_of};
 
-use crate::checking::judge;
-use crate::claims::{Goal, read_goal};
-use crate::conditions::conditions_of;
-use crate::reading::{ReadError, read_whole};
-use crate::refusals::Refusal;
-use crate::source::{Source, read_source};
-use crate::words::is_check;
-use crate::{Ended, FileRole, Status, report};
-use st_form::Condition;
+use crate::checking::checked;
+use crate::ends::words_refused;
+use crate::posed::ask_conditions;
+use crate::proving::{verified, written};
+use crate::workload::workload;
 use st_memory::Memory;
-use st_outside::Files;
-use st_tokens::LimitKind;
+use st_outside::{Files, Gate};
 use std::alloc::Global;
-use vc_generator::VcFault;
+use std::thread::Threads;
+use step_plan::{Ended, FileRole, Stage, ask};
+use step_words::laws::requests_are_stated;
+use step_words::{Request, WordsFault, read_request};
 
-/// The largest length of the program's text, and of the proof's.
-const TEXT: u64 = 4_194_304;
-
-/// The largest length of the certificates' text.
-const CERTIFICATES: u64 = 268_435_456;
-
-/// What asking for a file comes to.
-#[derive(Drop)]
-pub enum Asked {
-    Bytes(Vec<u8>),
-    TooLong,
-    Faulted(Vec<u8>),
-}
-
-fn ask<F: Files>(
+/// Checks the conditions of a script against a file of certificates.
+fn check<R: Threads + Sync, F: Files, G: Gate + Sync>(
+    rt: &R,
     alloc: Global,
     files: &mut F,
-    role: FileRole,
-    name: &str,
-    limit: u64,
-) -> Result<Asked, Memory>
-    requires { limit ≤ 2 ^ 28 }
-    ensures answer { IfOk result (Answers (F.told files.old) (F.faults files.old) (F.faults files.new) name.now limit (read_fault_text role)) }
-    ensures same { F.told files.new ≡ F.told files.old }
-    ensures later { NoneFell (F.faults files.old) (F.faults files.new) }
-{
-    match read_whole(alloc, files, name, limit) {
-        Ok(bytes) => Ok(Asked::Bytes(bytes)),
-        Err(ReadError::TooLong) => Ok(Asked::TooLong),
-        Err(ReadError::Failed) => Ok(Asked::Faulted(report::read_fault(alloc, role)?)),
-        Err(ReadError::Memory) => Err(Memory),
-    }
-}
-
-fn name_at(words: &[String], k: usize) -> &str
-    requires { k < length words.now }
-    ensures { result.now ≡ word (words_of words.now) k }
-{
-    words[k].as_str()
-}
-
-fn faulted(text: Vec<u8>) -> Ended
-    ensures status { result.status ≡ Status.ReadFault }
-    ensures text { result.text ≡ text }
-{
-    Ended {
-        status: Status::ReadFault,
-        text,
-    }
-}
-
-/// Goes on once the conditions are made.
-fn with_conditions<F: Files>(
-    alloc: Global,
-    files: &mut F,
-    words: &[String],
-    source: &Source,
-    goal: &[u8],
-    conditions: &[Condition],
+    gate: &G,
+    workers: u32,
+    program: &str,
+    proof: &str,
+    certificates: &str,
 ) -> Result<Ended, Memory>
-    requires words { length words.now ≡ 5 }
-    requires few { length conditions.now ≤ 20000 }
-    requires narrow { AreNarrow (map plain_condition conditions.now) }
-    ensures follows { IfOk result (Follows read_fault_text (F.told files.old) (F.faults files.old) (F.faults files.new)
-        (plan_of_blocks (words_of words.now) (source_view source.now) goal.now (map plain_condition conditions.now))) }
+    requires { 0 < workers }
+    ensures follows { IfOk result (Follows (F.told files.old) (F.faults files.old) (F.faults files.new)
+        (then_plan (conditions_plan program.now proof.now) (check_posed certificates.now))) }
     ensures same { F.told files.new ≡ F.told files.old }
     ensures later { NoneFell (F.faults files.old) (F.faults files.new) }
 {
-    match ask(
-        alloc,
-        files,
-        FileRole::Certificates,
-        name_at(words, 4),
-        CERTIFICATES,
-    )? {
-        Asked::Bytes(bytes) => judge(alloc, source, goal, conditions, &bytes),
-        Asked::TooLong => report::limited(alloc, LimitKind::Certificates),
-        Asked::Faulted(text) => Ok(faulted(text)),
+    let posed = match ask_conditions(alloc, files, program, proof)? {
+        Stage::On(posed) => posed,
+        Stage::Over(ended) => return Ok(ended),
+    };
+    match ask(alloc, files, FileRole::Certificates, certificates)? {
+        Stage::On(text) => checked(rt, alloc, gate, workers, &posed, &text),
+        Stage::Over(ended) => Ok(ended),
     }
 }
 
-/// Makes the conditions of a goal and goes on.
-fn with_goal<F: Files>(
+/// Decides the conditions of a script.
+fn verify<R: Threads + Sync, F: Files, G: Gate + Sync>(
+    rt: &R,
     alloc: Global,
     files: &mut F,
-    words: &[String],
-    source: &Source,
-    goal: Goal,
+    gate: &G,
+    workers: u32,
+    program: &str,
+    proof: &str,
 ) -> Result<Ended, Memory>
-    requires words { length words.now ≡ 5 }
-    requires source { IsSpelled (source_view source.now) }
-    requires goal { IsGoal (names_of (source_view source.now).names) (goal_of goal) }
-    ensures follows { IfOk result (Follows read_fault_text (F.told files.old) (F.faults files.old) (F.faults files.new)
-        (plan_of_goal (words_of words.now) (source_view source.now) (Ok (goal_of goal.entry)))) }
+    requires { 0 < workers }
+    ensures follows { IfOk result (Follows (F.told files.old) (F.faults files.old) (F.faults files.new)
+        (then_plan (conditions_plan program.now proof.now) verify_posed)) }
     ensures same { F.told files.new ≡ F.told files.old }
     ensures later { NoneFell (F.faults files.old) (F.faults files.new) }
 {
-    let name = goal.name;
-    match conditions_of(alloc, source, goal) {
-        Ok(conditions) => with_conditions(alloc, files, words, source, name, &conditions),
-        Err(VcFault::TooMany) => report::limited(alloc, LimitKind::Conditions),
-        Err(VcFault::TooWide) => report::limited(alloc, LimitKind::Atoms),
-        Err(VcFault::TooHeavy) => report::limited(alloc, LimitKind::Weight),
-        Err(VcFault::Memory) => Err(Memory),
+    match ask_conditions(alloc, files, program, proof)? {
+        Stage::On(posed) => verified(rt, alloc, gate, workers, &posed),
+        Stage::Over(ended) => Ok(ended),
     }
 }
 
-/// Reads the proof's text and goes on.
-fn with_proof<F: Files>(
+/// Writes certificates of the conditions of a script.
+fn prove<R: Threads + Sync, F: Files, G: Gate + Sync>(
+    rt: &R,
     alloc: Global,
     files: &mut F,
-    words: &[String],
-    source: &Source,
-    text: &[u8],
+    gate: &G,
+    program: &str,
+    proof: &str,
 ) -> Result<Ended, Memory>
-    requires words { length words.now ≡ 5 }
-    requires source { IsSpelled (source_view source.now) }
-    ensures follows { IfOk result (Follows read_fault_text (F.told files.old) (F.faults files.old) (F.faults files.new)
-        (plan_of_goal (words_of words.now) (source_view source.now) (goal_spelled (names_of (source_view source.now).names) text.now))) }
+    ensures follows { IfOk result (Follows (F.told files.old) (F.faults files.old) (F.faults files.new)
+        (then_plan (conditions_plan program.now proof.now) prove_posed)) }
     ensures same { F.told files.new ≡ F.told files.old }
     ensures later { NoneFell (F.faults files.old) (F.faults files.new) }
 {
-    match read_goal(alloc, &source.names, text) {
-        Ok(goal) => with_goal(alloc, files, words, source, goal),
-        Err(Refusal::Fault(kind, place)) => report::proof_refused(alloc, kind, place),
-        Err(Refusal::Limit(kind)) => report::limited(alloc, kind),
-        Err(Refusal::Memory) => Err(Memory),
+    match ask_conditions(alloc, files, program, proof)? {
+        Stage::On(posed) => written(rt, alloc, gate, &posed),
+        Stage::Over(ended) => Ok(ended),
     }
 }
 
-/// Goes on once the program is read.
-fn after_program<F: Files>(
+/// Does what a request asks for.
+fn answer<R: Threads + Sync, F: Files, G: Gate + Sync>(
+    rt: &R,
     alloc: Global,
     files: &mut F,
-    words: &[String],
-    source: &Source,
+    gate: &G,
+    workers: u32,
+    request: Request,
 ) -> Result<Ended, Memory>
-    requires words { length words.now ≡ 5 }
-    requires source { IsSpelled (source_view source.now) }
-    ensures follows { IfOk result (Follows read_fault_text (F.told files.old) (F.faults files.old) (F.faults files.new)
-        (plan_of_program (words_of words.now) (Ok (source_view source.now)))) }
+    requires workers { 0 < workers }
+    requires stated { IsStated (plain_request request) }
+    ensures follows { IfOk result (Follows (F.told files.old) (F.faults files.old) (F.faults files.new) (plan_for (plain_request request.entry))) }
     ensures same { F.told files.new ≡ F.told files.old }
     ensures later { NoneFell (F.faults files.old) (F.faults files.new) }
 {
-    match ask(alloc, files, FileRole::Proof, name_at(words, 3), TEXT)? {
-        Asked::Bytes(bytes) => with_proof(alloc, files, words, source, &bytes),
-        Asked::TooLong => report::limited(alloc, LimitKind::Text),
-        Asked::Faulted(text) => Ok(faulted(text)),
+    match request {
+        Request::Check(program, proof, certificates) => check(
+            rt,
+            alloc,
+            files,
+            gate,
+            workers,
+            program,
+            proof,
+            certificates,
+        ),
+        Request::Verify(program, proof) => {
+            verify(rt, alloc, files, gate, workers, program, proof)
+        }
+        Request::Prove(program, proof) => prove(rt, alloc, files, gate, program, proof),
+        Request::Workload(n) => workload(rt, alloc, gate, n),
+        Request::Trace(_, _, _) => words_refused(alloc),
+        Request::Invariants(_) => words_refused(alloc),
     }
 }
 
-/// Reads the program's text and goes on.
-fn with_program<F: Files>(
+/// Does the work that the words ask for.
+pub fn work<R: Threads + Sync, F: Files, G: Gate + Sync>(
+    rt: &R,
     alloc: Global,
     files: &mut F,
+    gate: &G,
     words: &[String],
-    text: &[u8],
 ) -> Result<Ended, Memory>
-    requires { length words.now ≡ 5 }
-    ensures follows { IfOk result (Follows read_fault_text (F.told files.old) (F.faults files.old) (F.faults files.new)
-        (plan_of_program (words_of words.now) (source_spelled text.now))) }
+    ensures follows { IfOk result (Follows (F.told files.old) (F.faults files.old) (F.faults files.new) (plan_of (request_of (words_of words.now)))) }
     ensures same { F.told files.new ≡ F.told files.old }
     ensures later { NoneFell (F.faults files.old) (F.faults files.new) }
 {
-    match read_source(alloc, text) {
-        Ok(source) => after_program(alloc, files, words, &source),
-        Err(Refusal::Fault(kind, place)) => report::program_refused(alloc, kind, place),
-        Err(Refusal::Limit(kind)) => report::limited(alloc, kind),
-        Err(Refusal::Memory) => Err(Memory),
-    }
-}
-
-/// Does the work that the words ask for, up to the output text.
-pub fn work<F: Files>(alloc: Global, files: &mut F, words: &[String]) -> Result<Ended, Memory>
-    ensures follows { IfOk result (Follows read_fault_text (F.told files.old) (F.faults files.old) (F.faults files.new) (plan_of (words_of words.now))) }
-    ensures same { F.told files.new ≡ F.told files.old }
-    ensures later { NoneFell (F.faults files.old) (F.faults files.new) }
-{
-    if !is_check(words) {
-        return report::words_refused(alloc);
-    }
-    match ask(alloc, files, FileRole::Program, name_at(words, 2), TEXT)? {
-        Asked::Bytes(bytes) => with_program(alloc, files, words, &bytes),
-        Asked::TooLong => report::limited(alloc, LimitKind::Text),
-        Asked::Faulted(text) => Ok(faulted(text)),
+    requests_are_stated();
+    match read_request(alloc, words) {
+        Ok(line) => answer(rt, alloc, files, gate, line.workers, line.request),
+        Err(WordsFault::Refused) => words_refused(alloc),
+        Err(WordsFault::Memory) => Err(Memory),
     }
 }

@@ -1,0 +1,5 @@
+pub mod Blocks
+pub mod Checked
+pub mod Laws
+pub mod Plain
+pub mod Tests

@@ -1,0 +1,77 @@
+-- Which rule of a response a token says, and which diagram.
+use Rattle.std.proofs.Common.{None, Option, Some, cond, refl, true, ◌≡◌}
+use Rattle.st_reading.specs.Mark.{number}
+use Rattle.st_reading.specs.Sign.{is}
+use Rattle.st_reading.specs.declared.mark.Mark.{Mark}
+use Rattle.st_reading.specs.declared.mark.Mark.TheVariants as marks
+use Rattle.st_reading.specs.declared.sign.Sign.{Sign}
+use Rattle.temporal_goals.specs.declared.diagrams.DiagramKind.{DiagramKind}
+use Rattle.temporal_goals.specs.declared.diagrams.DiagramKind.TheVariants as kinds
+use Rattle.proof_script.specs.Rules.{kind_in, manner_in}
+use Rattle.proof_script.specs.declared.rules.Manner.{Manner}
+use Rattle.proof_script.specs.declared.rules.Manner.TheVariants as manners
+use Rattle.proof_grammar.proofs.Choices.{first_of, none_chosen}
+use Rattle.proof_grammar.proofs.Tokens.{at_mark}
+
+abbrev pub manner_mark : Manner → Mark
+manner_mark manners.Just = marks.Just
+manner_mark manners.Chain = marks.Chain
+manner_mark manners.Ranked = marks.Ranked
+manner_mark manners.Fair = marks.Fair
+manner_mark manners.Net = marks.Net
+manner_mark manners.Diagram = marks.Diagram
+
+abbrev pub Says : Sign → Manner → Type 0
+Says g m = is g (manner_mark m) ≡ true
+
+abbrev pub ifs : Sign → Mark → Manner → Option Manner → Option Manner
+ifs g m x others = cond (is g m) (Some x) others
+
+abbrev pub from_diagram : Sign → Option Manner
+from_diagram g = ifs g marks.Diagram manners.Diagram None
+
+abbrev pub from_net : Sign → Option Manner
+from_net g = ifs g marks.Net manners.Net (from_diagram g)
+
+abbrev pub from_fair : Sign → Option Manner
+from_fair g = ifs g marks.Fair manners.Fair (from_net g)
+
+abbrev pub from_ranked : Sign → Option Manner
+from_ranked g = ifs g marks.Ranked manners.Ranked (from_fair g)
+
+abbrev pub from_chain : Sign → Option Manner
+from_chain g = ifs g marks.Chain manners.Chain (from_ranked g)
+
+pub manner_is : (g : Sign) (m : Manner) → manner_in g ≡ Some m → Says g m
+manner_is g m h =
+    first_of (Says g) (is g marks.Just) manners.Just m (from_chain g) (λ e. e)
+    (λ h. first_of (Says g) (is g marks.Chain) manners.Chain m (from_ranked g) (λ e. e)
+    (λ h. first_of (Says g) (is g marks.Ranked) manners.Ranked m (from_fair g) (λ e. e)
+    (λ h. first_of (Says g) (is g marks.Fair) manners.Fair m (from_net g) (λ e. e)
+    (λ h. first_of (Says g) (is g marks.Net) manners.Net m (from_diagram g) (λ e. e)
+    (λ h. first_of (Says g) (is g marks.Diagram) manners.Diagram m None (λ e. e) (λ h. none_chosen (Says g m) m h) h) h) h) h) h) h
+
+pub manner_found : (g : Sign) (m : Manner) → Says g m → manner_in g ≡ Some m
+unfolding number
+manner_found g manners.Just h = at_mark manner_in (Some manners.Just) marks.Just refl g h
+manner_found g manners.Chain h = at_mark manner_in (Some manners.Chain) marks.Chain refl g h
+manner_found g manners.Ranked h = at_mark manner_in (Some manners.Ranked) marks.Ranked refl g h
+manner_found g manners.Fair h = at_mark manner_in (Some manners.Fair) marks.Fair refl g h
+manner_found g manners.Net h = at_mark manner_in (Some manners.Net) marks.Net refl g h
+manner_found g manners.Diagram h = at_mark manner_in (Some manners.Diagram) marks.Diagram refl g h
+
+abbrev pub Draws : Sign → DiagramKind → Type 0
+Draws g kinds.Wait = ⊥
+Draws g kinds.Chain = is g marks.Chain ≡ true
+Draws g kinds.Rank = is g marks.Rank ≡ true
+
+pub kind_is : (g : Sign) (k : DiagramKind) → kind_in g ≡ Some k → Draws g k
+kind_is g k h =
+    first_of (Draws g) (is g marks.Chain) kinds.Chain k (cond (is g marks.Rank) (Some kinds.Rank) None) (λ e. e)
+    (λ h. first_of (Draws g) (is g marks.Rank) kinds.Rank k None (λ e. e) (λ h. none_chosen (Draws g k) k h) h) h
+
+pub kind_found : (g : Sign) (k : DiagramKind) → Draws g k → kind_in g ≡ Some k
+unfolding number
+kind_found g kinds.Wait h = absurd h
+kind_found g kinds.Chain h = at_mark kind_in (Some kinds.Chain) marks.Chain refl g h
+kind_found g kinds.Rank h = at_mark kind_in (Some kinds.Rank) marks.Rank refl g h

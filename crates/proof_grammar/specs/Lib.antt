@@ -1,0 +1,6 @@
+pub mod Phrases
+pub mod Units
+pub mod Drawings
+pub mod Rules
+pub mod Grammar
+pub mod Theorems

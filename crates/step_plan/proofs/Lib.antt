@@ -1,0 +1,4 @@
+pub mod Ending
+pub mod Follow
+pub mod Named
+pub mod Parts

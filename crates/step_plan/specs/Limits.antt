@@ -1,0 +1,27 @@
+-- How long a file may be, and how a run ends that passes a limit.
+use Rattle.std.specs.Prelude.{ℕ}
+use Rattle.st_tokens.specs.declared.limit.LimitKind.{LimitKind}
+use Rattle.st_tokens.specs.declared.limit.LimitKind.TheVariants as limits
+use Rattle.step_report.specs.declared.refusals.FileRole.{FileRole}
+use Rattle.step_report.specs.declared.refusals.FileRole.TheVariants.{Program, Proof, Certificates}
+use Rattle.step_report.specs.Refused.{limit_text}
+use Rattle.step_plan.specs.declared.status.Status.TheVariants.{Limit}
+use Rattle.step_plan.specs.Outcome.{Outcome}
+
+-- the most bytes of a file
+abbrev pub length_limit : FileRole → ℕ
+length_limit Program = 4194304
+length_limit Proof = 4194304
+length_limit Certificates = 268435456
+
+abbrev pub length_kind : FileRole → LimitKind
+length_kind Program = limits.Text
+length_kind Proof = limits.Text
+length_kind Certificates = limits.Certificates
+
+abbrev pub limited : LimitKind → Outcome
+limited kind = record { status = Limit; text = limit_text kind }
+
+-- how a run ends over a file that is longer
+abbrev pub too_long : FileRole → Outcome
+too_long role = limited (length_kind role)

@@ -7,7 +7,7 @@ pub mod Readied
 pub mod Sources
 pub mod Stages
 pub mod Tabled
-pub mod TakenBlocks
+pub mod Filed
 pub mod Tops
 pub mod Typed
 pub mod Verdicts

@@ -2,7 +2,6 @@
 //! conditions of the script, and writes the report.
 #![tactic(auto)]
 
-mod blocks;
 mod checking;
 mod crew;
 mod deciding;

@@ -42,10 +42,7 @@ fn check<R: Threads + Sync, F: Files, G: Gate + Sync>(
         Stage::On(posed) => posed,
         Stage::Over(ended) => return Ok(ended),
     };
-    match ask(alloc, files, FileRole::Certificates, certificates)? {
-        Stage::On(text) => checked(rt, alloc, gate, workers, &posed, &text),
-        Stage::Over(ended) => Ok(ended),
-    }
+    checked(rt, alloc, files, gate, workers, &posed, certificates)
 }
 
 /// Decides the conditions of a script.

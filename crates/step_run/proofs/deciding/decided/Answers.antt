@@ -2,7 +2,7 @@ use Rattle.std.proofs.Common.{subst}
 use Rattle.std.specs.Prelude.{IfOk}
 use Rattle.discharge.specs.Verdicts.{AreAnswers}
 use Rattle.step_run.specs.Views.{source_view}
-use Rattle.step_run.proofs.TakenBlocks.{setting_is}
+use Rattle.step_run.proofs.Filed.{setting_is}
 use Rattle.step_run.proofs.deciding.decided.Goals as goal
 
 pub returns : goal.returns

@@ -20,7 +20,7 @@ use Rattle.spl_typer.specs.Programs.{Typed}
 use Rattle.step_plan.specs.declared.ended.Ended.{Ended}
 use Rattle.step_plan.specs.declared.stage.Stage.TheVariants.{On}
 use Rattle.step_plan.specs.Outcome.{Outcome, ended_view, IsDecided}
-use Rattle.step_plan.specs.Plan.{Told, Counts, Follows}
+use Rattle.step_plan.specs.Plan.{Told, Counts, Plan, Follows}
 use Rattle.step_plan.specs.Stage.{Comes}
 use Rattle.step_run.specs.Conditions.{Posed, setting_of}
 use Rattle.step_run.specs.Checked.{ending, not_proved, check_ended, checked}
@@ -53,3 +53,8 @@ pub filed_on : (told : Told) (before now : Counts) (k : Setting) (x : Posed) (na
 filed_on told before now k x name f e same comes means =
     let all : (text : List ℕ) → finding k x.conditions text ≡ f → ended_view e ≡ checked x text = λ text h. means text (subst (λ (s : Setting). finding s x.conditions text ≡ f) same h) in
     check_on told before now k x.conditions name (checked x) f e comes (subst (λ (o : Outcome). IsDecided o.status) (sym (all comes.1.0 comes.1.3)) (checked_decided x comes.1.0)) all
+
+-- what follows a plan behind an earlier part of the run, which left files and counts as they were
+pub moved : {A : Type 0} (told then_told : Told) (before mid now : Counts) (plan : Plan A) (e : Ended) → then_told ≡ told → mid ≡ before → Follows then_told mid now plan e → Follows told before now plan e
+moved told then_told before mid now plan e same quiet h =
+    subst (λ (t : Told). Follows t before now plan e) same (subst (λ (m : Counts). Follows then_told m now plan e) quiet h)

@@ -17,7 +17,7 @@ use st_memory::Memory;
 use st_outside::{Files, Gate};
 use std::alloc::Global;
 use std::thread::Threads;
-use step_plan::{Ended, FileRole, Stage, ask};
+use step_plan::{Ended, Stage};
 use step_words::laws::requests_are_stated;
 use step_words::{Request, WordsFault, read_request};
 

@@ -1,0 +1,5 @@
+pub mod Finding
+pub mod Claims
+pub mod Turns
+pub mod Batches
+pub mod SoFar

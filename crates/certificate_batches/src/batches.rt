@@ -1,0 +1,298 @@
+//! Blocks that are taken while their text comes, and the conditions that are checked in batches of 64.
+
+ghost use Rattle.std.specs.Prelude.{◌≡◌, ℕ, ◌+◌, ◌-◌, ◌<◌, ◌≤◌, ◌^◌, ◌++◌, [], List, Some, None, IsSome, IfOk, OnOk, length, true, false};
+ghost use Rattle.std.specs.Thread.{IsSync};
+ghost use Rattle.st_form.specs.Condition.{Implication};
+ghost use Rattle.st_form.specs.declared.conditions.Condition.{Condition};
+ghost use Rattle.farkas_check.specs.Problem.{Setting};
+ghost use Rattle.cert_laws.specs.Laws.{closed, MayFollow};
+ghost use Rattle.block_laws.specs.Checked.{block_tested};
+ghost use Rattle.block_laws.specs.Plain.{plains};
+ghost use Rattle.certificate_batches.specs.Finding.{finding, IsAmong};
+ghost use Rattle.certificate_batches.specs.Claims.{setting_of, conditions_of, MayBeChecked};
+ghost use Rattle.certificate_batches.specs.Turns.{reach, trailing};
+ghost use Rattle.certificate_batches.specs.Batches.{comes_to, Keeps, AreInOrder, AreAllDischarged};
+
+use crate::turns::{Turn, drop_blanks, next_turn};
+use crate::{Claims, Finding};
+use cert_text::{Block, CertReader};
+use discharge::check_all;
+use script_obligations::laws::searchable_is_checkable;
+use st_memory::Memory;
+use st_outside::Gate;
+use std::alloc::Global;
+use std::thread::Threads;
+use step_report::Reason;
+
+const BATCH: usize = 64;
+
+/// The number, from 1 on, of the condition at a place behind those before it.
+fn number_behind(before: usize, place: usize) -> u32
+    requires { before + place < 20000 }
+    ensures { result ≡ before + place + 1 }
+{
+    (before + place) as u32 + 1
+}
+
+/// The text that isn't yet taken, the blocks that wait for their check, and how many conditions are discharged.
+#[derive(Drop)]
+pub struct Batches {
+    reader: CertReader,
+    blocks: Vec<Block>,
+    discharged: usize,
+    /// What all comes to, whatever follows.
+    settled: Option<Finding>,
+}
+
+impl Batches {
+    pub fn new(alloc: Global) -> Batches
+        ensures begun { (k : Setting) (cs : List Condition) (text : List ℕ) → comes_to k cs result text ≡ finding k (plains cs) text }
+        ensures order { (cs : List Condition) → AreInOrder cs result }
+        ensures unfinished { result.reader.finished ≡ false }
+        ensures reached { reach result.reader ≡ 0 }
+    {
+        Batches {
+            reader: CertReader::new(alloc),
+            blocks: Vec::new(alloc),
+            discharged: 0,
+            settled: None,
+        }
+    }
+
+    /// Checks the blocks that wait.
+    fn discharge<R: Threads + Sync, G: Gate + Sync>(
+        &mut self,
+        rt: &R,
+        alloc: Global,
+        gate: &G,
+        workers: u32,
+        claims: &Claims<'_>,
+    ) -> Result<(), Memory>
+        requires workers { 0 < workers }
+        requires may { MayBeChecked claims.now }
+        requires order { AreInOrder (conditions_of claims.now) self.old }
+        requires unsettled { self.old.settled ≡ None }
+        ensures keeps { OnOk result (Keeps (setting_of claims.now) (conditions_of claims.now) self.old self.new) }
+        ensures order { OnOk result (AreInOrder (conditions_of claims.now) self.new) }
+        ensures done { OnOk result (self.new.settled ≡ None → (self.new.blocks.items ≡ []) × (self.new.discharged ≡ self.old.discharged + length self.old.blocks.items)) }
+        ensures reader { OnOk result (self.new.reader ≡ self.old.reader) }
+        ensures left { OnOk result (self.new.discharged + length self.new.blocks.items ≡ self.old.discharged + length self.old.blocks.items) }
+    {
+        if self.blocks.is_empty() {
+            return Ok(());
+        }
+        searchable_is_checkable();
+        let end = self.discharged + self.blocks.len();
+        let conditions = &claims.conditions[self.discharged..end];
+        match check_all(
+            rt,
+            alloc,
+            gate,
+            workers,
+            claims.components,
+            claims.variables,
+            conditions,
+            &self.blocks,
+        )? {
+            None => {
+                self.discharged = end;
+                self.blocks.clear();
+            }
+            Some(i) => {
+                let number = number_behind(self.discharged, i);
+                self.settled = Some(Finding::Refused(number, Reason::NotValid));
+            }
+        }
+        Ok(())
+    }
+
+    /// Checks the blocks that wait, where they are 64.
+    fn discharge_full<R: Threads + Sync, G: Gate + Sync>(
+        &mut self,
+        rt: &R,
+        alloc: Global,
+        gate: &G,
+        workers: u32,
+        claims: &Claims<'_>,
+    ) -> Result<(), Memory>
+        requires workers { 0 < workers }
+        requires may { MayBeChecked claims.now }
+        requires order { AreInOrder (conditions_of claims.now) self.old }
+        requires unsettled { self.old.settled ≡ None }
+        ensures keeps { OnOk result (Keeps (setting_of claims.now) (conditions_of claims.now) self.old self.new) }
+        ensures order { OnOk result (AreInOrder (conditions_of claims.now) self.new) }
+        ensures reader { OnOk result (self.new.reader ≡ self.old.reader) }
+        ensures left { OnOk result (self.new.discharged + length self.new.blocks.items ≡ self.old.discharged + length self.old.blocks.items) }
+    {
+        if self.blocks.len() < BATCH {
+            return Ok(());
+        }
+        self.discharge(rt, alloc, gate, workers, claims)
+    }
+
+    /// Ends at the next condition without a block, once those before it are checked.
+    fn refuse<R: Threads + Sync, G: Gate + Sync>(
+        &mut self,
+        rt: &R,
+        alloc: Global,
+        gate: &G,
+        workers: u32,
+        claims: &Claims<'_>,
+        reason: Reason,
+    ) -> Result<(), Memory>
+        requires workers { 0 < workers }
+        requires may { MayBeChecked claims.now }
+        requires order { AreInOrder (conditions_of claims.now) self.old }
+        requires unsettled { self.old.settled ≡ None }
+        requires left { self.old.discharged + length self.old.blocks.items < length (conditions_of claims.now) }
+        requires lacks { (k : Setting) (c : Implication) (rest : List ℕ) → MayFollow self.old.reader rest → block_tested k c (closed self.old.reader rest) ≡ Some reason }
+        ensures keeps { OnOk result (Keeps (setting_of claims.now) (conditions_of claims.now) self.old self.new) }
+        ensures order { OnOk result (AreInOrder (conditions_of claims.now) self.new) }
+        ensures settled { OnOk result (IsSome self.new.settled) }
+        ensures reader { OnOk result (self.new.reader ≡ self.old.reader) }
+    {
+        self.discharge(rt, alloc, gate, workers, claims)?;
+        if self.settled.is_none() {
+            let number = self.discharged as u32 + 1;
+            self.settled = Some(Finding::Refused(number, reason));
+        }
+        Ok(())
+    }
+
+    /// Takes the next block, and checks those that wait where they are 64. Answers whether the text goes on.
+    fn take_next<R: Threads + Sync, G: Gate + Sync>(
+        &mut self,
+        rt: &R,
+        alloc: Global,
+        gate: &G,
+        workers: u32,
+        claims: &Claims<'_>,
+    ) -> Result<bool, Memory>
+        requires workers { 0 < workers }
+        requires may { MayBeChecked claims.now }
+        requires order { AreInOrder (conditions_of claims.now) self.old }
+        requires unsettled { self.old.settled ≡ None }
+        requires left { self.old.discharged + length self.old.blocks.items < length (conditions_of claims.now) }
+        ensures keeps { OnOk result (Keeps (setting_of claims.now) (conditions_of claims.now) self.old self.new) }
+        ensures order { OnOk result (AreInOrder (conditions_of claims.now) self.new) }
+        ensures finished { OnOk result (self.new.reader.finished ≡ self.old.reader.finished) }
+        ensures reached { OnOk result (reach self.new.reader ≤ reach self.old.reader) }
+        ensures goes { IfOk result (λ goes. goes ≡ true → (self.new.settled ≡ None)
+            × (self.new.discharged + length self.new.blocks.items ≡ self.old.discharged + length self.old.blocks.items + 1)) }
+        ensures stops { IfOk result (λ goes. goes ≡ false → self.old.reader.finished ≡ true → IsSome self.new.settled) }
+    {
+        match next_turn(&mut self.reader)? {
+            Turn::Taken(block) => self.blocks.push(block)?,
+            Turn::Needs => return Ok(false),
+            Turn::Lacks(reason) => {
+                self.refuse(rt, alloc, gate, workers, claims, reason)?;
+                return Ok(false);
+            }
+        }
+        self.discharge_full(rt, alloc, gate, workers, claims)?;
+        Ok(self.settled.is_none())
+    }
+
+    /// Takes blocks as far as the text goes. Answers whether all conditions are discharged.
+    fn take_blocks<R: Threads + Sync, G: Gate + Sync>(
+        &mut self,
+        rt: &R,
+        alloc: Global,
+        gate: &G,
+        workers: u32,
+        claims: &Claims<'_>,
+    ) -> Result<bool, Memory>
+        requires workers { 0 < workers }
+        requires may { MayBeChecked claims.now }
+        requires order { AreInOrder (conditions_of claims.now) self.old }
+        requires unsettled { self.old.settled ≡ None }
+        ensures keeps { OnOk result (Keeps (setting_of claims.now) (conditions_of claims.now) self.old self.new) }
+        ensures order { OnOk result (AreInOrder (conditions_of claims.now) self.new) }
+        ensures finished { OnOk result (self.new.reader.finished ≡ self.old.reader.finished) }
+        ensures reached { OnOk result (reach self.new.reader ≤ reach self.old.reader) }
+        ensures all { IfOk result (λ all. all ≡ true → AreAllDischarged (conditions_of claims.now) self.new) }
+        ensures settled { IfOk result (λ all. all ≡ false → self.old.reader.finished ≡ true → IsSome self.new.settled) }
+    {
+        while self.discharged + self.blocks.len() < claims.conditions.len() {
+            if !self.take_next(rt, alloc, gate, workers, claims)? {
+                return Ok(false);
+            }
+        }
+        self.discharge(rt, alloc, gate, workers, claims)?;
+        Ok(self.settled.is_none())
+    }
+
+    /// Takes a further piece of the text.
+    pub fn push<R: Threads + Sync, G: Gate + Sync>(
+        &mut self,
+        rt: &R,
+        alloc: Global,
+        gate: &G,
+        workers: u32,
+        claims: &Claims<'_>,
+        piece: &[u8],
+    ) -> Result<(), Memory>
+        requires workers { 0 < workers }
+        requires may { MayBeChecked claims.now }
+        requires order { AreInOrder (conditions_of claims.now) self.old }
+        requires unfinished { self.old.reader.finished ≡ false }
+        requires room { reach self.old.reader + length piece.now < 2 ^ 64 }
+        ensures same { OnOk result ((rest : List ℕ) → comes_to (setting_of claims.now) (conditions_of claims.now) self.new rest
+            ≡ comes_to (setting_of claims.now) (conditions_of claims.now) self.old (piece.now ++ rest)) }
+        ensures order { OnOk result (AreInOrder (conditions_of claims.now) self.new) }
+        ensures unfinished { OnOk result (self.new.reader.finished ≡ false) }
+        ensures reached { OnOk result (reach self.new.reader ≤ reach self.old.reader + length piece.now) }
+    {
+        if self.settled.is_some() {
+            return Ok(());
+        }
+        self.reader.push(piece)?;
+        if self.take_blocks(rt, alloc, gate, workers, claims)? && !claims.conditions.is_empty() {
+            self.skip_blanks(claims);
+        }
+        Ok(())
+    }
+
+    /// Drops blanks behind the last block. What isn't blank settles the rest.
+    fn skip_blanks(&mut self, claims: &Claims<'_>)
+        requires order { AreInOrder (conditions_of claims.now) self.old }
+        requires all { AreAllDischarged (conditions_of claims.now) self.old }
+        requires some { 0 < length (conditions_of claims.now) }
+        ensures keeps { Keeps (setting_of claims.now) (conditions_of claims.now) self.old self.new }
+        ensures order { AreInOrder (conditions_of claims.now) self.new }
+        ensures finished { self.new.reader.finished ≡ self.old.reader.finished }
+        ensures reached { reach self.new.reader ≤ reach self.old.reader }
+    {
+        if let Some(place) = drop_blanks(&mut self.reader) {
+            self.settled = Some(Finding::Discharged(Some(place)));
+        }
+    }
+
+    /// What all comes to, where the text ends here.
+    pub fn finish<R: Threads + Sync, G: Gate + Sync>(
+        &mut self,
+        rt: &R,
+        alloc: Global,
+        gate: &G,
+        workers: u32,
+        claims: &Claims<'_>,
+    ) -> Result<Finding, Memory>
+        requires workers { 0 < workers }
+        requires may { MayBeChecked claims.now }
+        requires order { AreInOrder (conditions_of claims.now) self.old }
+        ensures finding { IfOk result (λ f. f ≡ comes_to (setting_of claims.now) (conditions_of claims.now) self.old []) }
+        ensures among { IfOk result (IsAmong (length (conditions_of claims.now))) }
+    {
+        if let Some(finding) = self.settled {
+            return Ok(finding);
+        }
+        self.reader.finish();
+        if self.take_blocks(rt, alloc, gate, workers, claims)? {
+            return Ok(Finding::Discharged(self.reader.trailing()));
+        }
+        match self.settled {
+            Some(finding) => Ok(finding),
+            None => unreachable!(),
+        }
+    }
+}

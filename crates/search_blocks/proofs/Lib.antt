@@ -1,0 +1,4 @@
+pub mod Fitting
+pub mod Dividing
+pub mod Finding
+pub mod Holding

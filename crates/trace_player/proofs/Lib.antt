@@ -1,0 +1,4 @@
+pub mod Ordered
+pub mod Outcomes
+pub mod Narrow
+pub mod Same

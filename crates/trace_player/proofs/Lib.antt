@@ -1,4 +1,5 @@
 pub mod Ordered
 pub mod Outcomes
 pub mod Narrow
-pub mod Same
+pub mod Courses
+pub mod StatementNames

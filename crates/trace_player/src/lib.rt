@@ -2,12 +2,15 @@
 #![tactic(auto)]
 
 mod beginning;
+mod counting;
 mod enabling;
 mod faults;
+mod naming;
 mod playing;
 mod runs;
 mod values;
 
+pub use counting::rounds;
 pub use faults::PlayFault;
 pub use playing::play;
 pub use runs::Played;

@@ -1,16 +1,16 @@
 -- The lists of a run show what is observed of it.
-use Rattle.std.proofs.Common.{◌≡◌, ℕ, zero, suc, ◌+◌, ◌<◌, ◌≤◌, Bool, List, [], ◌∷◌, ◌++◌, append_assoc, length, map, drop, get_or, Option, Some, None, refl, ap, ◌∙◌, sym, arith}
+use Rattle.std.proofs.Common.{◌≡◌, ℕ, zero, suc, ◌+◌, ◌<◌, ◌≤◌, Bool, List, [], ◌∷◌, ◌++◌, append_assoc, length, map, drop, get_or, refl, ap, ◌∙◌, sym, arith}
 use Rattle.std.specs.Prelude.{slice_get}
 use Rattle.std.proofs.lemmas.List.{length-map, map-append, drop_more}
 use Rattle.std.specs.declared.vec.Vec.{Vec}
 use Rattle.std.specs.declared.alloc.Global.{Global}
 use Rattle.observations.specs.declared.Fairness.{Fairness}
-use Rattle.observations.specs.Observation.{Moment, Observation, moment_after, moment_at, name_at, last}
+use Rattle.observations.specs.Observation.{Moment, moment_after, name_at}
 use Rattle.st_form.specs.Formula.{Situation}
 use Rattle.st_form.specs.declared.conditions.TransName.{TransName}
 use Rattle.st_program.specs.Tree.{Processes}
 use Rattle.spl_semantics.specs.Names.{all_names}
-use Rattle.spl_semantics.specs.Runs.{State, is_enabled, enabled_names, seen, place_in, place_of, observed}
+use Rattle.spl_semantics.specs.Runs.{State, is_enabled, seen, place_in, place_of, observed}
 use Rattle.run_judging.specs.Rows.{flags_at}
 use Rattle.run_judging.specs.Shown.{Shows}
 use Rattle.run_judging.specs.declared.course.Course.{Course}

@@ -2,8 +2,8 @@
 --
 -- The variables of a form rise, and there are at most 64. Before the entry of variable v there are at most v others, and each
 -- product has at most size 2^62.
-use Rattle.std.proofs.Common.{◌≡◌, ℕ, zero, suc, ◌+◌, ◌*◌, ◌^◌, ◌<◌, ◌≤◌, Bool, true, false, List, [], ◌∷◌, length, ℤ, pos, ◌+ℤ◌, ◌*ℤ◌, Option, Some, None, refl, ap, ◌∙◌, arith}
-use Rattle.std.specs.Prelude.{⊤, unsigned_abs, All, slice_get}
+use Rattle.std.proofs.Common.{◌≡◌, ℕ, zero, suc, ◌+◌, ◌*◌, ◌^◌, ◌<◌, ◌≤◌, Bool, false, List, [], ◌∷◌, length, ℤ, ◌+ℤ◌, ◌*ℤ◌, Some, refl, ◌∙◌, arith}
+use Rattle.std.specs.Prelude.{⊤, unsigned_abs, All}
 use Rattle.std.proofs.lemmas.Bool.Decides.{nat_tests}
 use Rattle.std.proofs.lemmas.Int.{ints, unsigned_abs-mul}
 use Rattle.std.proofs.Math.Nat.{mul-le-mul_left, mul-le-mul_right}
@@ -13,7 +13,7 @@ use Rattle.st_form.specs.declared.variables.Variable.{Variable}
 use Rattle.st_program.specs.Types.{type_of, EntriesFit, LinearFits, FormulaFits, FormulasFit}
 use Rattle.st_program.specs.declared.residuals.Datum.{Datum}
 use Rattle.st_program.specs.declared.residuals.Datum.TheVariants.{Number, Truth}
-use Rattle.spl_semantics.specs.Data.{number_in, store_of}
+use Rattle.spl_semantics.specs.Data.{store_of}
 use Rattle.spl_semantics.specs.Limits.{wide_on, wide_form, wide_formula, wide_formulas}
 use Rattle.spl_semantics.specs.Stores.{Store}
 use Rattle.spl_semantics.proofs.Exits.{or_none}

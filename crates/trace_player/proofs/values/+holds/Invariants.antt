@@ -1,5 +1,5 @@
 use Rattle.std.proofs.Common.{◌≡◌, drop}
-use Rattle.std.specs.Prelude.{◌&&◌, ◌||◌, false}
+use Rattle.std.specs.Prelude.{◌&&◌, ◌||◌}
 use Rattle.st_form.specs.Formula.{every_truth, some_truth}
 use Rattle.st_form.specs.Plain.{plain_list}
 use Rattle.trace_player.specs.Seen.{seen_at}

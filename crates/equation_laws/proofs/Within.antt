@@ -36,7 +36,7 @@ entries-below : (truths : List Bool) (bound : ℕ) (es : Entries) → EntriesWit
 entries-below truths bound [] h = tt
 entries-below truths bound (e ∷ es) h = (found-below truths e.0 false h.0, entries-below truths bound es h.2)
 
-numbers-within : (truths : List Bool) (ps : List (ℕ × Linear)) → All (λ p. (slice_get truths p.0 ≡ Some false) × LinearWithin truths (2 ^ 30 + 1) p.1) ps → AreWithin (length truths) ps
+pub numbers-within : (truths : List Bool) (ps : List (ℕ × Linear)) → All (λ p. (slice_get truths p.0 ≡ Some false) × LinearWithin truths (2 ^ 30 + 1) p.1) ps → AreWithin (length truths) ps
 numbers-within truths [] h = tt
 numbers-within truths (p ∷ ps) h =
     let f = first-of (λ p. (slice_get truths p.0 ≡ Some false) × LinearWithin truths (2 ^ 30 + 1) p.1) p ps h in
@@ -155,7 +155,7 @@ above-append : (v : ℕ) (es fs : Entries) → AllAbove v es → AllAbove v fs �
 above-append v [] fs h k = k
 above-append v (e ∷ es) fs h k = (h.0, above-append v es fs h.1 k)
 
-entries-append : (n : ℕ) (es fs : Entries) → AreEntries es → AllBelow n es → AreEntries fs → ((v : ℕ) → v < n → AllAbove v fs) → AreEntries (es ++ fs)
+pub entries-append : (n : ℕ) (es fs : Entries) → AreEntries es → AllBelow n es → AreEntries fs → ((v : ℕ) → v < n → AllAbove v fs) → AreEntries (es ++ fs)
 entries-append n [] fs h b k a = k
 entries-append n (e ∷ es) fs h b k a = (above-append e.0 es fs h.0 (a e.0 b.0), h.1, entries-append n es fs h.2 b.1 k a)
 

@@ -3,6 +3,7 @@ use Rattle.std.proofs.Common.{◌≡◌, ℕ, List, [], ◌∷◌, map, Some, ap
 use Rattle.st_form.specs.Formula.{Formula}
 use Rattle.st_form.specs.declared.variables.Variable.{Variable}
 use Rattle.st_linear.specs.Linear.{AreEntries}
+use Rattle.observations.specs.Observation.{state_at}
 use Rattle.st_program.specs.Tree.{Processes, action}
 use Rattle.st_program.specs.Member.{Member}
 use Rattle.st_program.specs.Spots.{Spot, all_spots}
@@ -32,7 +33,7 @@ module _ (vs : List Variable) (initial : Formula) (p : Processes) (locations : �
   all-hold : (bs : List Entries) → AllMeet AreEntries bs → AllMeet (λ b. IsInductive system (at_columns b)) bs → AllHold p initial (map (equation_of (variables_of system) locations) bs)
   all-hold [] h k = tt
   all-hold (b ∷ bs) h k = (
-    λ o run j. worth-value (variables_of system) locations b _ h.0 ∙ holds-along vs initial p locations well typed both (at_columns b) k.0 o run j,
+    λ o run j. worth-value (variables_of system) locations b (state_at o j) h.0 ∙ holds-along vs initial p locations well typed both (at_columns b) k.0 o run j,
     all-hold bs h.1 k.1,
   )
 

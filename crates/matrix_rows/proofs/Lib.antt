@@ -1,2 +1,2 @@
-pub mod Mixed
 pub mod Kept
+pub mod Mixed

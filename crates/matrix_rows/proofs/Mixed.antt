@@ -1,35 +1,47 @@
 -- Mixed entries as sums of multiples of forms without a constant.
 use Rattle.std.proofs.Common.{◌≡◌, ◌^◌, ℕ, ◌<◌, Bool, true, false, ◌&&◌, Option, Some, None, List, map, refl, sym, ap, ◌∙◌, arith, ℤ, pos, ◌+ℤ◌, ◌*ℤ◌, rules}
-use Rattle.std.specs.Prelude.{IsTrue, option_and_then, if◌then◌else◌}
+use Rattle.std.specs.Prelude.{option_and_then, if◌then◌else◌, Result, Ok, Err, IfOk}
 use Rattle.std.specs.Int.{int_div_euclid}
 use Rattle.std.proofs.Math.IntN.{zero-*ℤ}
 use Rattle.std.proofs.lemmas.Int.{ints}
 use Rattle.st_linear.specs.Linear.{Linear, is_small, are_small, fits, fitting, scaled, scaled_entries, sum_of, joined, is_within, entries_within}
 use Rattle.st_linear.specs.Simple.{divided, common_divisor}
+use Rattle.st_linear.specs.Answers.{Gives}
+use Rattle.st_linear.specs.declared.faults.LinFault.{LinFault}
+use Rattle.st_memory.specs.declared.Memory.{Memory}
+use Rattle.st_linear.proofs.Answering.{Fails-whole}
 use Rattle.st_linear.proofs.Dividing.{divided-one}
+use Rattle.st_linear.proofs.Withins.{entries_within-is}
 use Rattle.elimination_laws.specs.Mixing.{mixed_entries}
 use Rattle.null_laws.specs.Reduction.{primitive}
-
-zero-small : is_small (pos 0) ≡ true
-unfolding is_within
-zero-small = search rules
+use Rattle.matrix_rows.proofs.Kept.{zero-within}
 
 -- a form without a constant fits where its entries do
+fits-entries : (f : Linear) → f.constant ≡ pos 0 → fits f ≡ are_small f.entries
+fits-entries f h = ap (λ z. is_small z && are_small f.entries) h ∙ ap (λ b. b && are_small f.entries) zero-within
+
 fitting-entries : (f r : Linear) → f.constant ≡ pos 0 → fitting f ≡ Some r → (entries_within (2 ^ 100) f.entries ≡ Some r.entries) × (r.constant ≡ pos 0)
-unfolding fitting entries_within
-fitting-entries f r h e = by_test (are_small f.entries) (rw (h, zero-small) at e)
+unfolding fitting
+fitting-entries f r h e = by_test (fits f) refl e
   where
-    by_test : (b : Bool) → (if b then Some f else None) ≡ Some r → ((if b then Some f.entries else None) ≡ Some r.entries) × (r.constant ≡ pos 0)
-    by_test true e = let s : f ≡ r = cc in (ap (λ (r : Linear). Some r.entries) s, sym (ap (λ (r : Linear). r.constant) s) ∙ h)
-    by_test false e = absurd (cc)
+    by_test : (b : Bool) → fits f ≡ b → (if b then Some f else None) ≡ Some r → (entries_within (2 ^ 100) f.entries ≡ Some r.entries) × (r.constant ≡ pos 0)
+    by_test true i e =
+        let s : f ≡ r = cc in
+        let k : are_small f.entries ≡ true = sym (fits-entries f h) ∙ i in
+        (entries_within-is (2 ^ 100) f.entries f.entries refl k ∙ ap (λ (r : Linear). Some r.entries) s, sym (ap (λ (r : Linear). r.constant) s) ∙ h)
+    by_test false i e = absurd (cc)
+
+none-within : (es : List (ℕ × ℤ)) → are_small es ≡ false → entries_within (2 ^ 100) es ≡ None
+unfolding entries_within
+none-within es h = rw h refl
 
 fitting-out : (f : Linear) → f.constant ≡ pos 0 → fitting f ≡ None → entries_within (2 ^ 100) f.entries ≡ None
-unfolding fitting entries_within
-fitting-out f h e = by_test (are_small f.entries) (rw (h, zero-small) at e)
+unfolding fitting
+fitting-out f h e = by_test (fits f) refl e
   where
-    by_test : (b : Bool) → (if b then Some f else None) ≡ None → (if b then Some f.entries else None) ≡ None
-    by_test true e = absurd (cc)
-    by_test false e = refl
+    by_test : (b : Bool) → fits f ≡ b → (if b then Some f else None) ≡ None → entries_within (2 ^ 100) f.entries ≡ None
+    by_test true i e = absurd (cc)
+    by_test false i e = none-within f.entries (sym (fits-entries f h) ∙ i)
 
 scaled-constant : (x : ℤ) (f : Linear) → f.constant ≡ pos 0 → (scaled x f).constant ≡ pos 0
 scaled-constant x f h = ap (λ z. z *ℤ x) h ∙ zero-*ℤ x
@@ -74,12 +86,19 @@ whole_sum x f y g r s t h k d e n =
     let w = fitting-entries (sum_of r s) t (sum-constant x f y g r s h k d e) n in
     (both-there x f y g r s h k d e ∙ w.0, w.1)
 
--- divided
-pub divided-constant : (d : ℕ) (f : Linear) → f.constant ≡ pos 0 → (divided d f).constant ≡ pos 0
-divided-constant d f h = ap (λ z. int_div_euclid z (pos d)) h ∙ zero-divided d
-  where
-    zero-divided : (d : ℕ) → int_div_euclid (pos 0) (pos d) ≡ pos 0
-    zero-divided d = search rules
+-- what is answered for the sum
+pub gives-sum : (x : ℤ) (f : Linear) (y : ℤ) (g r s : Linear) (o : Result Linear LinFault) → f.constant ≡ pos 0 → g.constant ≡ pos 0 → fitting (scaled x f) ≡ Some r → fitting (scaled y g) ≡ Some s → Gives (λ f. f) o (fitting (sum_of r s)) → Gives (λ (f : Linear). f.entries) o (mixed_entries (2 ^ 100) x f.entries y g.entries)
+gives-sum x f y g r s (Ok t) h k d e n = (whole_sum x f y g r s t h k d e n).0
+gives-sum x f y g r s (Err fault) h k d e n = Fails-whole fault _ _ (λ n. no_sum x f y g r s h k d e n) n
 
+pub sum-without : (x : ℤ) (f : Linear) (y : ℤ) (g r s : Linear) (o : Result Linear LinFault) → f.constant ≡ pos 0 → g.constant ≡ pos 0 → fitting (scaled x f) ≡ Some r → fitting (scaled y g) ≡ Some s → Gives (λ f. f) o (fitting (sum_of r s)) → IfOk o (λ (f : Linear). f.constant ≡ pos 0)
+sum-without x f y g r s (Ok t) h k d e n = (whole_sum x f y g r s t h k d e n).1
+sum-without x f y g r s (Err fault) h k d e n = tt
+
+-- divided
 pub primitive-one : (f : Linear) (d : ℕ) → d ≡ common_divisor f.entries → d ≡ 1 → f.entries ≡ primitive f.entries
 primitive-one f d e h = sym (ap (λ (d : ℕ). map (λ e. (e.0, int_div_euclid e.1 (pos d))) f.entries) (sym e ∙ h) ∙ ap (λ g. g.entries) (divided-one f))
+
+pub gives-primitive : (f : Linear) (d : ℕ) (o : Result Linear Memory) → d ≡ common_divisor f.entries → IfOk o (λ g. g ≡ divided d f) → IfOk o (λ (g : Linear). g.entries ≡ primitive f.entries)
+gives-primitive f d (Ok g) e h = ap (λ (g : Linear). g.entries) h ∙ ap (λ (d : ℕ). map (λ e. (e.0, int_div_euclid e.1 (pos d))) f.entries) e
+gives-primitive f d (Err m) e h = tt

@@ -1,6 +1,6 @@
 use Rattle.std.proofs.Common.{arith, ◌^◌}
 use Rattle.st_linear.proofs.Withins.{are_within-at, to_z-within}
-use Rattle.matrix_rows.proofs.Withins.{zero-within}
+use Rattle.matrix_rows.proofs.Kept.{zero-within}
 use Rattle.matrix_rows.proofs.row.part.Goals as goal
 
 pub returns-then-e-column-clause-within : goal.returns-then-e-column-clause-within

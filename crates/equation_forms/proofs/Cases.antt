@@ -92,14 +92,18 @@ pub some-any : {X : Type 0} (s : Situation) (f : X → Formula) (xs : List X) �
 some-any s f [] = refl
 some-any s f (x ∷ xs) = ap (λ b. truth s (f x) || b) (some-any s f xs)
 
+-- a case holds, and its sum passes a test
+abbrev pub holds_by : Situation → (ℤ → Bool) → List Formula × ℤ → Bool
+holds_by s z x = every_truth s (formulas x.0) && z x.1
+
 -- one more component in front: of its classes only the one where control is counts
 pub any-class : (s : Situation) (make : ℤ → List Formula) (v : ℤ) (ks : List ℤ) (xs : List (List Formula × ℤ)) (z : ℤ → Bool) (sum : ℤ)
     → ((k : ℤ) → every_truth s (formulas (make k)) ≡ int_eq k v) → list_any (λ k. int_eq k v) ks ≡ true
-    → ((y : ℤ → Bool) → list_any (λ x. every_truth s (formulas x.0) && y x.1) xs ≡ y sum)
-    → list_any (λ x. every_truth s (formulas x.0) && z x.1) (flat_map (λ k. map (λ x. (make k ++ x.0, k +ℤ x.1)) xs) ks) ≡ z (v +ℤ sum)
+    → ((y : ℤ → Bool) → list_any (holds_by s y) xs ≡ y sum)
+    → list_any (holds_by s z) (flat_map (λ k. map (λ x. (make k ++ x.0, k +ℤ x.1)) xs) ks) ≡ z (v +ℤ sum)
 any-class s make v ks xs z sum w h rest =
-    any-flat (λ x. every_truth s (formulas x.0) && z x.1) (λ k. map (λ x. (make k ++ x.0, k +ℤ x.1)) xs) ks
-    ∙ any-same (λ k. list_any (λ x. every_truth s (formulas x.0) && z x.1) (map (λ x. (make k ++ x.0, k +ℤ x.1)) xs)) (λ k. int_eq k v && z (k +ℤ sum)) ks one_class
+    any-flat (holds_by s z) (λ k. map (λ x. (make k ++ x.0, k +ℤ x.1)) xs) ks
+    ∙ any-same (λ k. list_any (holds_by s z) (map (λ x. (make k ++ x.0, k +ℤ x.1)) xs)) (λ k. int_eq k v && z (k +ℤ sum)) ks one_class
     ∙ any-number (λ k. z (k +ℤ sum)) v ks h
   where
     one_case : (k : ℤ) (x : List Formula × ℤ) → (every_truth s (formulas (make k ++ x.0)) && z (k +ℤ x.1)) ≡ (int_eq k v && (every_truth s (formulas x.0) && z (k +ℤ x.1)))
@@ -107,9 +111,9 @@ any-class s make v ks xs z sum w h rest =
         ap (λ b. b && z (k +ℤ x.1)) (every-append s (make k) x.0 ∙ ap (λ b. b && every_truth s (formulas x.0)) (w k))
         ∙ sym (and_assoc (int_eq k v) (every_truth s (formulas x.0)) (z (k +ℤ x.1)))
 
-    one_class : (k : ℤ) → list_any (λ x. every_truth s (formulas x.0) && z x.1) (map (λ x. (make k ++ x.0, k +ℤ x.1)) xs) ≡ (int_eq k v && z (k +ℤ sum))
+    one_class : (k : ℤ) → list_any (holds_by s z) (map (λ x. (make k ++ x.0, k +ℤ x.1)) xs) ≡ (int_eq k v && z (k +ℤ sum))
     one_class k =
-        any-map (λ x. every_truth s (formulas x.0) && z x.1) (λ x. (make k ++ x.0, k +ℤ x.1)) xs
-        ∙ any-same (λ x. every_truth s (formulas (make k ++ x.0)) && z (k +ℤ x.1)) (λ x. int_eq k v && (every_truth s (formulas x.0) && z (k +ℤ x.1))) xs (one_case k)
-        ∙ any-and (int_eq k v) (λ x. every_truth s (formulas x.0) && z (k +ℤ x.1)) xs
+        any-map (holds_by s z) (λ (x : List Formula × ℤ). (make k ++ x.0, k +ℤ x.1)) xs
+        ∙ any-same (λ (x : List Formula × ℤ). every_truth s (formulas (make k ++ x.0)) && z (k +ℤ x.1)) (λ (x : List Formula × ℤ). int_eq k v && holds_by s (λ j. z (k +ℤ j)) x) xs (one_case k)
+        ∙ any-and (int_eq k v) (holds_by s (λ j. z (k +ℤ j))) xs
         ∙ ap (λ b. int_eq k v && b) (rest (λ j. z (k +ℤ j)))

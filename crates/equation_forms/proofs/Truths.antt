@@ -17,7 +17,7 @@ use Rattle.equation_laws.specs.Sums.{total, presence}
 use Rattle.equation_laws.specs.Equations.{PlainEquation, worth}
 use Rattle.equation_laws.proofs.Totals.{total-same, total-sum, total-zero, total-one}
 use Rattle.equation_forms.specs.Formulas.{Terms, terms_of, with_terms, groups, fresh, classes, whereabouts, choices, case_of, groups_of, formula_of, AreOwned}
-use Rattle.equation_forms.proofs.Cases.{every-append, closed-every, closed-some, some-any, any-class}
+use Rattle.equation_forms.proofs.Cases.{every-append, closed-every, closed-some, some-any, holds_by, any-class}
 
 not_equal : (x y : ℤ) → (x ≡ y → ⊥) → int_eq x y ≡ false
 not_equal x y h = by_test (int_eq x y) refl
@@ -82,17 +82,17 @@ module _ (s : Situation) where
 
   none-class : (a : Alternative) (ts : Terms) → AreEntries ts → AtOne a ts → every_truth s (formulas (map (λ t. negation (at t.0)) ts)) ≡ int_eq (pos 0) (entries_value here ts)
   none-class a [] h o = sym (equal_is (pos 0))
-  none-class a (t ∷ ts) h o = by_test (s.located t.0) refl
+  none-class a (t ∷ ts) h o = by_test (s.located t.0) refl (none-class a ts h.2 o.1)
     where
-      by_test : (b : Bool) → s.located t.0 ≡ b → (not b && every_truth s (formulas (map (λ t. negation (at t.0)) ts))) ≡ int_eq (pos 0) (entries_value here (t ∷ ts))
-      by_test true e =
+      by_test : (b : Bool) → s.located t.0 ≡ b → every_truth s (formulas (map (λ t. negation (at t.0)) ts)) ≡ int_eq (pos 0) (entries_value here ts) → (not b && every_truth s (formulas (map (λ t. negation (at t.0)) ts))) ≡ int_eq (pos 0) (entries_value here (t ∷ ts))
+      by_test true e i =
           let v = value-at t ts e (rest-none a t.0 ts (o.0 e) h.0 o.1) in
           sym (ap (int_eq (pos 0)) v ∙ not_equal (pos 0) t.1 (λ q. h.1 (sym q)))
-      by_test false e = none-class a ts h.2 o.1 ∙ sym (ap (int_eq (pos 0)) (value-off t ts e))
+      by_test false e i = i ∙ sym (ap (int_eq (pos 0)) (value-off t ts e))
 
   some-class : (a : Alternative) (k : ℤ) (ts : Terms) → (k ≡ pos 0 → ⊥) → AreEntries ts → AtOne a ts → some_truth s (formulas (map (λ t. at t.0) (filter (λ t. int_eq t.1 k) ts))) ≡ int_eq k (entries_value here ts)
   some-class a k [] z h o = sym (not_equal k (pos 0) z)
-  some-class a k (t ∷ ts) z h o = by_test (s.located t.0) refl
+  some-class a k (t ∷ ts) z h o = by_test (s.located t.0) refl (some-class a k ts z h.2 o.1)
     where
       picked : Bool → Terms
       picked b = if b then t ∷ filter (λ t. int_eq t.1 k) ts else filter (λ t. int_eq t.1 k) ts
@@ -105,11 +105,11 @@ module _ (s : Situation) where
       off_first true e = ap (λ b. b || some_truth s (formulas (map (λ t. at t.0) (filter (λ t. int_eq t.1 k) ts)))) e
       off_first false e = refl
 
-      by_test : (b : Bool) → s.located t.0 ≡ b → some_truth s (formulas (map (λ t. at t.0) (picked (int_eq t.1 k)))) ≡ int_eq k (entries_value here (t ∷ ts))
-      by_test true e =
+      by_test : (b : Bool) → s.located t.0 ≡ b → some_truth s (formulas (map (λ t. at t.0) (filter (λ t. int_eq t.1 k) ts))) ≡ int_eq k (entries_value here ts) → some_truth s (formulas (map (λ t. at t.0) (picked (int_eq t.1 k)))) ≡ int_eq k (entries_value here (t ∷ ts))
+      by_test true e i =
           let n = rest-none a t.0 ts (o.0 e) h.0 o.1 in
           at_first (int_eq t.1 k) refl e n ∙ turned t.1 k ∙ sym (ap (int_eq k) (value-at t ts e n))
-      by_test false e = off_first (int_eq t.1 k) e ∙ some-class a k ts z h.2 o.1 ∙ sym (ap (int_eq k) (value-off t ts e))
+      by_test false e i = off_first (int_eq t.1 k) e ∙ i ∙ sym (ap (int_eq k) (value-off t ts e))
 
   and_true : (a : Bool) → (a && true) ≡ a
   and_true true = refl
@@ -117,8 +117,8 @@ module _ (s : Situation) where
 
   class-truth : (a : Alternative) (ts : Terms) (k : ℤ) → AreEntries ts → AtOne a ts → every_truth s (formulas (whereabouts ts k)) ≡ int_eq k (entries_value here ts)
   class-truth a ts (pos zero) h o = none-class a ts h o
-  class-truth a ts (pos (suc n)) h o = and_true _ ∙ closed-some s _ ∙ some-class a (pos (suc n)) ts (λ e. absurd (cc)) h o
-  class-truth a ts (negsuc n) h o = and_true _ ∙ closed-some s _ ∙ some-class a (negsuc n) ts (λ e. absurd (cc)) h o
+  class-truth a ts (pos (suc n)) h o = and_true _ ∙ closed-some s (formulas (map (λ t. at t.0) (filter (λ t. int_eq t.1 (pos (suc n))) ts))) ∙ some-class a (pos (suc n)) ts (λ e. absurd (cc)) h o
+  class-truth a ts (negsuc n) h o = and_true _ ∙ closed-some s (formulas (map (λ t. at t.0) (filter (λ t. int_eq t.1 (negsuc n)) ts))) ∙ some-class a (negsuc n) ts (λ e. absurd (cc)) h o
 
   -- the value is one of the classes
   or_true : (a : Bool) → (a || true) ≡ true
@@ -137,14 +137,14 @@ module _ (s : Situation) where
       by false = refl
   any-behind f (k ∷ ks) j = ap (λ b. f k || b) (any-behind f ks j) ∙ or_assoc (f k) (list_any f ks) (f j)
 
-  abbrev Covers : List ℤ → Terms → Type 0
-  Covers ks [] = Unit {0}
-  Covers ks (t ∷ ts) = (list_any (λ k. int_eq k t.1) ks ≡ true) × Covers ks ts
+  abbrev Kept : List ℤ → Terms → ℤ → Type 0
+  Kept seen ts v =
+      (list_any (λ k. int_eq k v) seen || list_any (λ t. int_eq t.1 v) ts) ≡ true → (list_any (λ k. int_eq k v) seen || list_any (λ k. int_eq k v) (fresh seen ts)) ≡ true
 
   -- what is seen, and what is fresh behind it
-  fresh-covers : (seen : List ℤ) (ts : Terms) (v : ℤ) → (list_any (λ k. int_eq k v) seen || list_any (λ t. int_eq t.1 v) ts) ≡ true → (list_any (λ k. int_eq k v) seen || list_any (λ k. int_eq k v) (fresh seen ts)) ≡ true
+  fresh-covers : (seen : List ℤ) (ts : Terms) (v : ℤ) → Kept seen ts v
   fresh-covers seen [] v h = h
-  fresh-covers seen (t ∷ ts) v h = by_test (list_any (λ k. int_eq k t.1) seen) refl
+  fresh-covers seen (t ∷ ts) v h = by_test (list_any (λ k. int_eq k t.1) seen) refl (fresh-covers seen ts v) (fresh-covers (seen ++ t.1 ∷ []) ts v)
     where
       in_seen : (ks : List ℤ) → list_any (λ k. int_eq k t.1) ks ≡ true → int_eq t.1 v ≡ true → list_any (λ k. int_eq k v) ks ≡ true
       in_seen ks e q = subst (λ x. list_any (λ k. int_eq k x) ks ≡ true) ((Decides-int_eq t.1 v).0 q) e
@@ -153,31 +153,30 @@ module _ (s : Situation) where
       skip true q e h = ap (λ b. b || list_any (λ t. int_eq t.1 v) ts) (in_seen seen e q)
       skip false q e h = h
 
-      by_test : (b : Bool) → list_any (λ k. int_eq k t.1) seen ≡ b → (list_any (λ k. int_eq k v) seen || list_any (λ k. int_eq k v) (if b then fresh seen ts else t.1 ∷ fresh (seen ++ t.1 ∷ []) ts)) ≡ true
-      by_test true e = fresh-covers seen ts v (skip (int_eq t.1 v) refl e h)
-      by_test false e =
+      by_test : (b : Bool) → list_any (λ k. int_eq k t.1) seen ≡ b → Kept seen ts v → Kept (seen ++ t.1 ∷ []) ts v → (list_any (λ k. int_eq k v) seen || list_any (λ k. int_eq k v) (if b then fresh seen ts else t.1 ∷ fresh (seen ++ t.1 ∷ []) ts)) ≡ true
+      by_test true e i j = i (skip (int_eq t.1 v) refl e h)
+      by_test false e i j =
           let a = list_any (λ k. int_eq k v) seen in
           let more = any-behind (λ k. int_eq k v) seen t.1 in
-          let b = fresh-covers (seen ++ t.1 ∷ []) ts v (ap (λ x. x || list_any (λ t. int_eq t.1 v) ts) more ∙ sym (or_assoc a (int_eq t.1 v) (list_any (λ t. int_eq t.1 v) ts)) ∙ h) in
+          let b = j (ap (λ x. x || list_any (λ t. int_eq t.1 v) ts) more ∙ sym (or_assoc a (int_eq t.1 v) (list_any (λ t. int_eq t.1 v) ts)) ∙ h) in
           or_assoc a (int_eq t.1 v) (list_any (λ k. int_eq k v) (fresh (seen ++ t.1 ∷ []) ts)) ∙ sym (ap (λ x. x || list_any (λ k. int_eq k v) (fresh (seen ++ t.1 ∷ []) ts)) more) ∙ b
 
   value-among : (a : Alternative) (ts : Terms) → AreEntries ts → AtOne a ts → (int_eq (pos 0) (entries_value here ts) || list_any (λ t. int_eq t.1 (entries_value here ts)) ts) ≡ true
   value-among a [] h o = ap (λ b. b || false) (equal_is (pos 0))
-  value-among a (t ∷ ts) h o = by_test (s.located t.0) refl
+  value-among a (t ∷ ts) h o = by_test (s.located t.0) refl (value-among a ts h.2 o.1)
     where
       put_first : (b c d : Bool) → (b || d) ≡ true → (b || (c || d)) ≡ true
       put_first true c d e = refl
       put_first false true d e = refl
       put_first false false d e = e
 
-      by_test : (b : Bool) → s.located t.0 ≡ b → (int_eq (pos 0) (entries_value here (t ∷ ts)) || (int_eq t.1 (entries_value here (t ∷ ts)) || list_any (λ u. int_eq u.1 (entries_value here (t ∷ ts))) ts)) ≡ true
-      by_test true e =
+      by_test : (b : Bool) → s.located t.0 ≡ b → (int_eq (pos 0) (entries_value here ts) || list_any (λ t. int_eq t.1 (entries_value here ts)) ts) ≡ true → (int_eq (pos 0) (entries_value here (t ∷ ts)) || (int_eq t.1 (entries_value here (t ∷ ts)) || list_any (λ u. int_eq u.1 (entries_value here (t ∷ ts))) ts)) ≡ true
+      by_test true e i =
           let v = value-at t ts e (rest-none a t.0 ts (o.0 e) h.0 o.1) in
           let x = entries_value here (t ∷ ts) in
           let q : int_eq t.1 x ≡ true = ap (int_eq t.1) v ∙ equal_is t.1 in
           ap (λ b. int_eq (pos 0) x || (b || list_any (λ u. int_eq u.1 x) ts)) q ∙ or_true (int_eq (pos 0) x)
-      by_test false e =
-          let i = value-among a ts h.2 o.1 in
+      by_test false e i =
           let x = entries_value here ts in
           subst (λ y. (int_eq (pos 0) y || (int_eq t.1 y || list_any (λ u. int_eq u.1 y) ts)) ≡ true) (sym (value-off t ts e)) (put_first (int_eq (pos 0) x) (int_eq t.1 x) (list_any (λ u. int_eq u.1 x) ts) i)
 
@@ -197,7 +196,7 @@ module _ (s : Situation) where
   AllOne [] = Unit {0}
   AllOne (ts ∷ gs) = (AreEntries ts × ((a : Alternative) × AtOne a ts)) × AllOne gs
 
-  choices-truth : (gs : List Terms) → AllOne gs → (z : ℤ → Bool) → list_any (λ x. every_truth s (formulas x.0) && z x.1) (choices gs) ≡ z (sum_of_groups gs)
+  choices-truth : (gs : List Terms) → AllOne gs → (z : ℤ → Bool) → list_any (holds_by s z) (choices gs) ≡ z (sum_of_groups gs)
   choices-truth [] h z = by (z (pos 0))
     where
       by : (b : Bool) → ((true && b) || false) ≡ b
@@ -222,7 +221,7 @@ module _ (s : Situation) where
   formula-truth k e h =
       closed-some s (formulas (map (case_of e) (choices (groups_of k e))))
       ∙ some-any s (case_of e) (choices (groups_of k e))
-      ∙ any-same (λ x. truth s (case_of e x)) (λ x. every_truth s (formulas x.0) && is_zero ((e.constant +ℤ x.1) +ℤ entries_value s.numbers e.numbers)) (choices (groups_of k e)) (case-truth e)
+      ∙ any-same (λ x. truth s (case_of e x)) (holds_by s (λ z. is_zero ((e.constant +ℤ z) +ℤ entries_value s.numbers e.numbers))) (choices (groups_of k e)) (case-truth e)
       ∙ choices-truth (groups_of k e) h (λ z. is_zero ((e.constant +ℤ z) +ℤ entries_value s.numbers e.numbers))
 
   -- the sum of all components' terms is that of all terms
@@ -300,11 +299,11 @@ module _ (s : Situation) where
 
     groups-one : (ts : Terms) (m c : ℕ) → AreEntries ts → AllOne (groups k.owners ts m c)
     groups-one ts zero c h = tt
-    groups-one ts (suc m) c h = with_one (terms_of k.owners c ts) (terms-entries k.owners c ts h) (terms-one c ts)
+    groups-one ts (suc m) c h = with_one (terms_of k.owners c ts) (terms-entries k.owners c ts h) (terms-one c ts) (groups-one ts m (c + 1) h)
       where
-        with_one : (us : Terms) → AreEntries us → AtOne (place c) us → AllOne (with_terms us (groups k.owners ts m (c + 1)))
-        with_one [] i o = groups-one ts m (c + 1) h
-        with_one (u ∷ us) i o = ((i, (place c, o)), groups-one ts m (c + 1) h)
+        with_one : (us : Terms) → AreEntries us → AtOne (place c) us → AllOne (groups k.owners ts m (c + 1)) → AllOne (with_terms us (groups k.owners ts m (c + 1)))
+        with_one [] i o r = r
+        with_one (u ∷ us) i o r = ((i, (place c, o)), r)
 
     owners-in : (ts : Terms) → AreOwned k ts → OwnersIn k.owners (length k.components) ts
     owners-in [] h = tt
@@ -314,5 +313,5 @@ module _ (s : Situation) where
     says e owned entries =
         let n = length k.components in
         let sum = groups-sum k.owners e.places n 0 ∙ terms-total k.owners n e.places (owners-in e.places owned) in
-        formula-truth k e (groups-one e.places n 0 entries)
-        ∙ ap is_zero (omega (arith, ints, sum))
+        let same : (e.constant +ℤ sum_of_groups (groups_of k e)) +ℤ entries_value s.numbers e.numbers ≡ worth e s = omega (arith, ints, sum) in
+        formula-truth k e (groups-one e.places n 0 entries) ∙ ap is_zero same

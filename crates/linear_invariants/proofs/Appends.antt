@@ -27,7 +27,9 @@ modes-split n locations ms ns = split ms ∙ sym (modes-append n locations ms []
 
 -- one more row behind the others
 pub row-next : (out whole : List Entries) (r : Entries) (rest : List Entries) → out ++ with_row r rest ≡ whole → (out ++ with_row r []) ++ rest ≡ whole
-row-next out whole r rest h = append_assoc ∙ ap (λ rows. out ++ rows) (row-append r [] rest) ∙ h
+row-next out whole r rest h =
+    let e : (out ++ with_row r []) ++ rest ≡ out ++ (with_row r [] ++ rest) = rw append_assoc refl in
+    e ∙ ap (λ rows. out ++ rows) (row-append r [] rest) ∙ h
 
 pub variables-next : (make : ℕ → Entries) (n u : ℕ) (out whole : List Entries) → u < n → out ++ variable_rows make (n - u) u [] ≡ whole → (out ++ with_row (make u) []) ++ variable_rows make (n - (u + 1)) (u + 1) [] ≡ whole
 variables-next make n u out whole l h =
@@ -39,6 +41,14 @@ variables-end make n u out whole l h =
     let e : n - u ≡ 0 = omega arith in
     sym (append-nil out) ∙ ap (λ k. out ++ variable_rows make k u []) (sym e) ∙ h
 
--- a mode's rows are those of its variables and the one of its constant
-pub mode-whole : (n locations : ℕ) (m : PlainMode) (old : List Entries) → (old ++ variable_rows (variable_row m.change) n 0 []) ++ with_row (constant_row n locations m.change) [] ≡ old ++ mode_rows n locations (m ∷ []) []
-mode-whole n locations m old = append_assoc ∙ ap (λ rows. old ++ rows) (variables-append (variable_row m.change) n 0 [] (with_row (constant_row n locations m.change) []))
+-- the rows of variables and the one of the constant
+pub both-whole : (make : ℕ → Entries) (n : ℕ) (r : Entries) (old : List Entries) → (old ++ variable_rows make n 0 []) ++ with_row r [] ≡ old ++ variable_rows make n 0 (with_row r [])
+both-whole make n r old =
+    let e : (old ++ variable_rows make n 0 []) ++ with_row r [] ≡ old ++ (variable_rows make n 0 [] ++ with_row r []) = rw append_assoc refl in
+    e ∙ ap (λ rows. old ++ rows) (variables-append make n 0 [] (with_row r []))
+
+-- the rows of more modes behind others
+pub modes-more : (n locations : ℕ) (ms ns : List PlainMode) (out whole : List Entries) → out ++ mode_rows n locations (ms ++ ns) [] ≡ whole → (out ++ mode_rows n locations ms []) ++ mode_rows n locations ns [] ≡ whole
+modes-more n locations ms ns out whole h =
+    let e : (out ++ mode_rows n locations ms []) ++ mode_rows n locations ns [] ≡ out ++ (mode_rows n locations ms [] ++ mode_rows n locations ns []) = rw append_assoc refl in
+    e ∙ ap (λ rows. out ++ rows) (sym (modes-split n locations ms ns)) ∙ h

@@ -34,11 +34,15 @@ small-append es fs h k = are_within-append (2 ^ 100) es fs ∙ and_true (are_sma
 
 less_one : (z : ℤ) → unsigned_abs (z +ℤ neg_ℤ (pos 1)) ≤ suc (unsigned_abs z)
 less_one (pos zero) = omega arith
-less_one (pos (suc n)) = let e : pos (suc n) +ℤ neg_ℤ (pos 1) ≡ pos n = omega (arith, ints) in rw e (omega arith)
-less_one (negsuc n) = let e : negsuc n +ℤ neg_ℤ (pos 1) ≡ negsuc (suc n) = omega (arith, ints) in rw e (omega arith)
+less_one (pos (suc n)) =
+    let e : pos n ≡ pos (suc n) +ℤ neg_ℤ (pos 1) = omega (arith, ints) in
+    subst (λ z. unsigned_abs z ≤ suc (suc n)) e (omega arith)
+less_one (negsuc n) =
+    let e : negsuc (suc n) ≡ negsuc n +ℤ neg_ℤ (pos 1) = omega (arith, ints) in
+    subst (λ z. unsigned_abs z ≤ suc (suc n)) e (omega arith)
 
 less_none : (z : ℤ) → unsigned_abs (z +ℤ neg_ℤ (pos 0)) ≤ suc (unsigned_abs z)
-less_none z = let e : z +ℤ neg_ℤ (pos 0) ≡ z = omega (arith, ints) in rw e (omega arith)
+less_none z = let e : z ≡ z +ℤ neg_ℤ (pos 0) = omega (arith, ints) in subst (λ y. unsigned_abs y ≤ suc (unsigned_abs z)) e (omega arith)
 
 -- numbers of forms
 part-within : (truths : List Bool) (bound u : ℕ) (es : Entries) → 0 < bound → EntriesWithin truths bound es → unsigned_abs (part u es) < bound

@@ -20,14 +20,10 @@ use std::alloc::Global;
 use transition_system::{Mode, Transition};
 
 /// Appends an entry, unless it is 0.
-pub(crate) fn push_term(
-    out: &mut Entries,
-    column: u32,
-    coefficient: i128,
-) -> Result<(), Memory>
-    ensures { OnOk result (out.new.items ≡ out.old.items ++ with_entry column coefficient []) }
+pub(crate) fn push_term(out: &mut Entries, column: u32, coefficient: &i128) -> Result<(), Memory>
+    ensures { OnOk result (out.new.items ≡ out.old.items ++ with_entry column coefficient.now []) }
 {
-    match push_entry(out, column, coefficient) {
+    match push_entry(out, column, *coefficient) {
         Ok(()) => Ok(()),
         Err(_) => Err(Memory),
     }
@@ -83,7 +79,7 @@ fn changed_entries(
 {
     let mut out = SmallVec::new(alloc);
     for pair in numbers {
-        push_term(&mut out, pair.0, gain(of, pair.0, &pair.1))?;
+        push_term(&mut out, pair.0, &gain(of, pair.0, &pair.1))?;
     }
     Ok(out)
 }
@@ -118,7 +114,11 @@ pub(crate) fn push_places(
     ensures { OnOk result (out.new.items ≡ out.old.items ++ over_places variables (passage_by enters.now leaves.now) locations 0) }
 {
     for location in 0..locations {
-        push_term(out, variables + location, passage(enters, leaves, location))?;
+        push_term(
+            out,
+            variables + location,
+            &passage(enters, leaves, location),
+        )?;
     }
     Ok(())
 }
@@ -134,7 +134,13 @@ fn constant_entries(
     ensures { IfOk result (λ v. v.items ≡ constant_row variables locations (plain_change change.now)) }
 {
     let mut out = changed_entries(alloc, &change.numbers, None)?;
-    push_places(&mut out, variables, locations, &change.enters, &change.leaves)?;
+    push_places(
+        &mut out,
+        variables,
+        locations,
+        &change.enters,
+        &change.leaves,
+    )?;
     Ok(out)
 }
 

@@ -56,7 +56,8 @@ pub(crate) fn push_parts(alloc: Global, form: &Form, out: &mut Start) -> Result<
             Ok(())
         }
         Form::And(fs) => push_all_parts(alloc, fs, out),
-        Form::True | Form::False | Form::Row(_) | Form::BoolVar(_) | Form::Not(_) | Form::Or(_) => Ok(()),
+        Form::True | Form::False | Form::Row(_) | Form::BoolVar(_) | Form::Not(_) | Form::Or(_) =>
+            Ok(()),
     }
 }
 
@@ -91,7 +92,7 @@ fn push_factors(
 {
     let mut at = column;
     for form in forms {
-        push_term(out, at, denied(of, form))?;
+        push_term(out, at, &denied(of, form))?;
         at += 1;
     }
     Ok(())

@@ -81,7 +81,7 @@ over_changed-total g x (p ∷ ps) m (suc n) k e r w =
       | inl same ↦
           let t : (p.0 == k) ≡ true = grind (arith, nat_tests) in
           let rest = total-same (λ v. of_form (g v) (form_for v (p ∷ ps)) *ℤ x v) (λ v. of_form (g v) (form_for v ps) *ℤ x v) n (k + 1)
-              (λ c i j. let f : (p.0 == c) ≡ false = grind (arith, nat_tests) in rw f refl) in
+          (λ c i j. let f : (p.0 == c) ≡ false = grind (arith, nat_tests) in rw f refl) in
           let next : RisesFrom (k + 1) ps = subst (λ (j : ℕ). RisesFrom j ps) (omega arith) r.1 in
           rw t
           (ap (λ z. g k p.1 *ℤ x k +ℤ z) (rest ∙ over_changed-total g x ps m n (k + 1) (omega arith) next w.3)

@@ -85,9 +85,9 @@ by_place n locations e es P f g h =
     elim (cases_lt e.0 n) [
       | inl less ↦ subst P (sym ((stands n locations e es).before less)) (f less)
       | inr more ↦ elim (cases_lt e.0 (n + locations)) [
-          | inl less ↦ subst P (sym ((stands n locations e es).among (omega arith) less)) (g (omega arith) less)
-          | inr last ↦ subst P (sym ((stands n locations e es).behind (omega arith))) (h (omega arith))
-        ]
+        | inl less ↦ subst P (sym ((stands n locations e es).among (omega arith) less)) (g (omega arith) less)
+        | inr last ↦ subst P (sym ((stands n locations e es).behind (omega arith))) (h (omega arith))
+      ]
     ]
 
 between-above : (n locations v : ℕ) (es : Entries) → n ≤ v → AllAbove v es → AllAbove (v - n) (entries_between n locations es)
@@ -123,26 +123,26 @@ coefficient-part n locations c es h l =
     elim (cases_lt c n) [
       | inl less ↦ let t : nat_lt c n ≡ true = grind (arith, nat_tests) in rw t (part-below n c es h less)
       | inr more ↦ elim (cases_lt c (n + locations)) [
-          | inl less ↦
-              let t : nat_lt c n ≡ false = grind (arith, nat_tests) in
-              let s : nat_lt c (n + locations) ≡ true = grind (arith, nat_tests) in
-              let e : n + (c - n) ≡ c = omega arith in
-              rw (t, s) (part-between n locations (c - n) es h (omega arith) ∙ ap (λ k. part k es) e)
-          | inr last ↦
-              let t : nat_lt c n ≡ false = grind (arith, nat_tests) in
-              let s : nat_lt c (n + locations) ≡ false = grind (arith, nat_tests) in
-              let e : n + locations ≡ c = omega arith in
-              rw (t, s) (ap (λ k. part k es) e)
-        ]
+        | inl less ↦
+            let t : nat_lt c n ≡ false = grind (arith, nat_tests) in
+            let s : nat_lt c (n + locations) ≡ true = grind (arith, nat_tests) in
+            let e : n + (c - n) ≡ c = omega arith in
+            rw (t, s) (part-between n locations (c - n) es h (omega arith) ∙ ap (λ k. part k es) e)
+        | inr last ↦
+            let t : nat_lt c n ≡ false = grind (arith, nat_tests) in
+            let s : nat_lt c (n + locations) ≡ false = grind (arith, nat_tests) in
+            let e : n + locations ≡ c = omega arith in
+            rw (t, s) (ap (λ k. part k es) e)
+      ]
     ]
 
 pub worth-value : (n locations : ℕ) (es : Entries) (s : Situation) → AreEntries es → worth (equation_of n locations es) s ≡ equation_value n locations (at_columns es) s
 worth-value n locations es s h =
     let a = sym (parts-total s.numbers n (entries_below n es) (below-entries n es h) (below-below n es))
-        ∙ total-same (λ u. part u (entries_below n es) *ℤ s.numbers u) (λ u. part u es *ℤ s.numbers u) n 0 (λ c i j. ap (λ z. z *ℤ s.numbers c) (part-below n c es h (omega arith))) in
+    ∙ total-same (λ u. part u (entries_below n es) *ℤ s.numbers u) (λ u. part u es *ℤ s.numbers u) n 0 (λ c i j. ap (λ z. z *ℤ s.numbers c) (part-below n c es h (omega arith))) in
     let y : Vector = λ l. presence (s.located l) in
     let b = sym (parts-total y locations (entries_between n locations es) (between-entries n locations es h) (between-below n locations es))
-        ∙ total-same (λ l. part l (entries_between n locations es) *ℤ y l) (λ l. part (n + l) es *ℤ y l) locations 0 (λ c i j. ap (λ z. z *ℤ y c) (part-between n locations c es h (omega arith))) in
+    ∙ total-same (λ l. part l (entries_between n locations es) *ℤ y l) (λ l. part (n + l) es *ℤ y l) locations 0 (λ c i j. ap (λ z. z *ℤ y c) (part-between n locations c es h (omega arith))) in
     omega (arith, ints, a, b)
 
 -- factors of the vectors that are found, and what the others come to

@@ -87,7 +87,7 @@ combines-start : (n locations : ℕ) (firsts : List ℕ) (forms : List Linear) (
 combines-start n locations firsts forms y factors w f h =
     let k : ℕ = n + locations + 1 in
     let z = is_zero-from (λ u. entries_value y (first_variable_row k forms u)) (entries_value y (first_constant_row n locations firsts forms)) n
-        (λ store. (let a = first-rows n locations firsts forms y store factors w f in let b = h store in omega (arith, ints, a, b))) in
+    (λ store. (let a = first-rows n locations firsts forms y store factors w f in let b = h store in omega (arith, ints, a, b))) in
     to_rows (first_variable_row k forms) n 0 (with_row (first_constant_row n locations firsts forms) []) y (λ u i j. z.coefficients u (omega arith))
     (to_row y (first_constant_row n locations firsts forms) [] z.constant tt)
 

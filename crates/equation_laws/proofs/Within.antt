@@ -170,8 +170,7 @@ pub constant_row-is : (n locations width : ℕ) (change : Exchange) → n + loca
 constant_row-is n locations width change l w r =
     let es : Entries = over_changed (λ v f. f.constant) change.numbers in
     let fs : Entries = over_places n (passage change) locations 0 in
-    let b : AllBelow n es = changed-below (λ v f. f.constant) n change.numbers w in
-    (
+    let b : AllBelow n es = changed-below (λ v f. f.constant) n change.numbers w in (
       entries-append n es fs (changed-entries (λ v f. f.constant) 0 change.numbers r) b (places-entries n (passage change) locations 0) (λ v k. places-above n (passage change) v locations 0 (omega arith)),
       below-append width es fs (below_weaker n width es (omega arith) b) (places-below n (passage change) locations 0 width (omega arith)),
     )
@@ -189,11 +188,10 @@ pub first_constant_row-is : (n locations width : ℕ) (firsts : List ℕ) (forms
 first_constant_row-is n locations width firsts forms h =
     let k : ℕ = n + locations + 1 in
     let es = over_places n (λ l. presence (is_listed l firsts)) locations 0 in
-    let fs : Entries = (n + locations, pos 1) ∷ over_forms (λ f. f.constant) k forms in
-    (
+    let fs : Entries = (n + locations, pos 1) ∷ over_forms (λ f. f.constant) k forms in (
       entries-append (n + locations) es fs (places-entries n _ locations 0) (places-below n _ locations 0 (n + locations) (omega arith))
-      (forms-above (λ f. f.constant) (n + locations) k forms (omega arith), one-not_zero, forms-entries (λ f. f.constant) k forms)
-      (λ v l. (l, forms-above (λ f. f.constant) v k forms (omega arith))),
+          (forms-above (λ f. f.constant) (n + locations) k forms (omega arith), one-not_zero, forms-entries (λ f. f.constant) k forms)
+          (λ v l. (l, forms-above (λ f. f.constant) v k forms (omega arith))),
       below-append width es fs (places-below n _ locations 0 width (omega arith)) (omega arith, forms-below (λ f. f.constant) k width forms h),
     )
 

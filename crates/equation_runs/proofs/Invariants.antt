@@ -69,7 +69,7 @@ module _ (vs : List Variable) (initial : Formula) (p : Processes) (locations : �
   all-invariant [] h k = tt
   all-invariant (b ∷ bs) h k = (
     formula-holds p initial well (equation_of (variables_of system) locations b) (one-owned b) (between-entries (variables_of system) locations b h.0)
-    (λ o run j. worth-value (variables_of system) locations b (state_at o j) h.0 ∙ holds-along vs initial p locations well typed both (at_columns b) k.0 o run j),
+        (λ o run j. worth-value (variables_of system) locations b (state_at o j) h.0 ∙ holds-along vs initial p locations well typed both (at_columns b) k.0 o run j),
     all-invariant bs h.1 k.1,
   )
 

@@ -44,11 +44,11 @@ value-behind : (n locations : ℕ) (x : Vector) (change : Exchange) (s t : Situa
 value-behind n locations x change s t h k =
     let d : ℕ → ℤ = λ v. changed s.numbers change.numbers v +ℤ neg_ℤ (s.numbers v) in
     let a = total-same (λ v. x v *ℤ t.numbers v) (λ v. x v *ℤ s.numbers v +ℤ x v *ℤ d v) n 0
-        (λ v i j. ap (λ z. x v *ℤ z) (h v ∙ split (changed s.numbers change.numbers v) (s.numbers v)) ∙ *ℤ-+ℤ (s.numbers v) (d v) (x v))
-        ∙ total-sum (λ v. x v *ℤ s.numbers v) (λ v. x v *ℤ d v) n 0 in
+    (λ v i j. ap (λ z. x v *ℤ z) (h v ∙ split (changed s.numbers change.numbers v) (s.numbers v)) ∙ *ℤ-+ℤ (s.numbers v) (d v) (x v))
+    ∙ total-sum (λ v. x v *ℤ s.numbers v) (λ v. x v *ℤ d v) n 0 in
     let b = total-same (λ l. x (n + l) *ℤ presence (t.located l)) (λ l. x (n + l) *ℤ presence (s.located l) +ℤ x (n + l) *ℤ passage change l) locations 0
-        (λ l i j. ap (λ z. x (n + l) *ℤ z) (k l) ∙ *ℤ-+ℤ (presence (s.located l)) (passage change l) (x (n + l)))
-        ∙ total-sum (λ l. x (n + l) *ℤ presence (s.located l)) (λ l. x (n + l) *ℤ passage change l) locations 0 in
+    (λ l i j. ap (λ z. x (n + l) *ℤ z) (k l) ∙ *ℤ-+ℤ (presence (s.located l)) (passage change l) (x (n + l)))
+    ∙ total-sum (λ l. x (n + l) *ℤ presence (s.located l)) (λ l. x (n + l) *ℤ passage change l) locations 0 in
     omega (arith, ints, a, b)
   where
     split : (a b : ℤ) → a ≡ b +ℤ (a +ℤ neg_ℤ b)
@@ -195,15 +195,15 @@ module _ (vs : List Variable) (initial : Formula) (p : Processes) (locations : �
       let z = y.0 in
       let d = (paired vs (action z.stmt) (occurrence z.stmt) (location z.stmt) z.next (typed z y.1)).mode_of m.move y.2 in
       let is_mode : Member d.mode (modes_of system) =
-          in-modes d.transition d.mode system.transitions (there (in-transitions z d.transition (all_spots p) y.1 d.is_in)) (at_member d.mode d.transition.modes d.place d.placed) in
+      in-modes d.transition d.mode system.transitions (there (in-transitions z d.transition (all_spots p) y.1 d.is_in)) (at_member d.mode d.transition.modes d.place d.placed) in
       let kept = kept-mode n locations x (modes_of system) d.mode is_mode inductive.kept s.store.numbers in
       let before = sym (fronts_front p layout ends s.left p 0 good) ∙ m.before_is in
       let after = sym (fronts_front p layout ends a.0.left p 0 land.fits) ∙ m.after_is in
       let once = subst NoDup (fronts_front p layout ends s.left p 0 good) (no_dups p layout ends s.left p 0 0 (λ y m. m) ends.spans_outer good) in
       let once_after = subst NoDup (fronts_front p layout ends a.0.left p 0 land.fits) (no_dups p layout ends a.0.left p 0 0 (λ y m. m) ends.spans_outer land.fits) in
       let behind = value-behind n locations x d.mode.change (image p s) (image p (behind_act a.0))
-          (λ v. ap (λ z. z.numbers v) m.store_is ∙ sym (d.matches.numbers_is s.store m.allowed v))
-          (λ k. presence-moved k d.mode.change m.left m.move.from m.move.to m.right (control p s) (control p (behind_act a.0)) d.matches.leaves_is d.matches.enters_is before after once once_after) in
+      (λ v. ap (λ z. z.numbers v) m.store_is ∙ sym (d.matches.numbers_is s.store m.allowed v))
+      (λ k. presence-moved k d.mode.change m.left m.move.from m.move.to m.right (control p s) (control p (behind_act a.0)) d.matches.leaves_is d.matches.enters_is before after once once_after) in
       ap (λ s. worth_at (image p s)) a.4 ∙ omega (arith, ints, behind, kept)
 
   run-keeps : (s : State) (later : List (TransName × State)) (k : ℕ) → Reached p initial s → Follows p s later
@@ -223,9 +223,9 @@ module _ (vs : List Variable) (initial : Formula) (p : Processes) (locations : �
       let b = inductive.starts in
       let zeros = zero-take s.store.numbers 256 (equations system.initial) (equations-zero (image p s) system.initial (both.begins s f)) in
       let same = total-same (λ l. x (n + l) *ℤ presence ((image p s).located l)) (λ l. x (n + l) *ℤ presence (is_listed l (start_places system))) locations 0
-          (λ l i j. ap (λ b. x (n + l) *ℤ presence b) (first-located s f l)) in
+      (λ l i j. ap (λ b. x (n + l) *ℤ presence b) (first-located s f l)) in
       let e = zero_product (first_value n locations (start_places system) x s.store.numbers) (pos b.times) (pos_nonzero b.times b.positive)
-          (b.combines s.store.numbers ∙ combination-zero b.factors 0 (start_forms system) s.store.numbers zeros) in
+      (b.combines s.store.numbers ∙ combination-zero b.factors 0 (start_forms system) s.store.numbers zeros) in
       omega (arith, ints, same, e)
 
   pub holds-along : (o : Observation Situation) → IsRunOf p initial o → (k : ℕ) → worth_at (state_at o k) ≡ pos 0

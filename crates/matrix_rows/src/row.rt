@@ -63,13 +63,7 @@ fn primitive(alloc: Global, form: Lin) -> Result<Lin, Memory>
 }
 
 /// A row's form, freed from a column in which it has the entry and another row the pivot.
-fn freed(
-    alloc: Global,
-    entry: &i128,
-    form: &Lin,
-    pivot: &i128,
-    by: &Lin,
-) -> Result<Lin, LinFault>
+fn freed(alloc: Global, entry: &i128, form: &Lin, pivot: &i128, by: &Lin) -> Result<Lin, LinFault>
     requires entry { IsTrue (is_within (2 ^ 100) entry.now) }
     requires form { form.now.constant ≡ pos 0 }
     requires by { by.now.constant ≡ pos 0 }

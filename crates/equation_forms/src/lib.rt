@@ -1,0 +1,4 @@
+//! Linear equations between variables and locations as formulas.
+#![tactic(auto)]
+
+pub mod laws;

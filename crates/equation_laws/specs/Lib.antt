@@ -1,0 +1,4 @@
+pub mod Sums
+pub mod Space
+pub mod Rows
+pub mod Equations

@@ -1,0 +1,4 @@
+pub mod Appends
+pub mod Kept
+pub mod Loops
+pub mod Whole

@@ -1,0 +1,5 @@
+pub mod Rows
+pub mod Shown
+pub mod Greatest
+pub mod Paying
+pub mod Judging

@@ -1,0 +1,5 @@
+pub mod Ordered
+pub mod Outcomes
+pub mod Narrow
+pub mod Courses
+pub mod StatementNames

@@ -1,0 +1,16 @@
+//! One given run of a program: a schedule played by the program's steps, and the run judged.
+#![tactic(auto)]
+
+mod beginning;
+mod counting;
+mod enabling;
+mod faults;
+mod naming;
+mod playing;
+mod runs;
+mod values;
+
+pub use counting::rounds;
+pub use faults::PlayFault;
+pub use playing::play;
+pub use runs::Played;

@@ -19,6 +19,7 @@ mod surgery;
 mod walks;
 
 pub use acts::Move;
+pub use evaluation::value_of;
 pub use faults::MoveFault;
 pub use fitting::store_fits;
 pub use playing::moves;

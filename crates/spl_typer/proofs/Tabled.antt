@@ -1,6 +1,7 @@
 -- The table of a typed program: its names stand for the program's variables, by their types, and for its locations.
 use Rattle.std.proofs.Common.{◌≡◌, ℕ, zero, suc, ◌<◌, ◌≤◌, Bool, true, false, cond, nat_lt, List, [], ◌∷◌, ◌++◌, map, length, slice_get, append-nil, refl, ap, sym, ◌∙◌, subst, Option, Some, None, Ok, Err}
 use Rattle.std.specs.Prelude.{position}
+use Rattle.std.proofs.lemmas.List.{length-map}
 use Rattle.std.specs.Option.{option_map}
 use Rattle.std.specs.Str.{bytes_eq}
 use Rattle.st_tokens.specs.declared.limit.LimitKind.TheVariants as limits
@@ -192,3 +193,9 @@ fitted_over t f =
 -- the names of a typed program stand for its variables and its locations
 pub names_stand : (p : raw.Program) (t : Typed) → typing p ≡ Ok t → NamesOver t.variables t.locations (naming.names_of t.names)
 names_stand p t e = fitted_over t (subst (Holds Fitted) e (typing_fitted p))
+
+-- it has a name for each variable
+pub as_many : (p : raw.Program) (t : Typed) → typing p ≡ Ok t → length t.names.variables ≡ length t.variables
+as_many p t e =
+    let fitted : Fitted t = subst (Holds Fitted) e (typing_fitted p) in
+    sym (length-map t.names.variables (λ x. x.1)) ∙ ap length fitted.0 ∙ length-map t.variables (λ v. v.truth)

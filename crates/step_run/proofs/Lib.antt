@@ -6,7 +6,6 @@ pub mod Posing
 pub mod Readied
 pub mod Sources
 pub mod Stages
-pub mod Tabled
 pub mod Filed
 pub mod Tops
 pub mod Typed

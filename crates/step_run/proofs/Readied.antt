@@ -2,7 +2,7 @@
 use Rattle.std.proofs.Common.{◌≡◌, ◌≤◌, sym, length}
 use Rattle.spl_typer.specs.Programs.{Typed}
 use Rattle.step_run.specs.Source.{IsSpelled}
-use Rattle.step_run.proofs.Tabled.{as_many}
+use Rattle.spl_typer.proofs.Tabled.{as_many}
 use Rattle.step_run.proofs.Typed.{from_text, well_typed}
 
 pub all_named : (p : Typed) → IsSpelled p → length p.variables ≡ length p.names.variables

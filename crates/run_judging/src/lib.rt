@@ -10,8 +10,10 @@ mod ahead;
 mod counting;
 mod course;
 mod demands;
+mod judged;
 mod judging;
 
 pub use counting::rounds;
 pub use course::Course;
+pub use judged::Judged;
 pub use judging::{invariance_failure, response_failure, waiting_failure};

@@ -17,6 +17,7 @@ pub fn length_limit(role: FileRole) -> u64
         FileRole::Program => 4_194_304,
         FileRole::Proof => 4_194_304,
         FileRole::Certificates => 268_435_456,
+        FileRole::Schedule => 4_194_304,
     }
 }
 
@@ -28,6 +29,7 @@ pub fn length_kind(role: FileRole) -> LimitKind
         FileRole::Program => LimitKind::Text,
         FileRole::Proof => LimitKind::Text,
         FileRole::Certificates => LimitKind::Certificates,
+        FileRole::Schedule => LimitKind::Text,
     }
 }
 

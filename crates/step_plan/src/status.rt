@@ -15,6 +15,13 @@ pub enum Status {
     WriteFault,
     Limit,
     Memory,
+    ScheduleRefused,
+    /// The schedule is none of a run of the program.
+    Illegal,
+    /// A number on a run is too large.
+    ValueLimit,
+    /// A number is too large while invariants are looked for.
+    InvariantsWide,
 }
 
 impl Status {
@@ -33,6 +40,10 @@ impl Status {
             Status::WriteFault => 7,
             Status::Limit => 8,
             Status::Memory => 9,
+            Status::ScheduleRefused => 10,
+            Status::Illegal => 11,
+            Status::ValueLimit => 12,
+            Status::InvariantsWide => 13,
         }
     }
 }

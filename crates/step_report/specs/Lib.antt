@@ -4,3 +4,4 @@ pub mod Refused
 pub mod Conditions
 pub mod Searches
 pub mod Goals
+pub mod Traces

@@ -7,7 +7,7 @@ use Rattle.step_report.specs.Names.{line}
 use Rattle.step_report.specs.declared.refusals.FaultKind.{FaultKind}
 use Rattle.step_report.specs.declared.refusals.FaultKind.TheVariants as kinds
 use Rattle.step_report.specs.declared.refusals.FileRole.{FileRole}
-use Rattle.step_report.specs.declared.refusals.FileRole.TheVariants.{Program, Proof, Certificates}
+use Rattle.step_report.specs.declared.refusals.FileRole.TheVariants.{Program, Proof, Certificates, Schedule}
 use Rattle.step_report.specs.declared.usage.Command.{Command}
 use Rattle.step_report.specs.declared.usage.Command.TheVariants.{Check, Verify, Prove, Workload, Trace, Invariants}
 
@@ -32,6 +32,7 @@ abbrev pub role_text : FileRole → List ℕ
 role_text Program = codes "program"
 role_text Proof = codes "proof"
 role_text Certificates = codes "certificates"
+role_text Schedule = codes "schedule"
 
 abbrev pub read_fault_text : FileRole → List ℕ
 read_fault_text role = line (codes "read fault: " ++ role_text role)
@@ -58,8 +59,9 @@ kind_text kinds.NoTerminal = codes "NoTerminal"
 kind_text kinds.UnfairHelper = codes "UnfairHelper"
 kind_text kinds.NotCompassionate = codes "NotCompassionate"
 kind_text kinds.NoHelper = codes "NoHelper"
+kind_text kinds.Unset = codes "Unset"
 
--- why the text of a program or of a proof is refused, and at which byte from 0 on
+-- why the text of a program, of a proof or of a schedule is refused, and at which byte from 0 on
 abbrev pub refused_text : FileRole → FaultKind → ℕ → List ℕ
 refused_text role kind place = line (role_text role ++ codes " refused: " ++ kind_text kind ++ codes " at " ++ decimal place)
 

@@ -10,7 +10,7 @@ use st_memory::Memory;
 use st_program::NameTable;
 use temporal_goals::{Goal, Step};
 
-fn push_goal(
+pub fn push_goal(
     out: &mut Vec<u8>,
     names: &NameTable,
     variables: u32,

@@ -13,6 +13,7 @@ pub enum FileRole {
     Program,
     Proof,
     Certificates,
+    Schedule,
 }
 
 /// What is wrong at the first place where a text breaks a rule.
@@ -39,6 +40,7 @@ pub enum FaultKind {
     UnfairHelper,
     NotCompassionate,
     NoHelper,
+    Unset,
 }
 
 fn role_text(role: FileRole) -> &'static [u8]
@@ -48,6 +50,7 @@ fn role_text(role: FileRole) -> &'static [u8]
         FileRole::Program => b"program".as_slice(),
         FileRole::Proof => b"proof".as_slice(),
         FileRole::Certificates => b"certificates".as_slice(),
+        FileRole::Schedule => b"schedule".as_slice(),
     }
 }
 
@@ -85,10 +88,11 @@ fn kind_text(kind: FaultKind) -> &'static [u8]
         FaultKind::UnfairHelper => b"UnfairHelper".as_slice(),
         FaultKind::NotCompassionate => b"NotCompassionate".as_slice(),
         FaultKind::NoHelper => b"NoHelper".as_slice(),
+        FaultKind::Unset => b"Unset".as_slice(),
     }
 }
 
-/// Appends the text for a program or a proof that breaks a rule at a place, a byte offset from 0.
+/// Appends the text for a program, a proof or a schedule that breaks a rule at a place, a byte offset from 0.
 pub fn refused(out: &mut Vec<u8>, role: FileRole, kind: FaultKind, place: u64) -> Result<(), Memory>
     ensures { OnOk result (out.new.items ≡ out.old.items ++ refused_text role kind place) }
 {

@@ -1,7 +1,7 @@
 -- The files that a request names. Requests that aren't answered name none: their words are refused.
 use Rattle.std.specs.Prelude.{ℕ, List, ◌≡◌, Option, Some, None}
 use Rattle.step_report.specs.declared.refusals.FileRole.{FileRole}
-use Rattle.step_report.specs.declared.refusals.FileRole.TheVariants.{Program, Proof, Certificates}
+use Rattle.step_report.specs.declared.refusals.FileRole.TheVariants.{Program, Proof, Certificates, Schedule}
 use Rattle.step_words.specs.Request.{PlainRequest, checks, verifies, proves, makes, traces, finds}
 
 -- the file that a request names for a part in the run
@@ -9,12 +9,15 @@ abbrev pub named_file : PlainRequest → FileRole → Option (List ℕ)
 named_file (checks p q c) Program = Some p
 named_file (checks p q c) Proof = Some q
 named_file (checks p q c) Certificates = Some c
+named_file (checks p q c) Schedule = None
 named_file (verifies p q) Program = Some p
 named_file (verifies p q) Proof = Some q
 named_file (verifies p q) Certificates = None
+named_file (verifies p q) Schedule = None
 named_file (proves p q) Program = Some p
 named_file (proves p q) Proof = Some q
 named_file (proves p q) Certificates = None
+named_file (proves p q) Schedule = None
 named_file (makes n) role = None
 named_file (traces p q s) role = None
 named_file (finds p) role = None

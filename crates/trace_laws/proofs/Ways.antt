@@ -3,7 +3,7 @@
 -- The steps of a part of the text are named by statements of this part, and no two of them have one name: children of a
 -- cooperation and branches of a selection have no statement in common, a test has one value, and of a group's paths one
 -- can be walked.
-use Rattle.std.proofs.Common.{◌≡◌, ℕ, suc, ◌+◌, Bool, true, false, List, [], ◌∷◌, ◌++◌, map, length, Some, refl, sym, ap, ◌∙◌, subst}
+use Rattle.std.proofs.Common.{◌≡◌, ℕ, suc, ◌+◌, Bool, true, false, List, [], ◌∷◌, ◌++◌, map, length, Some, None, refl, sym, ap, ◌∙◌, subst}
 use Rattle.std.specs.Prelude.{if◌then◌else◌}
 use Rattle.st_form.specs.Formula.{Formula, row}
 use Rattle.st_form.specs.declared.conditions.Part.{Part}
@@ -135,17 +135,17 @@ module _ (p : Processes) (numbered : IsNumbered p) (store : Store) where
 
   mutual
     -- all steps of what is left of a part of the text
-    separate : (r : Rest) (all own : List Spot) → Region p all own → (e : ℕ) → Fits p r all own e → Separate all (steps r p store)
-    separate Done all own region e f = nothing all
-    separate (Run n) all own region e f =
+    rest_separate : (r : Rest) (all own : List Spot) → Region p all own → (e : ℕ) → Fits p r all own e → Separate all (steps r p store)
+    rest_separate Done all own region e f = nothing all
+    rest_separate (Run n) all own region e f =
         let s = f.0 in let c = f.1 in
         let x = at_spot s e c in
         subst (λ z. Separate all (acts_at z (length (all_spots p)) store)) (sym f.2)
         (widened (spots s e c) all _ (λ y i. region.closed_in x y f.3 i) (first_separate s e c (length (all_spots p) + c) (occurrence s) (own_numbers p numbered x (region.sub x f.3))))
-    separate (Then r b k) all own region e f =
-        subst (λ z. Separate all (joined_acts z b k (steps r p store))) (sym f.2) (around_all all (λ z. join f.0 z b k) (steps r p store) (separate r all own region _ f.5))
-    separate (Again r w) all own region e f = around_all all (back w) (steps r p store) (separate r all own region _ f.9)
-    separate (Inside n rs) all own region e f =
+    rest_separate (Then r b k) all own region e f =
+        subst (λ z. Separate all (joined_acts z b k (steps r p store))) (sym f.2) (around_all all (λ z. join f.0 z b k) (steps r p store) (rest_separate r all own region _ f.5))
+    rest_separate (Again r w) all own region e f = around_all all (back w) (steps r p store) (rest_separate r all own region _ f.9)
+    rest_separate (Inside n rs) all own region e f =
         let o = f.0 in let l = f.1 in let ps = f.2 in let c = f.3 in
         let x = at_spot (stated o l (cooperate ps)) e c in
         let same : n ≡ o = sym (numbered n x f.4) in
@@ -153,23 +153,23 @@ module _ (p : Processes) (numbered : IsNumbered p) (store : Store) where
         let inner = spots_inside ps c in
         widened (inner ++ x ∷ []) all _ (λ y i. either (member_cases inner i) (λ i. region.closed_in x y f.5 (there i)) (λ i. subst (λ z. Member z all) (sym (of_one i)) f.5))
         (both inner (x ∷ []) _ _ (λ y z i j q. parts_apart p numbered o (x ∷ []) inner h z y j i (sym q))
-        (around_all inner (Inside n) (steps_of rs p store) (all_separate rs ps c (suc o) h.1 f.6))
+        (around_all inner (Inside n) (steps_of rs p store) (rests_separate rs ps c (suc o) h.1 f.6))
         (exit_separate (x ∷ []) x n (here refl) same (all_done rs)))
 
-    all_separate : (rs : Rests) (ps : Processes) (c k : ℕ) → HasAt (all_spots p) k (spots_inside ps c) → FitsAll p rs ps c → Separate (spots_inside ps c) (steps_of rs p store)
-    all_separate no_rest ps c k h f = nothing _
-    all_separate (rests r rs) no_process c k h f = absurd f
-    all_separate (rests r rs) (beside (process ss end) ps) c k h f =
+    rests_separate : (rs : Rests) (ps : Processes) (c k : ℕ) → HasAt (all_spots p) k (spots_inside ps c) → FitsAll p rs ps c → Separate (spots_inside ps c) (steps_of rs p store)
+    rests_separate no_rest ps c k h f = nothing _
+    rests_separate (rests r rs) no_process c k h f = absurd f
+    rests_separate (rests r rs) (beside (process ss end) ps) c k h f =
         let xs = spots_along ss end (suc c) in let ys = spots_inside ps (suc c + length (bodies_in ss)) in
         let front = has_front (all_spots p) k xs ys h in
         both xs ys _ _ (parts_apart p numbered k xs ys h)
-        (around_all xs (λ x. rests x rs) (steps r p store) (separate r xs _ (along_region p ss end (suc c) (λ y i. has_member (all_spots p) k xs y front i)) end f.0))
-        (around_all ys (λ xs. rests r xs) (steps_of rs p store) (all_separate rs ps _ _ (has_back (all_spots p) k xs ys h) f.1))
+        (around_all xs (λ x. rests x rs) (steps r p store) (rest_separate r xs _ (along_region p ss end (suc c) (λ y i. has_member (all_spots p) k xs y front i)) end f.0))
+        (around_all ys (λ xs. rests r xs) (steps_of rs p store) (rests_separate rs ps _ _ (has_back (all_spots p) k xs ys h) f.1))
 
 -- the steps of a state of a run
 pub steps_separate : (p : Processes) (initial : Formula) → WellFormed p → (s : State) → Reached p initial s → Separate (all_spots p) (steps_of s.left p s.store)
 steps_separate p initial well s r =
-    all_separate p well.numbered s.store s.left p 0 0 (has_all [] (all_spots p)) (reached_good p (layout_of p well) (ends_of p well) (apart_of p well) initial r)
+    rests_separate p well.numbered s.store s.left p 0 0 (has_all [] (all_spots p)) (reached_good p (layout_of p well) (ends_of p well) (apart_of p well) initial r)
 
 -- two steps of one name
 module _ (p : Processes) (initial : Formula) (well : WellFormed p) (s : State) (r : Reached p initial s) where

@@ -2,14 +2,17 @@ pub mod Checked
 pub mod Conditions
 pub mod Deciding
 pub mod Headline
+pub mod Judged
 pub mod Outcome
 pub mod Plans
 pub mod Posing
 pub mod Ready
 pub mod Refusals
 pub mod Request
+pub mod Scheduled
 pub mod Source
 pub mod StatusZero
 pub mod Taking
+pub mod Traced
 pub mod Verified
 pub mod Views

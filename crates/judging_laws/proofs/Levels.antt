@@ -90,21 +90,24 @@ module _ {S : Type 0} (o : Observation S) (forms : List (S → Bool)) where
       on : (x : ℕ) → k < x → now x ≡ v.level x
       on x later = rw (other-test x k (λ e. omega (arith, e))) refl
 
-  pub levels-found : (n k top : ℕ) → k + n ≡ suc (last o) → top < length forms → has_levels o forms n k top ≡ true → (v : LevelsFrom o forms k) × (v.level k ≤ top)
+  -- levels of the positions from k on, the first of them at most top
+  abbrev Found : ℕ → ℕ → Type 0
+  Found k top = (v : LevelsFrom o forms k) × (v.level k ≤ top)
+
+  found-here : (n k top : ℕ) → top < length forms → ((level : ℕ) → level < length forms → has_levels o forms n (suc k) level ≡ true → Found (suc k) level) → Goes n k top → Found k top
+  found-here n k top less more (inl here) = (ended k (omega arith) (λ _. here), omega arith)
+  found-here n k top less more (inr found) =
+      let low = found.1 in
+      let high = found.2 in
+      let some = level-below forms found.0 (state_at o k) found.3.0 in
+      let rest = more found.0 some found.3.1 in
+      let levels = kept k found.0 low some found.3.0 rest.0 rest.1 in
+      let down = levels.1 in
+      (levels.0, omega arith)
+
+  pub levels-found : (n k top : ℕ) → k + n ≡ suc (last o) → top < length forms → has_levels o forms n k top ≡ true → Found k top
   levels-found zero k top is less h = (ended k (omega arith) (λ within. absurd (omega arith)), omega arith)
-  levels-found (suc n) k top is less h = go ((goes-decides n k top).0 h)
-    where
-      go : Goes n k top → (v : LevelsFrom o forms k) × (v.level k ≤ top)
-      go (inl here) = (ended k (omega arith) (λ _. here), omega arith)
-      go (inr found) = (
-          let low = found.1 in
-          let high = found.2 in
-          let some = level-below forms found.0 (state_at o k) found.3.0 in
-          let rest = levels-found n (suc k) found.0 (omega arith) some found.3.1 in
-          let levels = kept k found.0 low some found.3.0 rest.0 rest.1 in
-          let down = levels.1 in
-          (levels.0, omega arith)
-          )
+  levels-found (suc n) k top is less h = found-here n k top less (λ level some more. levels-found n (suc k) level (omega arith) some more) ((goes-decides n k top).0 h)
 
   -- without formulas no position has a level
   pub no-levels : (n k top : ℕ) → 0 < n → length forms ≤ 0 → has_levels o forms n k top ≡ true → ⊥
@@ -114,25 +117,28 @@ module _ {S : Type 0} (o : Observation S) (forms : List (S → Bool)) where
     | inr found ↦ (let low = level-below forms found.0 (state_at o k) found.3.0 in omega arith)
   ]
 
+  -- levels from the next position on, where there is one
+  behind : (k : ℕ) → k < last o → (v : LevelsFrom o forms k) → 0 < v.level k → LevelsFrom o forms (suc k)
+  behind k below v up = record {
+    level = v.level;
+    first = (let fall = v.falls k (omega arith) below in let first = v.first in omega arith);
+    falls = λ x from less. v.falls x (omega arith) less;
+    above = λ x from within more. v.above x (omega arith) within more;
+    begin = λ x from within none before. v.begin x (omega arith) within none (λ y low high. elim (cases_lt k y) [
+      | inl further ↦ before y (omega arith) high
+      | inr same ↦ (let e : k ≡ y = omega arith in subst (λ z. 0 < v.level z) e up)
+    ]);
+  }
+
+  tested-here : (n k top : ℕ) → k ≤ last o → (v : LevelsFrom o forms k) → v.level k ≤ top → (0 < v.level k → has_levels o forms n (suc k) (v.level k) ≡ true) → Goes n k top
+  tested-here n k top within v down more = elim (cases_lt 0 (v.level k)) [
+    | inl up ↦ inr (v.level k, up, omega arith, (v.above k (omega arith) within up, more up))
+    | inr none ↦ inl (v.begin k (omega arith) within (omega arith) (λ x from below. absurd (omega arith)))
+  ]
+
   pub levels-tested : (n k top : ℕ) → k + n ≡ suc (last o) → (v : LevelsFrom o forms k) → v.level k ≤ top → has_levels o forms n k top ≡ true
   levels-tested zero k top is v down = none-left k top
-  levels-tested (suc n) k top is v down = (goes-decides n k top).1 (elim (cases_lt 0 (v.level k)) [
-    | inl more ↦ inr (v.level k, more, omega arith, (v.above k (omega arith) (omega arith) more, rest more n is))
-    | inr none ↦ inl (v.begin k (omega arith) (omega arith) (omega arith) (λ x from below. absurd (omega arith)))
-  ])
-    where
-      rest : 0 < v.level k → (m : ℕ) → k + suc m ≡ suc (last o) → has_levels o forms m (suc k) (v.level k) ≡ true
-      rest up zero size = none-left (suc k) (v.level k)
-      rest up (suc m) size = levels-tested (suc m) (suc k) (v.level k) (omega arith) behind (v.falls k (omega arith) (omega arith))
-        where
-          behind : LevelsFrom o forms (suc k)
-          behind = record {
-            level = v.level;
-            first = (let fall = v.falls k (omega arith) (omega arith) in let top' = v.first in omega arith);
-            falls = λ x from below. v.falls x (omega arith) below;
-            above = λ x from within more. v.above x (omega arith) within more;
-            begin = λ x from within none before. v.begin x (omega arith) within none (λ y low high. elim (cases_lt k y) [
-              | inl further ↦ before y (omega arith) high
-              | inr same ↦ (let e : k ≡ y = omega arith in subst (λ z. 0 < v.level z) e up)
-            ]);
-          }
+  levels-tested (suc zero) k top is v down = (goes-decides 0 k top).1 (tested-here 0 k top (omega arith) v down (λ up. none-left (suc k) (v.level k)))
+  levels-tested (suc (suc n)) k top is v down =
+      (goes-decides (suc n) k top).1 (tested-here (suc n) k top (omega arith) v down (λ up.
+        levels-tested (suc n) (suc k) (v.level k) (omega arith) (behind k (omega arith) v up) (v.falls k (omega arith) (omega arith))))

@@ -1,3 +1,5 @@
 pub mod Seen
 pub mod Playing
 pub mod Courses
+pub mod Judgements
+pub mod Columns

@@ -95,6 +95,7 @@ module _ {S : Type 0} (o : Observation S) (forms : List (S → Bool)) where
   Found k top = (v : LevelsFrom o forms k) × (v.level k ≤ top)
 
   found-here : (n k top : ℕ) → top < length forms → ((level : ℕ) → level < length forms → has_levels o forms n (suc k) level ≡ true → Found (suc k) level) → Goes n k top → Found k top
+  unfolding ended
   found-here n k top less more (inl here) = (ended k (omega arith) (λ _. here), omega arith)
   found-here n k top less more (inr found) =
       let low = found.1 in
@@ -106,6 +107,7 @@ module _ {S : Type 0} (o : Observation S) (forms : List (S → Bool)) where
       (levels.0, omega arith)
 
   pub levels-found : (n k top : ℕ) → k + n ≡ suc (last o) → top < length forms → has_levels o forms n k top ≡ true → Found k top
+  unfolding ended
   levels-found zero k top is less h = (ended k (omega arith) (λ within. absurd (omega arith)), omega arith)
   levels-found (suc n) k top is less h = found-here n k top less (λ level some more. levels-found n (suc k) level (omega arith) some more) ((goes-decides n k top).0 h)
 
@@ -137,8 +139,9 @@ module _ {S : Type 0} (o : Observation S) (forms : List (S → Bool)) where
   ]
 
   pub levels-tested : (n k top : ℕ) → k + n ≡ suc (last o) → (v : LevelsFrom o forms k) → v.level k ≤ top → has_levels o forms n k top ≡ true
+  unfolding behind
   levels-tested zero k top is v down = none-left k top
   levels-tested (suc zero) k top is v down = (goes-decides 0 k top).1 (tested-here 0 k top (omega arith) v down (λ up. none-left (suc k) (v.level k)))
   levels-tested (suc (suc n)) k top is v down =
       (goes-decides (suc n) k top).1 (tested-here (suc n) k top (omega arith) v down (λ up.
-        levels-tested (suc n) (suc k) (v.level k) (omega arith) (behind k (omega arith) v up) (v.falls k (omega arith) (omega arith))))
+      levels-tested (suc n) (suc k) (v.level k) (omega arith) (behind k (omega arith) v up) (v.falls k (omega arith) (omega arith))))

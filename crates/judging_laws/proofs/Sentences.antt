@@ -55,9 +55,9 @@ module _ {S : Type 0} (p q : S → Bool) (e : S → ℤ) (o : Observation S) (i 
   response-decides =
       Decides-like (responds_from p q e o i)
       (λ (h : HoldsAt p o i → (k : ℕ) → i ≤ k → k < suc (last o) → (l : ℕ) → k ≤ l → l < suc (last o) → Reaches k l) holds k l from within rounds.
-          let up = rounds-up o allowed k l rounds in
-          let inside = rounds-within o allowed k l within rounds in
-          h holds k from (omega arith) l (omega arith) (omega arith) rounds)
+      let up = rounds-up o allowed k l rounds in
+      let inside = rounds-within o allowed k l within rounds in
+      h holds k from (omega arith) l (omega arith) (omega arith) rounds)
       (λ h holds k from below l up inside rounds. h holds k l from (omega arith) rounds)
       (Decides-if (p (state_at o i)) (each_between i (suc (last o)) (λ k. each_between k (suc (last o)) (λ l. if has_rounds o allowed k l then reached l else true))) (λ e. e, λ e. e)
       (each-between (λ k. each_between k (suc (last o)) (λ l. if has_rounds o allowed k l then reached l else true)) (λ k. (l : ℕ) → k ≤ l → l < suc (last o) → Reaches k l) i (suc (last o)) (λ k _ _. ends-decide k)))

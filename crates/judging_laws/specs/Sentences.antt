@@ -26,5 +26,5 @@ unfoldable pub responds_from : {S : Type 0} → (S → Bool) → (S → Bool) �
 responds_from p q e o i =
     if p (state_at o i)
     then each_between i (suc (last o)) (λ k. each_between k (suc (last o)) (λ l.
-        if has_rounds o (at_least_zero (e (state_at o i))) k l then some_between i (suc l) (λ m. q (state_at o m)) else true))
+    if has_rounds o (at_least_zero (e (state_at o i))) k l then some_between i (suc l) (λ m. q (state_at o m)) else true))
     else true

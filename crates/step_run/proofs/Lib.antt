@@ -10,3 +10,5 @@ pub mod Filed
 pub mod Tops
 pub mod Typed
 pub mod Verdicts
+pub mod Judging
+pub mod Runs

@@ -5,6 +5,7 @@ pub mod Headline
 pub mod Judged
 pub mod Outcome
 pub mod Plans
+pub mod Played
 pub mod Posing
 pub mod Ready
 pub mod Refusals

@@ -51,6 +51,10 @@ schedule_refused (faults.UnknownTransition place) = schedule_fault kinds.Unknown
 schedule_refused (faults.Moves place) = moves_limited
 schedule_refused faults.Memory = moves_limited
 
+abbrev pub IsOfText : ScheduleFault → Type 0
+IsOfText faults.Memory = ⊥
+IsOfText _ = Unit {0}
+
 -- the report of a run
 abbrev pub report_of : Scripted → ℕ → Observation Situation → List ℕ
 report_of x moves o = played_text x.program.names x.steps moves (round_counts o) (all_judged o x.steps)
@@ -58,10 +62,16 @@ report_of x moves o = played_text x.program.names x.steps moves (round_counts o)
 abbrev pub no_start : Outcome
 no_start = record { status = Illegal; text = illegal_start_text }
 
+abbrev pub too_large_at : ℕ → Outcome
+too_large_at k = record { status = ValueLimit; text = value_limit_text k }
+
+abbrev pub not_enabled : ℕ → Outcome
+not_enabled k = record { status = Illegal; text = illegal_move_text k }
+
 abbrev pub play_ended : Scripted → PlainSchedule → playing.Outcome → Outcome
 play_ended x s (made later) = record { status = Proved; text = report_of x (length s.moves) (observed_of x.program s later) }
-play_ended x s (too_large k) = record { status = ValueLimit; text = value_limit_text k }
-play_ended x s (illegal k) = record { status = Illegal; text = illegal_move_text k }
+play_ended x s (too_large k) = too_large_at k
+play_ended x s (illegal k) = not_enabled k
 
 -- a schedule, played
 unfoldable pub played : Scripted → PlainSchedule → Outcome

@@ -11,8 +11,11 @@ mod posed;
 mod proving;
 mod refusals;
 mod reports;
+mod scheduling;
+mod scripted;
 mod source;
 mod top;
+mod tracing;
 mod work;
 mod workload;
 

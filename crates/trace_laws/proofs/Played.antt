@@ -1,15 +1,14 @@
 -- A schedule whose moves are all made is a run of these names, and each run is played by its names.
-use Rattle.std.proofs.Common.{◌≡◌, ℕ, suc, Bool, true, false, List, [], ◌∷◌, map, Option, Some, None, refl, sym, ap, ◌∙◌, subst, ◌⊎◌, inl, inr}
+use Rattle.std.proofs.Common.{◌≡◌, ℕ, suc, Bool, true, false, List, [], ◌∷◌, map, Option, Some, None, refl, sym, ap, ◌∙◌, subst}
 use Rattle.std.specs.Prelude.{if◌then◌else◌}
 use Rattle.st_form.specs.Formula.{Formula}
-use Rattle.st_form.specs.declared.conditions.Part.{Part}
 use Rattle.st_form.specs.declared.conditions.TransName.{TransName}
 use Rattle.st_form.specs.declared.conditions.TransName.TheVariants.{Idle, Step}
 use Rattle.st_program.specs.Tree.{Processes}
 use Rattle.st_program.specs.Member.{Member, here, there}
 use Rattle.st_program.specs.Programs.{WellFormed}
 use Rattle.st_program.specs.Residuals.{Rests}
-use Rattle.st_program.specs.Spots.{all_spots, IsNumbered}
+use Rattle.st_program.specs.Spots.{IsNumbered}
 use Rattle.spl_semantics.specs.Limits.{wide_rests}
 use Rattle.spl_semantics.specs.Names.{same_name}
 use Rattle.spl_semantics.specs.Runs.{State, Reached, next, Follows, Leads, LeadsBy}
@@ -19,7 +18,7 @@ use Rattle.spl_semantics.proofs.Members.{member_none}
 use Rattle.spl_semantics.proofs.NameOrder.{same_name_is, name_same}
 use Rattle.trace_player.specs.Playing.{Outcome, made, too_large, illegal, onto, go_on, outcome, step_named, behind_move, states_of}
 use Rattle.trace_laws.specs.Schedules.{IsNarrow, IsRunOfNames}
-use Rattle.trace_laws.proofs.Ways.{Separate, steps_separate}
+use Rattle.trace_laws.proofs.Ways.{steps_separate}
 
 some_is : (s t : State) → Some s ≡ Some t → s ≡ t
 some_is s t e = cc

@@ -16,24 +16,6 @@ use Rattle.trace_laws.specs.Schedules.{IsNarrow}
 use Rattle.trace_laws.specs.Endings.{Reaches, stays, moves, IsWideBehind, IsStuckBehind}
 use Rattle.trace_laws.proofs.Played.{named_found, move_leads, leads_move, narrow_goes}
 
-same_large : (j k : ℕ) → too_large j ≡ too_large k → j ≡ k
-same_large j k e = cc
-
-same_illegal : (j k : ℕ) → illegal j ≡ illegal k → j ≡ k
-same_illegal j k e = cc
-
-large_illegal : {A : Type 0} (j k : ℕ) → too_large j ≡ illegal k → A
-large_illegal j k e = cc
-
-illegal_large : {A : Type 0} (j k : ℕ) → illegal j ≡ too_large k → A
-illegal_large j k e = cc
-
-made_large : {A : Type 0} (later : List (TransName × State)) (k : ℕ) → made later ≡ too_large k → A
-made_large later k e = cc
-
-made_illegal : {A : Type 0} (later : List (TransName × State)) (k : ℕ) → made later ≡ illegal k → A
-made_illegal later k e = cc
-
 none_some : {A : Type 0} (s : State) → None ≡ Some s → A
 none_some s e = cc
 
@@ -60,71 +42,57 @@ wide_later p s t name names k n l w = record { state = w.state; reaches = moves 
 stuck_later : (p : Processes) (s t : State) (name : TransName) (names : List TransName) (k : ℕ) → IsNarrow p s → Leads p s name t → IsStuckBehind p t names k → IsStuckBehind p s (name ∷ names) (suc k)
 stuck_later p s t name names k n l w = record { state = w.state; reaches = moves n l w.reaches; narrow = w.narrow; name = w.name; is_next = w.is_next; off = w.off }
 
-onto_large : (name : TransName) (t : State) (r : Outcome) (j : ℕ) → onto name t r ≡ too_large j → r ≡ too_large j
-onto_large name t (made later) j e = made_large ((name, t) ∷ later) j e
-onto_large name t (too_large k) j e = e
-onto_large name t (illegal k) j e = illegal_large k j e
-
-onto_illegal : (name : TransName) (t : State) (r : Outcome) (j : ℕ) → onto name t r ≡ illegal j → r ≡ illegal j
-onto_illegal name t (made later) j e = made_illegal ((name, t) ∷ later) j e
-onto_illegal name t (too_large k) j e = large_illegal k j e
-onto_illegal name t (illegal k) j e = e
-
 -- position j is k behind the first one
 abbrev Ahead : (ℕ → Type 0) → ℕ → ℕ → Type 0
 Ahead P k j = (i : ℕ) × (j ≡ k + i) × P i
 
 module _ (p : Processes) (numbered : IsNumbered p) where
-  -- an answer at position j says something of how far the moves from the state at position k lead
-  abbrev Stops : (ℕ → Outcome) → (State → List TransName → ℕ → Type 0) → List TransName → State → ℕ → ℕ → Type 0
-  Stops stop P names s k j = outcome p names s k ≡ stop j → Ahead (P s names) k j
+  -- what an answer says of the moves from the state at position k
+  abbrev Says : State → List TransName → ℕ → Outcome → Type 0
+  Says s names k (made later) = Unit {0}
+  Says s names k (too_large j) = Ahead (IsWideBehind p s names) k j
+  Says s names k (illegal j) = Ahead (IsStuckBehind p s names) k j
 
-  large_here : (s : State) (names : List TransName) (k j : ℕ) → wide_rests s.left p s.store ≡ true → too_large k ≡ too_large j → Ahead (IsWideBehind p s names) k j
-  large_here s names k j w e = let f = same_large k j e in (0, omega (arith, f), record { state = s; reaches = stays; wide = w })
+  wide_here : (s : State) (names : List TransName) (k : ℕ) → wide_rests s.left p s.store ≡ true → Says s names k (too_large k)
+  wide_here s names k w = (0, omega arith, record { state = s; reaches = stays; wide = w })
 
-  pub large_wide : (names : List TransName) (s : State) (k j : ℕ) → outcome p names s k ≡ too_large j → Ahead (IsWideBehind p s names) k j
-  large_wide [] s k j e = at_test (wide_rests s.left p s.store) refl e
+  onward : (s t : State) (name : TransName) (names : List TransName) (k : ℕ) → IsNarrow p s → Leads p s name t → (r : Outcome) → Says t names (suc k) r → Says s (name ∷ names) k (onto name t r)
+  onward s t name names k n l (made later) h = tt
+  onward s t name names k n l (too_large j) h = let f : j ≡ suc k + h.0 = h.1 in (suc h.0, omega (arith, f), wide_later p s t name names h.0 n l h.2)
+  onward s t name names k n l (illegal j) h = let f : j ≡ suc k + h.0 = h.1 in (suc h.0, omega (arith, f), stuck_later p s t name names h.0 n l h.2)
+
+  said : (names : List TransName) (s : State) (k : ℕ) → Says s names k (outcome p names s k)
+  said [] s k = at_test (wide_rests s.left p s.store) refl
     where
-      at_test : (b : Bool) → wide_rests s.left p s.store ≡ b → (if b then too_large k else made []) ≡ too_large j → Ahead (IsWideBehind p s []) k j
-      at_test true q e = large_here s [] k j q e
-      at_test false q e = made_large [] j e
-  large_wide (name ∷ names) s k j e = at_test (wide_rests s.left p s.store) refl (λ t f. large_wide names t (suc k) j f) e
+      at_test : (b : Bool) → wide_rests s.left p s.store ≡ b → Says s [] k (if b then too_large k else made [])
+      at_test true q = wide_here s [] k q
+      at_test false q = tt
+  said (name ∷ names) s k = at_test (wide_rests s.left p s.store) refl (λ t. said names t (suc k))
     where
-      at_move : (o : Option State) → behind_move p s name ≡ o → IsNarrow p s → ((t : State) → Stops too_large (IsWideBehind p) names t (suc k) j)
-          → go_on o (λ t. outcome p names t (suc k)) name k ≡ too_large j → Ahead (IsWideBehind p s (name ∷ names)) k j
-      at_move None q n further e = illegal_large k j e
-      at_move (Some t) q n further e =
-          let r = further t (onto_large name t (outcome p names t (suc k)) j e) in
-          let f : j ≡ suc k + r.0 = r.1 in
-          (suc r.0, omega (arith, f), wide_later p s t name names r.0 n (move_leads p numbered s t name q) r.2)
+      at_move : (o : Option State) → behind_move p s name ≡ o → IsNarrow p s → ((t : State) → Says t names (suc k) (outcome p names t (suc k)))
+          → Says s (name ∷ names) k (go_on o (λ t. outcome p names t (suc k)) name k)
+      at_move None q n further = (0, omega arith, record { state = s; reaches = stays; narrow = n; name = name; is_next = refl; off = no_step p numbered s name q })
+      at_move (Some t) q n further = onward s t name names k n (move_leads p numbered s t name q) (outcome p names t (suc k)) (further t)
 
-      at_test : (b : Bool) → wide_rests s.left p s.store ≡ b → ((t : State) → Stops too_large (IsWideBehind p) names t (suc k) j)
-          → (if b then too_large k else go_on (behind_move p s name) (λ t. outcome p names t (suc k)) name k) ≡ too_large j → Ahead (IsWideBehind p s (name ∷ names)) k j
-      at_test true q further e = large_here s (name ∷ names) k j q e
-      at_test false q further e = at_move (behind_move p s name) refl q further e
+      at_test : (b : Bool) → wide_rests s.left p s.store ≡ b → ((t : State) → Says t names (suc k) (outcome p names t (suc k)))
+          → Says s (name ∷ names) k (if b then too_large k else go_on (behind_move p s name) (λ t. outcome p names t (suc k)) name k)
+      at_test true q further = wide_here s (name ∷ names) k q
+      at_test false q further = at_move (behind_move p s name) refl q further
 
-  pub illegal_stuck : (names : List TransName) (s : State) (k j : ℕ) → outcome p names s k ≡ illegal j → Ahead (IsStuckBehind p s names) k j
-  illegal_stuck [] s k j e = at_test (wide_rests s.left p s.store) e
-    where
-      at_test : (b : Bool) → (if b then too_large k else made []) ≡ illegal j → Ahead (IsStuckBehind p s []) k j
-      at_test true e = large_illegal k j e
-      at_test false e = made_illegal [] j e
-  illegal_stuck (name ∷ names) s k j e = at_test (wide_rests s.left p s.store) refl (λ t f. illegal_stuck names t (suc k) j f) e
-    where
-      at_move : (o : Option State) → behind_move p s name ≡ o → IsNarrow p s → ((t : State) → Stops illegal (IsStuckBehind p) names t (suc k) j)
-          → go_on o (λ t. outcome p names t (suc k)) name k ≡ illegal j → Ahead (IsStuckBehind p s (name ∷ names)) k j
-      at_move None q n further e =
-          let f = same_illegal k j e in
-          (0, omega (arith, f), record { state = s; reaches = stays; narrow = n; name = name; is_next = refl; off = no_step p numbered s name q })
-      at_move (Some t) q n further e =
-          let r = further t (onto_illegal name t (outcome p names t (suc k)) j e) in
-          let f : j ≡ suc k + r.0 = r.1 in
-          (suc r.0, omega (arith, f), stuck_later p s t name names r.0 n (move_leads p numbered s t name q) r.2)
+  -- at the place itself
+  pub wide_at : (names : List TransName) (s : State) (k i : ℕ) → outcome p names s k ≡ too_large (k + i) → IsWideBehind p s names i
+  wide_at names s k i e =
+      let r : Ahead (IsWideBehind p s names) k (k + i) = subst (Says s names k) e (said names s k) in
+      let f : k + i ≡ k + r.0 = r.1 in
+      let g : r.0 ≡ i = omega (arith, f) in
+      subst (IsWideBehind p s names) g r.2
 
-      at_test : (b : Bool) → wide_rests s.left p s.store ≡ b → ((t : State) → Stops illegal (IsStuckBehind p) names t (suc k) j)
-          → (if b then too_large k else go_on (behind_move p s name) (λ t. outcome p names t (suc k)) name k) ≡ illegal j → Ahead (IsStuckBehind p s (name ∷ names)) k j
-      at_test true q further e = large_illegal k j e
-      at_test false q further e = at_move (behind_move p s name) refl q further e
+  pub stuck_at : (names : List TransName) (s : State) (k i : ℕ) → outcome p names s k ≡ illegal (k + i) → IsStuckBehind p s names i
+  stuck_at names s k i e =
+      let r : Ahead (IsStuckBehind p s names) k (k + i) = subst (Says s names k) e (said names s k) in
+      let f : k + i ≡ k + r.0 = r.1 in
+      let g : r.0 ≡ i = omega (arith, f) in
+      subst (IsStuckBehind p s names) g r.2
 
   wide_stops : (names : List TransName) (s : State) (k : ℕ) → wide_rests s.left p s.store ≡ true → outcome p names s k ≡ too_large k
   wide_stops [] s k w = ap (λ b. if b then too_large k else made []) w
@@ -137,21 +105,6 @@ module _ (p : Processes) (numbered : IsNumbered p) where
       let others : State → Outcome = λ t. outcome p names t (suc k) in
       narrow_goes p s k (go_on (behind_move p s x) others x k) n
       ∙ ap (λ o. go_on o others x k) (no_move p numbered s x (subst (λ z. (t : State) → Leads p s z t → ⊥) (sym f) off))
-
-  -- at the place itself
-  pub wide_at : (names : List TransName) (s : State) (k i : ℕ) → outcome p names s k ≡ too_large (k + i) → IsWideBehind p s names i
-  wide_at names s k i e =
-      let r = large_wide names s k (k + i) e in
-      let f : k + i ≡ k + r.0 = r.1 in
-      let g : r.0 ≡ i = omega (arith, f) in
-      subst (IsWideBehind p s names) g r.2
-
-  pub stuck_at : (names : List TransName) (s : State) (k i : ℕ) → outcome p names s k ≡ illegal (k + i) → IsStuckBehind p s names i
-  stuck_at names s k i e =
-      let r = illegal_stuck names s k (k + i) e in
-      let f : k + i ≡ k + r.0 = r.1 in
-      let g : r.0 ≡ i = omega (arith, f) in
-      subst (IsStuckBehind p s names) g r.2
 
 -- the moves before are made in states of runs
 module _ (p : Processes) (initial : Formula) (well : WellFormed p) where

@@ -1,10 +1,12 @@
 -- What is judged of a goal on a run is what the tests say.
-use Rattle.std.proofs.Common.{◌≡◌, ℕ, suc, ◌≤◌, ◌<◌, Bool, true, false, List, [], ◌∷◌, map, arith, refl, sym, ap, ◌∙◌}
+use Rattle.std.proofs.Common.{◌≡◌, ℕ, suc, ◌≤◌, ◌<◌, Bool, true, false, List, [], ◌∷◌, ◌++◌, length, drop, drop-cons, get_or, append_assoc, map, arith, refl, sym, ap, ◌∙◌}
 use Rattle.std.specs.Prelude.{◌↔◌, not, Option, Some, None}
 use Rattle.std.specs.Bool.{Decides}
 use Rattle.st_form.specs.Formula.{Situation}
 use Rattle.observations.specs.Observation.{Observation, last}
 use Rattle.temporal_goals.specs.Texts.{PlainGoal, invariant, waiting, response, PlainStep}
+use Rattle.temporal_goals.specs.declared.scripts.Step.{Step}
+use Rattle.temporal_goals.specs.Plain.{plain_step}
 use Rattle.temporal_goals.specs.Meaning.{test_of, number_of, GoalHolds}
 use Rattle.run_judging.specs.Judging.{IsFirstFailure}
 use Rattle.run_judging.specs.declared.judged.Judged.{Judged}
@@ -82,3 +84,13 @@ module _ (g : PlainGoal) (o : Observation Situation) where
 pub are_judged : (o : Observation Situation) (steps : List PlainStep) → AreJudged o steps (all_judged o steps)
 are_judged o [] = refl
 are_judged o (s ∷ ss) = (judged_on s.goal o, are_judged o ss)
+
+-- one more step, judged
+pub judged_more : (o : Observation Situation) (done : List Judged) (j : Judged) (steps : List Step) (i : ℕ) (step : Step) (whole : List Judged) → i < length steps → step ≡ get_or steps i step → j ≡ judged_of (plain_step step).goal o
+    → done ++ all_judged o (map plain_step (drop i steps)) ≡ whole → (done ++ j ∷ []) ++ all_judged o (map plain_step (drop (suc i) steps)) ≡ whole
+judged_more o done j steps i step whole below is judged all =
+    append_assoc done (j ∷ []) (all_judged o (map plain_step (drop (suc i) steps)))
+    ∙ ap (λ x. done ++ x ∷ all_judged o (map plain_step (drop (suc i) steps))) judged
+    ∙ ap (λ s. done ++ judged_of (plain_step s).goal o ∷ all_judged o (map plain_step (drop (suc i) steps))) is
+    ∙ ap (λ l. done ++ all_judged o (map plain_step l)) (sym (drop-cons steps i step below))
+    ∙ all

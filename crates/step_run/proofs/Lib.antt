@@ -12,3 +12,4 @@ pub mod Typed
 pub mod Verdicts
 pub mod Judging
 pub mod Runs
+pub mod Scripts

@@ -1,6 +1,7 @@
 -- How many states of a run are clear, and what lists of values tell that are as long.
 use Rattle.std.proofs.Common.{◌≡◌, ℕ, zero, suc, ◌≤◌, ◌<◌, Bool, true, false, List, [], ◌∷◌, length, map, Option, Some, None, refl, ap, ◌∙◌, sym, arith, if◌then◌else◌}
 use Rattle.std.specs.Prelude.{◌||◌, min, slice_get}
+use Rattle.std.proofs.lemmas.List.{length-map}
 use Rattle.observations.specs.Observation.{Moment, Observation, moment_after, state_at, last}
 use Rattle.trace_player.specs.Columns.{states_in, column}
 
@@ -78,12 +79,8 @@ there now (step ∷ later) (suc k) h = there step.1 later k (omega (arith, h))
 pub state-there : {S : Type 0} (o : Observation S) (k : ℕ) → k ≤ last o → slice_get (states_in o) k ≡ Some (state_at o k)
 state-there o k h = there o.first o.later k h
 
-long : {S : Type 0} (later : List (ℕ × Moment S)) → length (map (λ step. step.1.state) later) ≡ length later
-long [] = refl
-long (step ∷ later) = ap suc (long later)
-
 pub states-long : {S : Type 0} (o : Observation S) → length (states_in o) ≡ suc (last o)
-states-long o = ap suc (long o.later)
+states-long {S} o = ap suc (length-map o.later (λ (step : ℕ × Moment S). step.1.state))
 
 -- a list that is as long as the run has the value of each state
 module _ {S B : Type 0} (wide : S → Bool) (value : S → B) (o : Observation S) (ys : List B) (is : ys ≡ column wide value (states_in o)) (all : length (states_in o) ≤ length ys) where

@@ -6,3 +6,4 @@ pub mod StatementNames
 pub mod Controls
 pub mod Clear
 pub mod Verdicts
+pub mod Lengths

@@ -113,7 +113,11 @@ pub fn control(alloc: Global, program: &Program, state: &State) -> Result<Vec<u3
 }
 
 /// The locations where control is in each of these states.
-pub fn fronts_of(alloc: Global, program: &Program, states: &[State]) -> Result<Vec<Vec<u32>>, Memory>
+pub fn fronts_of(
+    alloc: Global,
+    program: &Program,
+    states: &[State],
+) -> Result<Vec<Vec<u32>>, Memory>
     ensures { IfOk result (λ v. map (λ f. f.items) v.items ≡ map (λ s. control (plain_children program.now.processes) (plain_state s)) states.now) }
 {
     let mut fronts = Vec::with_capacity(alloc, states.len())?;

@@ -10,7 +10,7 @@ ghost use Rattle.st_form.specs.declared.conditions.TransName.{TransName};
 ghost use Rattle.st_program.specs.Plain.{plain_children};
 ghost use Rattle.observations.specs.Observation.{Observation};
 ghost use Rattle.run_judging.specs.Shown.{Shows};
-ghost use Rattle.spl_semantics.specs.Runs.{State};
+ghost use Rattle.spl_semantics.specs.Runs as runs;
 ghost use Rattle.temporal_goals.specs.Plain.{plain_goal};
 ghost use Rattle.temporal_goals.specs.Texts.{invariant, waiting, response};
 ghost use Rattle.trace_player.specs.Columns.{states_in, sights};
@@ -51,8 +51,9 @@ fn judge_invariance(
     ensures { IfOk result (λ judged. (o : Observation Situation) → states_in o ≡ sights states.now fronts.now → JudgedOn (invariant (plain form.now)) o judged) }
 {
     let truths = truths(alloc, form, states, fronts)?;
-    if truths.len() < states.len() {
-        return Ok(Judged::Unclear(truths.len() as u32));
+    let clear = truths.len();
+    if clear < states.len() {
+        return Ok(Judged::Unclear(clear as u32));
     }
     Ok(judged_by(invariance_failure(&truths)))
 }
@@ -97,7 +98,7 @@ fn judge_response(
     let premise = truths(alloc, premise, states, fronts)?;
     let target = truths(alloc, target, states, fronts)?;
     let bounds = numbers(alloc, bound, states)?;
-    let clear = premise.len().min(target.len()).min(bounds.len());
+    let clear = premise.len().min(target.len().min(bounds.len()));
     if clear < states.len() {
         return Ok(Judged::Unclear(clear as u32));
     }
@@ -117,7 +118,7 @@ pub fn judge(
 ) -> Result<Judged, Memory>
     requires few { length played.now.enabled.items < 2 ^ 32 }
     requires long { length played.now.states.items ≡ length played.now.enabled.items }
-    ensures { IfOk result (λ judged. (s : State) (later : List (TransName × State)) → IsPlayed (plain_children program.now.processes) s later played.now
+    ensures { IfOk result (λ judged. (s : runs.State) (later : List (TransName × runs.State)) → IsPlayed (plain_children program.now.processes) s later played.now
         → IsJudgement (plain_children program.now.processes) s later (plain_goal goal.now) judged) }
 {
     let fronts = fronts_of(alloc, program, &played.states)?;

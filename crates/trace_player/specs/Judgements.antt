@@ -1,5 +1,5 @@
 -- A goal, judged on a given run.
-use Rattle.std.specs.Prelude.{◌≡◌, ℕ, ◌≤◌, ◌<◌, Bool, true, false, ◌||◌, List, map}
+use Rattle.std.specs.Prelude.{◌≡◌, ℕ, ◌≤◌, ◌<◌, Bool, true, false, ◌||◌, List, map, Option, Some, None}
 use Rattle.std.specs.List.{list_any}
 use Rattle.st_form.specs.Formula.{Situation}
 use Rattle.st_form.specs.declared.conditions.TransName.{TransName}
@@ -44,6 +44,11 @@ abbrev pub JudgedOn : PlainGoal → Observation Situation → Judged → Type 0
 JudgedOn g o Holds = IsClear g o × GoalHolds g o
 JudgedOn g o (Fails i) = IsClear g o × (i ≤ last o) × (¬ (GoalFrom g o i)) × ((j : ℕ) → j < i → GoalFrom g o j)
 JudgedOn g o (Unclear i) = (i ≤ last o) × (wide_at g o i ≡ true) × ((j : ℕ) → j < i → wide_at g o j ≡ false)
+
+-- what is judged of a goal that is clear, from the least position from which it fails
+abbrev pub judged_by : Option ℕ → Judged
+judged_by None = Holds
+judged_by (Some i) = Fails i
 
 -- what is judged of a goal on a run of a program
 abbrev pub IsJudgement : Processes → State → List (TransName × State) → PlainGoal → Judged → Type 0

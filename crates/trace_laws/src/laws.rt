@@ -1,10 +1,10 @@
 //! The laws, as contracts of functions that do nothing.
 
-ghost use Rattle.std.specs.Prelude.{◌≡◌, ◌↔◌, ◌+◌, ℕ, List};
+ghost use Rattle.std.specs.Prelude.{◌≡◌, ◌↔◌, ◌+◌, ℕ, List, map};
 ghost use Rattle.st_form.specs.Plain.{plain};
 ghost use Rattle.st_form.specs.declared.conditions.TransName.{TransName};
 ghost use Rattle.st_program.specs.Plain.{plain_children};
-ghost use Rattle.spl_semantics.specs.Runs.{State, Reached};
+ghost use Rattle.spl_semantics.specs.Runs.{State, Reached, Follows};
 ghost use Rattle.trace_player.specs.Playing.{made, too_large, illegal, outcome};
 ghost use Rattle.trace_laws.specs.OneWay.{LeadsOneWay};
 ghost use Rattle.trace_laws.specs.Endings.{IsWideBehind, IsStuckBehind};
@@ -15,6 +15,15 @@ use st_program::Program;
 /// In states of runs of the program, a step's name determines its mode and the state behind it.
 pub fn names_lead_one_way(program: &Program)
     ensures { LeadsOneWay (plain_children program.now.processes) (plain program.now.initial) }
+{
+    let _ = &program.processes;
+}
+
+/// From a state of a run of the program, two runs with the same names are one run.
+pub fn names_make_one_run(program: &Program)
+    ensures { (s : State) (later other : List (TransName × State)) → Reached (plain_children program.now.processes) (plain program.now.initial) s
+        → Follows (plain_children program.now.processes) s later → Follows (plain_children program.now.processes) s other
+        → map (λ step. step.0) later ≡ map (λ step. step.0) other → later ≡ other }
 {
     let _ = &program.processes;
 }

@@ -19,7 +19,7 @@ use Rattle.schedule_reader.specs.declared.fault.ScheduleFault.{ScheduleFault}
 use Rattle.schedule_reader.specs.declared.fault.ScheduleFault.TheVariants as faults
 use Rattle.trace_player.specs.Playing as playing
 use Rattle.step_run.specs.Scheduled.{start_of}
-use Rattle.step_run.specs.Traced.{Scripted, token_refused, schedule_refused, no_start, play_ended, played, schedule_ended, traced}
+use Rattle.step_run.specs.Traced.{Scripted, token_refused, schedule_refused, no_start, play_ended, schedule_played, schedule_ended, traced}
 use Rattle.step_run.specs.Conditions.{Posed, setting_of}
 use Rattle.step_run.specs.Checked.{goals_proved, ending, check_ended, checked}
 use Rattle.step_run.specs.Verified.{Verified, all_found, left_open, given_up, verified_from, search_ended, searched, certificates, goals_counted, verified, written, counted}
@@ -81,8 +81,8 @@ play_decided x s (playing.made later) = tt
 play_decided x s (playing.too_large k) = tt
 play_decided x s (playing.illegal k) = tt
 
-played_decided : (x : Scripted) (s : PlainSchedule) → IsDecided (played x s).status
-unfolding played
+played_decided : (x : Scripted) (s : PlainSchedule) → IsDecided (schedule_played x s).status
+unfolding schedule_played
 played_decided x s = by (holds x.program.initial (store_of s.store)) where
   by : (b : Bool) → IsDecided (cond {A = Outcome} b (play_ended x s (playing.outcome x.program.processes s.moves (start_of x.program s) 0)) no_start).status
   by true = play_decided x s (playing.outcome x.program.processes s.moves (start_of x.program s) 0)

@@ -26,7 +26,7 @@ use Rattle.step_run.specs.Conditions.{steps_spelled}
 use Rattle.step_run.specs.Outcome.{proof_refused}
 use Rattle.step_run.specs.Refusals.{of_script}
 use Rattle.step_run.specs.Scheduled.{start_of, observed_of, IsRunOfSchedule}
-use Rattle.step_run.specs.Traced.{Scripted, token_refused, schedule_refused, report_of, no_start, play_ended, played, schedule_ended, traced}
+use Rattle.step_run.specs.Traced.{Scripted, token_refused, schedule_refused, report_of, no_start, play_ended, schedule_played, schedule_ended, traced}
 use Rattle.step_run.specs.Plans.{steps_or_end, source_of_text, script_of_text, scripted_of_text, script_plan, scripted_plan, trace_scripted, plan_for}
 use Rattle.step_run.specs.Headline.{IsScripted, Traces, AreShort}
 use Rattle.step_words.specs.Request.{traces}
@@ -90,8 +90,8 @@ module _ (p : Typed) (steps : List PlainStep) (well : IsSpelled p) where
   by_start s o true meets e proved = by_outcome s o (outcome p.processes s.moves (start_of p s) 0) meets refl e proved
   by_start s o false meets e proved = absurd (let no : IsProved no_start = subst IsProved (sym e) proved in cc)
 
-  by_played : (s : PlainSchedule) (o : Outcome) → played (over p steps) s ≡ o → IsProved o → Made s o
-  unfolding played
+  by_played : (s : PlainSchedule) (o : Outcome) → schedule_played (over p steps) s ≡ o → IsProved o → Made s o
+  unfolding schedule_played
   by_played s o e proved = by_start s o (holds p.initial (store_of s.store)) refl e proved
 
   by_schedule : (text : List ℕ) (o : Outcome) (r : Result PlainSchedule ScheduleFault) → schedule_spelled p.names p.processes text ≡ r → schedule_ended (over p steps) r ≡ o → IsProved o → Ran p steps text o
@@ -105,8 +105,8 @@ module _ (p : Typed) (steps : List PlainStep) (well : IsSpelled p) where
   ran text o e proved = by_schedule text o (schedule_spelled p.names p.processes text) refl e proved
 
   -- the other way round
-  played_so : (s : PlainSchedule) (later : List (TransName × State)) → IsRunOfSchedule p s later → played (over p steps) s ≡ told_of p steps s later
-  unfolding played
+  played_so : (s : PlainSchedule) (later : List (TransName × State)) → IsRunOfSchedule p s later → schedule_played (over p steps) s ≡ told_of p steps s later
+  unfolding schedule_played
   played_so s later r =
       let go : outcome p.processes s.moves (start_of p s) 0 ≡ made later = run_made p.processes p.initial (well_typed p well).well s.moves (start_of p s) 0 later (first r.first) r.run in
       ap (λ (b : Bool). if b then play_ended (over p steps) s (outcome p.processes s.moves (start_of p s) 0) else no_start) r.first.meets

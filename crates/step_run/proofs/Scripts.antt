@@ -21,7 +21,7 @@ use Rattle.step_plan.specs.Outcome.{Outcome}
 use Rattle.step_plan.specs.Plan.{Plan, goes_on}
 use Rattle.step_run.specs.Source.{IsSpelled}
 use Rattle.step_run.specs.Scheduled.{start_of, observed_of}
-use Rattle.step_run.specs.Traced.{Scripted, schedule_refused, IsOfText, no_start, too_large_at, not_enabled, play_ended, played, schedule_ended, traced}
+use Rattle.step_run.specs.Traced.{Scripted, schedule_refused, IsOfText, no_start, too_large_at, not_enabled, play_ended, schedule_played, schedule_ended, traced}
 use Rattle.step_run.proofs.Typed.{from_text}
 
 -- with what a script is gone on
@@ -43,27 +43,27 @@ store_fits p ds spelled is = types_are ds ∙ is ∙ names_are p spelled
 
 module _ (x : Scripted) (s : PlainSchedule) where
   -- how a schedule ends that is played
-  started : (r : playing.Outcome) → holds x.program.initial (store_of s.store) ≡ true → outcome x.program.processes s.moves (start_of x.program s) 0 ≡ r → played x s ≡ play_ended x s r
-  unfolding played
+  started : (r : playing.Outcome) → holds x.program.initial (store_of s.store) ≡ true → outcome x.program.processes s.moves (start_of x.program s) 0 ≡ r → schedule_played x s ≡ play_ended x s r
+  unfolding schedule_played
   started r meets is =
       ap (λ (b : Bool). if b then play_ended x s (outcome x.program.processes s.moves (start_of x.program s) 0) else no_start) meets ∙ ap (play_ended x s) is
 
-  pub made_ends : (later : List _) → holds x.program.initial (store_of s.store) ≡ true → outcome x.program.processes s.moves (start_of x.program s) 0 ≡ playing.made later → played x s ≡ play_ended x s (playing.made later)
+  pub made_ends : (later : List _) → holds x.program.initial (store_of s.store) ≡ true → outcome x.program.processes s.moves (start_of x.program s) 0 ≡ playing.made later → schedule_played x s ≡ play_ended x s (playing.made later)
   made_ends later meets is = started (playing.made later) meets is
 
-  pub never_starts : PlayAnswers x.program.processes x.program.initial (store_of s.store) s.moves (Err play.NoStart) → no_start ≡ played x s
-  unfolding played
+  pub never_starts : PlayAnswers x.program.processes x.program.initial (store_of s.store) s.moves (Err play.NoStart) → no_start ≡ schedule_played x s
+  unfolding schedule_played
   never_starts h = sym (ap (λ (b : Bool). if b then play_ended x s (outcome x.program.processes s.moves (start_of x.program s) 0) else no_start) h)
 
-  pub grows_too_large : (k : ℕ) → PlayAnswers x.program.processes x.program.initial (store_of s.store) s.moves (Err (play.ValueLimit k)) → too_large_at k ≡ played x s
+  pub grows_too_large : (k : ℕ) → PlayAnswers x.program.processes x.program.initial (store_of s.store) s.moves (Err (play.ValueLimit k)) → too_large_at k ≡ schedule_played x s
   grows_too_large k h = sym (started (playing.too_large k) h.0 h.1)
 
-  pub stops : (k : ℕ) → PlayAnswers x.program.processes x.program.initial (store_of s.store) s.moves (Err (play.Illegal k)) → not_enabled k ≡ played x s
+  pub stops : (k : ℕ) → PlayAnswers x.program.processes x.program.initial (store_of s.store) s.moves (Err (play.Illegal k)) → not_enabled k ≡ schedule_played x s
   stops k h = sym (started (playing.illegal k) h.0 h.1)
 
 module _ (x : Scripted) (text : List ℕ) where
   -- a schedule that is read is played
-  pub read_so : (s : PlainSchedule) → schedule_spelled x.program.names x.program.processes text ≡ Ok s → traced x text ≡ played x s
+  pub read_so : (s : PlainSchedule) → schedule_spelled x.program.names x.program.processes text ≡ Ok s → traced x text ≡ schedule_played x s
   unfolding traced
   read_so s is = ap (schedule_ended x) is
 

@@ -74,11 +74,11 @@ play_ended x s (too_large k) = too_large_at k
 play_ended x s (illegal k) = not_enabled k
 
 -- a schedule, played
-unfoldable pub played : Scripted → PlainSchedule → Outcome
-played x s = if holds x.program.initial (store_of s.store) then play_ended x s (outcome x.program.processes s.moves (start_of x.program s) 0) else no_start
+unfoldable pub schedule_played : Scripted → PlainSchedule → Outcome
+schedule_played x s = if holds x.program.initial (store_of s.store) then play_ended x s (outcome x.program.processes s.moves (start_of x.program s) 0) else no_start
 
 abbrev pub schedule_ended : Scripted → Result PlainSchedule ScheduleFault → Outcome
-schedule_ended x (Ok s) = played x s
+schedule_ended x (Ok s) = schedule_played x s
 schedule_ended x (Err fault) = schedule_refused fault
 
 -- the outcome over the text of the schedule

@@ -15,7 +15,7 @@ ghost use Rattle.trace_player.specs.Playing.{IsPlayed, PlayAnswers};
 ghost use Rattle.step_plan.specs.Outcome.{ended_view};
 ghost use Rattle.step_plan.specs.Plan.{then_plan, Follows};
 ghost use Rattle.step_run.specs.Judged.{all_judged};
-ghost use Rattle.step_run.specs.Traced.{played, traced};
+ghost use Rattle.step_run.specs.Traced.{schedule_played, traced};
 ghost use Rattle.step_run.specs.Source.{IsSpelled};
 ghost use Rattle.step_run.specs.Views.{source_view, scripted_view};
 ghost use Rattle.step_run.specs.Plans.{scripted_plan, trace_scripted};
@@ -72,7 +72,7 @@ fn reported(
     requires spelled { IsSpelled (source_view scripted.now.source) }
     requires few { length schedule.now.moves.items ≤ 1000 }
     requires plays { IsPlayedBy (source_view scripted.now.source) (plain_schedule schedule.now) played.now }
-    ensures { IfOk result (λ e. ended_view e ≡ played (scripted_view scripted.now) (plain_schedule schedule.now)) }
+    ensures { IfOk result (λ e. ended_view e ≡ schedule_played (scripted_view scripted.now) (plain_schedule schedule.now)) }
 {
     let program = &scripted.source.program;
     let counts = rounds(alloc, program, played)?;
@@ -99,7 +99,7 @@ fn played(alloc: Global, scripted: &Scripted, schedule: &Schedule) -> Result<End
     requires store { StoreFits scripted.now.source.program.variables schedule.now.store.items }
     requires written { All IsWritten schedule.now.store.items }
     requires few { length schedule.now.moves.items ≤ 1000 }
-    ensures { IfOk result (λ e. ended_view e ≡ played (scripted_view scripted.now) (plain_schedule schedule.now)) }
+    ensures { IfOk result (λ e. ended_view e ≡ schedule_played (scripted_view scripted.now) (plain_schedule schedule.now)) }
 {
     match play(alloc, &scripted.source.program, schedule) {
         Ok(played) => reported(alloc, scripted, schedule, &played),

@@ -1,5 +1,5 @@
 -- How many states of a run are clear, and what lists of values tell that are as long.
-use Rattle.std.proofs.Common.{◌≡◌, ℕ, zero, suc, ◌≤◌, ◌<◌, Bool, true, false, List, [], ◌∷◌, length, map, Option, Some, None, refl, ap, ◌∙◌, sym, arith, if◌then◌else◌}
+use Rattle.std.proofs.Common.{◌≡◌, ℕ, zero, suc, ◌≤◌, ◌<◌, Bool, true, false, List, [], ◌∷◌, length, map, Some, refl, ap, ◌∙◌, sym, arith, if◌then◌else◌}
 use Rattle.std.specs.Prelude.{◌||◌, min, slice_get}
 use Rattle.std.proofs.lemmas.List.{length-map}
 use Rattle.observations.specs.Observation.{Moment, Observation, moment_after, state_at, last}

@@ -1,5 +1,5 @@
 -- What is judged of a goal, from lists of what its formulas are in the states of a run.
-use Rattle.std.proofs.Common.{◌≡◌, ℕ, zero, suc, ◌≤◌, ◌<◌, Bool, true, false, List, [], ◌∷◌, length, map, ℤ, Option, Some, None, Result, Ok, Err, IfOk, refl, ap, ◌∙◌, sym, subst, arith}
+use Rattle.std.proofs.Common.{◌≡◌, ℕ, zero, suc, ◌≤◌, ◌<◌, Bool, false, List, [], ◌∷◌, length, map, ℤ, Option, Some, None, Result, Ok, Err, IfOk, refl, ap, ◌∙◌, sym, arith}
 use Rattle.std.specs.Prelude.{◌||◌, min, slice_get}
 use Rattle.std.proofs.lemmas.List.{length-map}
 use Rattle.std.specs.declared.vec.Vec.{Vec}

@@ -1,13 +1,9 @@
-use Rattle.std.proofs.Common.{◌≡◌, List, map, ap, ◌∙◌, sym, subst}
-use Rattle.observations.specs.Observation.{Observation}
+use Rattle.std.proofs.Common.{map, ap, ◌∙◌, sym, subst}
 use Rattle.st_form.specs.Plain.{plain}
-use Rattle.st_form.specs.Formula.{Situation}
-use Rattle.st_form.specs.declared.conditions.TransName.{TransName}
 use Rattle.st_program.specs.Plain.{plain_children}
-use Rattle.spl_semantics.specs.Runs.{State, observed}
+use Rattle.spl_semantics.specs.Runs.{observed}
 use Rattle.temporal_goals.specs.Plain.{plain_goal}
 use Rattle.temporal_goals.specs.Texts.{waiting}
-use Rattle.trace_player.specs.Playing.{IsPlayed}
 use Rattle.trace_player.specs.Judgements.{IsJudgement}
 use Rattle.trace_player.proofs.Verdicts.{if-ok, seen-here}
 use Rattle.trace_player.proofs.judgement.judge.Goals as goal

@@ -86,10 +86,11 @@ are_judged o [] = refl
 are_judged o (s ∷ ss) = (judged_on s.goal o, are_judged o ss)
 
 -- one more step, judged
-pub judged_more : (o : Observation Situation) (done : List Judged) (j : Judged) (steps : List Step) (i : ℕ) (step : Step) (whole : List Judged) → i < length steps → step ≡ get_or steps i step → j ≡ judged_of (plain_step step).goal o
-    → done ++ all_judged o (map plain_step (drop i steps)) ≡ whole → (done ++ j ∷ []) ++ all_judged o (map plain_step (drop (suc i) steps)) ≡ whole
-judged_more o done j steps i step whole below is judged all =
-    append_assoc done (j ∷ []) (all_judged o (map plain_step (drop (suc i) steps)))
+pub judged_more : (o : Observation Situation) (done : List Judged) (j : Judged) (steps : List Step) (i next : ℕ) (step : Step) (whole : List Judged) → next ≡ suc i → i < length steps → step ≡ get_or steps i step → j ≡ judged_of (plain_step step).goal o
+    → done ++ all_judged o (map plain_step (drop i steps)) ≡ whole → (done ++ j ∷ []) ++ all_judged o (map plain_step (drop next steps)) ≡ whole
+judged_more o done j steps i next step whole one below is judged all =
+    ap (λ n. (done ++ j ∷ []) ++ all_judged o (map plain_step (drop n steps))) one
+    ∙ append_assoc done (j ∷ []) (all_judged o (map plain_step (drop (suc i) steps)))
     ∙ ap (λ x. done ++ x ∷ all_judged o (map plain_step (drop (suc i) steps))) judged
     ∙ ap (λ s. done ++ judged_of (plain_step s).goal o ∷ all_judged o (map plain_step (drop (suc i) steps))) is
     ∙ ap (λ l. done ++ all_judged o (map plain_step l)) (sym (drop-cons steps i step below))

@@ -13,4 +13,4 @@ pub mod Verdicts
 pub mod Judging
 pub mod Runs
 pub mod Scripts
-pub mod Reports
+pub mod ReportedRuns

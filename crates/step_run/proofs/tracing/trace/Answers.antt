@@ -14,8 +14,8 @@ pub returns-in-Over-clause-follows : goal.returns-in-Over-clause-follows
 returns-in-Over-clause-follows g c =
     follows_first _ (trace_scripted c.args.schedule.now) _ _ (scripted_plan c.args.program.now c.args.proof.now) _ (rw c.in-Over.is at c.in_ok-scripted.ensures.comes)
 
-pub returns-in-Over-2-clause-follows : goal.returns-in-Over-2-clause-follows
-returns-in-Over-2-clause-follows g c =
+pub returns-clause-follows : goal.returns-clause-follows
+returns-clause-follows g c =
     let scripted = rw c.in-On.is at c.in_ok-scripted.ensures.comes in
     let x = scripted_view c.in-On.scripted in
     let over = onward_over bytes_view _ _ _ _ _ (file_plan Schedule c.args.schedule.now) c.in_ok-text.field-0 _ c.in-Over-2.is c.ask_script.ensures.same scripted.0 c.in_ok-text.ensures.comes in

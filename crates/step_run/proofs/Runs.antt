@@ -139,8 +139,7 @@ module _ (law : Laws) (spelled : SpelledIsRead) (told : Told) (o : Outcome) wher
       let script = script_proved p qt (trace_scripted c) two.1 proved in
       let steps = script.0 in
       let three = file_proved told o {A = ⊥} Schedule c st (λ text. ends (traced (over p steps) text)) ic script.2 proved in
-      let r = ran p steps (pt, source.1) st o three.1 proved in
-      (
+      let r = ran p steps (pt, source.1) st o three.1 proved in (
         (one.0, two.0),
         three.0,
         (p, steps, r.schedule_is, r.later, record { scripted = scripted law pt qt p steps source.1 script.1; schedule = r.spelled; run = r.run }, sym r.same),

@@ -114,7 +114,7 @@ Headline told Said (Some (makes n)) =
     (p : Typed) × (steps : List PlainStep) × (ts : List Tree) × Decides (program_text n) (proof_text n) p steps ts × Hold p steps × Said (workload_line n ++ numbers p steps ts)
 Headline told Said (Some (traces a b c)) =
     Three told a b c (λ pt qt st. (p : Typed) × (steps : List PlainStep) × (s : PlainSchedule) × (later : List (TransName × State)) × (counts : List ℕ) × (judged : List Judged)
-        × Traces pt qt st p steps s later × AreGreatest (observed_of p s later) counts × AreJudged (observed_of p s later) steps judged × Said (played_text p.names steps (length s.moves) counts judged))
+    × Traces pt qt st p steps s later × AreGreatest (observed_of p s later) counts × AreJudged (observed_of p s later) steps judged × Said (played_text p.names steps (length s.moves) counts judged))
 Headline told Said _ = ⊥
 
 -- status 0 comes exactly where all conditions are discharged, or decided valid; and for a schedule where it gives a run
@@ -128,5 +128,5 @@ Exactly told status (Some (proves a b)) =
 Exactly told status (Some (makes n)) = (status ≡ Proved) ↔ ((p : Typed) × (steps : List PlainStep) × (ts : List Tree) × Decides (program_text n) (proof_text n) p steps ts)
 Exactly told status (Some (traces a b c)) =
     Three told a b c (λ pt qt st. (status ≡ Proved) ↔ (AreShort pt qt × (length st ≤ 4194304)
-        × ((p : Typed) × (steps : List PlainStep) × (s : PlainSchedule) × (later : List (TransName × State)) × Traces pt qt st p steps s later)))
+    × ((p : Typed) × (steps : List PlainStep) × (s : PlainSchedule) × (later : List (TransName × State)) × Traces pt qt st p steps s later)))
 Exactly told status _ = status ≡ Proved → ⊥

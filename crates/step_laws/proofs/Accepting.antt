@@ -1,6 +1,6 @@
 -- From the end of `prove` to that of `check`.
 use Rattle.std.proofs.Common.{◌≡◌, ℕ, List, refl, sym, ap, ◌∙◌, subst, arith}
-use Rattle.std.specs.Prelude.{Option, Some, IfSome}
+use Rattle.std.specs.Prelude.{Option, Some, None, IfSome}
 use Rattle.temporal_goals.specs.Texts.{PlainStep}
 use Rattle.spl_parser.specs.Theorems.{SpelledIsRead}
 use Rattle.spl_typer.specs.Programs.{Typed}
@@ -8,7 +8,7 @@ use Rattle.search_laws.specs.Programs.{ProgramsAreInOrder}
 use Rattle.search_blocks.specs.Laws.{FoundAreWritten, TextsHoldBlocks}
 use Rattle.step_words.specs.Request.{checks, proves}
 use Rattle.step_report.specs.declared.refusals.FileRole.{FileRole}
-use Rattle.step_report.specs.declared.refusals.FileRole.TheVariants.{Program, Proof, Certificates}
+use Rattle.step_report.specs.declared.refusals.FileRole.TheVariants.{Program, Proof, Certificates, Schedule}
 use Rattle.step_report.specs.Goals.{certificates_text}
 use Rattle.step_plan.specs.declared.status.Status.{Status}
 use Rattle.step_plan.specs.declared.status.Status.TheVariants.{Proved}
@@ -66,6 +66,7 @@ module _ (law : Laws) (spelled : SpelledIsRead) (ordered : ProgramsAreInOrder) (
     by Program is = let same : a ≡ name = cc in (pt, sym (ap told same) ∙ ia)
     by Proof is = let same : b ≡ name = cc in (qt, sym (ap told same) ∙ ib)
     by Certificates is = let same : c ≡ name = cc in (ct, sym (ap told same) ∙ ic)
+    by Schedule is = absurd (let none : None ≡ Some name = is in cc)
 
   check_ends : IsWritten → (o : Outcome) → outcome_of told (plan_of (Some (checks a b c))) ≡ Some o → IsAccepted told a b c pt qt
   check_ends w o is =

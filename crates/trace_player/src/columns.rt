@@ -1,5 +1,5 @@
-//! Formulas and bounds in the states of a run, each up to the first state in which a number on the way is too large. So a list that
-//! is shorter than the run is as long as the values are clear.
+//! Formulas and bounds in the states of a run, each up to the first state in which a number on the way is too large. So a list
+//! tells by its length how far the values are clear.
 
 ghost use Rattle.std.specs.Prelude.{◌≡◌, IfOk, length, map};
 ghost use Rattle.st_linear.specs.Linear.{value};

@@ -1,4 +1,4 @@
-//! Where control is: for each process, and for each child of a cooperation that is being run, the location at which it stands.
+//! Where control is: the location at which each process stands, or each child of a cooperation that is being run.
 
 ghost use Rattle.std.specs.Prelude.{◌≡◌, ◌++◌, IfOk, OnOk, map};
 ghost use Rattle.st_program.specs.Plain.{plain_children, plain_kind};

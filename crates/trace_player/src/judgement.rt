@@ -1,7 +1,7 @@
 //! Goals judged on a run.
 //!
-//! The formulas of a goal are evaluated in each state, each whole. Where a number on the way is too large in some state the goal is
-//! unclear; otherwise what they are in the states is judged by `run_judging`.
+//! The formulas of a goal are evaluated in each state, each whole. Where a number on the way is too large in some state the goal
+//! is unclear; otherwise `run_judging` judges what they are in the states.
 
 ghost use Rattle.std.specs.Prelude.{◌≡◌, ◌<◌, ◌^◌, List, IfOk, length, map};
 ghost use Rattle.st_form.specs.Plain.{plain};
@@ -108,8 +108,8 @@ fn judge_response(
 
 /// Whether a goal of the program holds on a run that was played.
 ///
-/// Each formula of the goal, and the bound of a response, is evaluated whole in each state. The first state in which a product or a
-/// partial sum on the way has size 2^126 or more makes the goal unclear, wherever it may fail.
+/// Each formula of the goal, and the bound of a response, is evaluated whole in each state. The first state in which a product
+/// or a partial sum on the way has size 2^126 or more makes the goal unclear, wherever it may fail.
 pub fn judge(
     alloc: Global,
     program: &Program,

@@ -1,5 +1,5 @@
-//! Formulas in a store with control at some locations, each evaluated whole. The values of forms in them are exact, or too large
-//! where a product or a partial sum on the way has size 2^126 or more.
+//! Formulas in a store with control at some locations, each evaluated whole. The values of forms in them are exact, or too
+//! large where a product or a partial sum on the way has size 2^126 or more.
 
 ghost use Rattle.std.specs.Prelude.{◌≡◌};
 ghost use Rattle.st_form.specs.Exchange.{is_listed};

@@ -1,7 +1,7 @@
 #!/usr/bin/env bash
 # Times the built program over a semaphore that four and six processes share: verify, prove, and check of what prove wrote,
 # with one worker and with four. The least of five by the clock and the seconds of the processors in that run, the start and
-# the report included, and the peak of memory.
+# the report included, and the peak of memory. Then the check of 100 MB of certificates: 20,000 blocks, each with 5,000 blanks.
 # Build the program first: (cd crates/step_main && rt run -- check data/program data/proof data/certs)
 # bench/search.sh [FOLDER]: where z3 is installed, it is timed too, over semaphore4.smt2 and semaphore6.smt2 in the folder.
 set -eu
@@ -31,3 +31,12 @@ for folder in semaphore4 semaphore6; do
         timed "$folder: z3" z3 "$smt/$folder.smt2"
     fi
 done
+
+awk 'BEGIN { for (i = 1; i <= 4000; i++) printf "invariant pos%d: x >= 0;\n", i }' >"$scratch/proof"
+awk 'BEGIN {
+    blanks = sprintf("%5000s", "")
+    split("case 1 { linear [1*1, 2*1] absurd absurd }|linear [1*1, 2*1]|case 1 { linear [1*1, 2*1] absurd absurd }|absurd|case 1 { absurd linear [1*1, 2*1] absurd }", trees, "|")
+    print "version 2;"
+    for (i = 0; i < 20000; i++) printf "cert %d%s%s;\n", i + 1, blanks, trees[i % 5 + 1]
+}' >"$scratch/certs"
+timed "$(wc -c <"$scratch/certs") bytes: check, 1 workers" "$step" check ../examples/count/program "$scratch/proof" "$scratch/certs"

@@ -140,9 +140,9 @@ pub source_goes : SpelledIsRead → (pt : List ℕ) (p : Typed) → IsProgram pt
 source_goes law pt p h = source_read pt (Ok p) (spelled_ok pt h.text p (law pt h.text h.spelled) h.typed)
 
 -- what is within bounds is as the search wants it
-record IsSearched (p : Typed) (d : Draft) : Type 0 where
-  given : AllForms (IsProper (length (setting_of p).variables)) d.condition.given
-  shown : AllForms (IsProper (length (setting_of p).variables)) d.condition.shown
+pub record IsSearched (p : Typed) (d : Draft) : Type 0 where
+  pub given : AllForms (IsProper (length (setting_of p).variables)) d.condition.given
+  pub shown : AllForms (IsProper (length (setting_of p).variables)) d.condition.shown
 
 module _ (truths : List Bool) (locations : ℕ) where
   there : (xs : List Bool) (v : ℕ) (b : Bool) → slice_get xs v ≡ Some b → v < length xs
@@ -255,7 +255,7 @@ module _ (law : Laws) where
     searched_each p ds h.1,
   )
 
-  searched_drafts : (p : Typed) (steps : List PlainStep) → IsSpelled p → IsScript p steps → Each (λ d. IsSearched p d) (drafts p steps)
+  pub searched_drafts : (p : Typed) (steps : List PlainStep) → IsSpelled p → IsScript p steps → Each (λ d. IsSearched p d) (drafts p steps)
   unfolding drafts
   searched_drafts p steps spelled script =
       searched_each p (script_list (system_of p) steps)

@@ -1,10 +1,12 @@
 pub mod Decided
 pub mod Exact
+pub mod Faultless
 pub mod Headline
 pub mod Named
 pub mod Posing
 pub mod Readied
 pub mod Sources
+pub mod Slices
 pub mod Stages
 pub mod Filed
 pub mod Tops

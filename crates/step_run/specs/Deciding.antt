@@ -1,5 +1,7 @@
--- What the verdicts of a run come to.
-use Rattle.std.specs.Prelude.{◌≡◌, ℕ, ◌<◌, ◌≤◌, ◌⊎◌, Bool, true, false, List, [], ◌∷◌, ◌++◌, length, map}
+-- What the verdicts of a run come to, slice by slice.
+use Rattle.std.specs.Prelude.{◌≡◌, ℕ, ◌+◌, ◌<◌, ◌≤◌, Bool, true, false, List, [], ◌∷◌, length, map, drop}
+use Rattle.std.specs.declared.vec.Vec.{Vec}
+use Rattle.std.specs.declared.alloc.Global.{Global}
 use Rattle.st_form.specs.Condition.{Implication}
 use Rattle.st_certificate.specs.Tree.{Tree, impossible}
 use Rattle.st_certificate.specs.Plain.{plain}
@@ -11,7 +13,7 @@ use Rattle.step_plan.specs.declared.stage.Stage.{Stage}
 use Rattle.step_plan.specs.declared.stage.Stage.TheVariants.{On, Over}
 use Rattle.step_plan.specs.Outcome.{Outcome, ended_view, IsDecided}
 use Rattle.step_run.specs.Conditions.{Posed, setting_of}
-use Rattle.step_run.specs.Verified.{Verified, all_found, by_verdict, verified_from, search_ended}
+use Rattle.step_run.specs.Verified.{Verified, found_before, by_verdict, verified_from, search_ended}
 
 abbrev pub is_valid : Verdict → Bool
 is_valid (Valid certificate) = true
@@ -37,16 +39,47 @@ abbrev pub AreValid : List Verdict → Type 0
 AreValid [] = Unit {0}
 AreValid (v ∷ vs) = (is_valid v ≡ true) × AreValid vs
 
--- the same of all verdicts: with the certificates of all, or at the first condition that isn't valid
-abbrev pub Settled : Posed → List Verdict → Stage (Unit {0}) → Type 0
-Settled x vs (On u) = AreValid vs × (verified_from (setting_of x.program) 1 x.conditions ≡ all_found (trees_in vs))
-Settled x vs (Over ended) = ((all : List Tree → Outcome) → ended_view ended ≡ search_ended x all (verified_from (setting_of x.program) 1 x.conditions)) × IsDecided ended.status
-
 -- no certificate has more nodes than the search makes
 abbrev pub AreModest : List Verdict → Type 0
 AreModest [] = Unit {0}
 AreModest (v ∷ vs) = (nodes (tree_in v) ≤ 100000) × AreModest vs
 
--- the text was written whole, or as far as it is longer than certificates may be
-abbrev pub IsWritten : List ℕ → List ℕ → Type 0
-IsWritten whole text = (rest : List ℕ) × (text ++ rest ≡ whole) × ((268435456 < length text) ⊎ (rest ≡ []))
+-- what the search finds of the conditions from a place on
+unfoldable pub found_from : Posed → ℕ → Verified
+found_from x place = verified_from (setting_of x.program) (place + 1) (drop place x.conditions)
+
+-- the same behind conditions that have these certificates
+abbrev pub all_before : List Tree → Verified → Verified
+all_before [] found = found
+all_before (t ∷ ts) found = found_before t (all_before ts found)
+
+-- the conditions from one place to another are valid, with these certificates
+abbrev pub FoundTo : Posed → ℕ → ℕ → List Tree → Type 0
+FoundTo x from to ts = found_from x from ≡ all_before ts (found_from x to)
+
+-- the run ends as it is defined by what is found from a place on, whatever would come of all certificates
+abbrev pub EndsFrom : Posed → ℕ → Outcome → Type 0
+EndsFrom x place o = (all : List Tree → Outcome) → o ≡ search_ended x all (found_from x place)
+
+-- the verdicts on the conditions from a place on are that these are valid, or the run ends
+abbrev pub Settled : Posed → ℕ → List Verdict → Stage (Unit {0}) → Type 0
+Settled x place vs (On u) = AreValid vs × FoundTo x place (place + length vs) (trees_in vs)
+Settled x place vs (Over ended) = EndsFrom x place (ended_view ended)
+
+-- some conditions from a place on are valid, with these certificates
+pub record AreNext (x : Posed) (place : ℕ) (vs : List Verdict) : Type 0 where
+  pub some : 0 < length vs
+  pub within : place + length vs ≤ length x.conditions
+  pub valid : AreValid vs
+  pub modest : AreModest vs
+  pub found : FoundTo x place (place + length vs) (trees_in vs)
+
+-- the run goes on behind these, or it ends
+abbrev pub GoesFrom : Posed → ℕ → Stage (Vec Verdict Global) → Type 0
+GoesFrom x place (On verdicts) = AreNext x place verdicts.items
+GoesFrom x place (Over ended) = EndsFrom x place (ended_view ended)
+
+-- the text was written whole; or it wasn't, since it would be longer than certificates may be
+abbrev pub IsWritten : List ℕ → List ℕ → Bool → Type 0
+IsWritten whole text true = (text ≡ whole) × (length whole ≤ 268435456)
+IsWritten whole text false = 268435456 < length whole

@@ -1,5 +1,6 @@
 pub mod Checked
 pub mod Conditions
+pub mod Decided
 pub mod Deciding
 pub mod Headline
 pub mod Judged

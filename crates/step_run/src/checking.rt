@@ -93,7 +93,8 @@ pub fn checked<R: Threads + Sync, F: Files, G: Gate + Sync>(
         variables: variables_of(&posed.source.program),
         conditions: posed.conditions.as_slice(),
     };
-    match check_file(rt, alloc, gate, crew(workers, posed), &claims, files, name)? {
+    let workers = crew(workers, claims.conditions);
+    match check_file(rt, alloc, gate, workers, &claims, files, name)? {
         Stage::On(finding) => told(alloc, posed, finding),
         Stage::Over(ended) => Ok(ended),
     }

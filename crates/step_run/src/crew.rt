@@ -2,8 +2,7 @@
 //! program's own, so formulas that nest deeply, as those behind a group may, are left to one worker.
 ghost use Rattle.std.specs.Prelude.{◌<◌};
 
-use crate::posed::Posed;
-use st_form::Form;
+use st_form::{Condition, Form};
 
 /// Levels of nesting for which the system's usual stack is room enough.
 const MOST_LEVELS: u32 = 256;
@@ -30,11 +29,11 @@ fn all_nest_within(levels: u32, forms: &[Form]) -> bool {
 }
 
 /// As many workers as were asked for, or one where a condition nests deeply.
-pub fn crew(workers: u32, posed: &Posed) -> u32
+pub fn crew(workers: u32, conditions: &[Condition]) -> u32
     requires { 0 < workers }
     ensures { 0 < result }
 {
-    let shallow = posed.conditions.iter().all(|condition| {
+    let shallow = conditions.iter().all(|condition| {
         nests_within(MOST_LEVELS, &condition.given) && nests_within(MOST_LEVELS, &condition.shown)
     });
     if shallow { workers } else { 1 }

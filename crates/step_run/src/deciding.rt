@@ -1,11 +1,11 @@
-//! The verdicts on the conditions of a script, up to the first that isn't valid.
+//! The verdicts on the conditions of a script, slice by slice up to the first that isn't valid.
 
-ghost use Rattle.std.specs.Prelude.{◌≡◌, ◌<◌, ◌≤◌, ◌+◌, ◌^◌, ◌++◌, true, length, get_or, IfOk, IsTrue};
-ghost use Rattle.std.specs.List.{prefix_len};
+ghost use Rattle.std.specs.Prelude.{◌≡◌, ◌<◌, ◌≤◌, ◌+◌, ◌-◌, ◌^◌, ◌++◌, length, take, drop, get_or, IfOk, IsTrue};
 ghost use Rattle.std.specs.Option.{option_map};
 ghost use Rattle.std.specs.Thread.{IsSync};
 ghost use Rattle.st_form.specs.Plain.{plain_condition};
 ghost use Rattle.st_form.specs.declared.conditions.Condition.{Condition};
+ghost use Rattle.control_facts.specs.Alternatives.{control_of};
 ghost use Rattle.linear_prover.specs.Plain.{plain_path, plain_shown};
 ghost use Rattle.discharge.specs.Verdicts.{AreAnswers};
 ghost use Rattle.step_report.specs.declared.conditions.Reason.TheVariants.{Open, Wide};
@@ -13,15 +13,14 @@ ghost use Rattle.step_report.specs.Searches.{open_text, wide_text};
 ghost use Rattle.step_plan.specs.Outcome.{ended_view, IsDecided};
 ghost use Rattle.step_run.specs.Conditions.{setting_of};
 ghost use Rattle.step_run.specs.Verified.{undecided};
-ghost use Rattle.step_run.specs.Deciding.{is_valid, EndsAt, Settled};
+ghost use Rattle.step_run.specs.Deciding.{EndsAt, Settled, GoesFrom};
 ghost use Rattle.step_run.specs.Views.{source_view, posed_view};
 ghost use Rattle.step_run.specs.Ready.{IsReady};
 
 use crate::crew::crew;
 use crate::posed::Posed;
 use crate::reports::{not_proved_text, variable_count, variables_of};
-use control_facts::components;
-use discharge::decide_all;
+use discharge::{Components, decide_all};
 use linear_prover::{PathStep, Shown, Verdict, WideStage};
 use st_memory::Memory;
 use st_outside::Gate;
@@ -30,54 +29,45 @@ use std::thread::Threads;
 use step_plan::{Ended, Stage, Status};
 use step_report::Reason;
 
-/// The verdicts on all conditions, in their order.
-pub fn decided<R: Threads + Sync, G: Gate + Sync>(
+/// How many conditions are decided before their verdicts are looked at.
+const SLICE: usize = 64;
+
+/// The place behind the slice that begins at a place.
+fn slice_end(place: usize, size: usize) -> usize
+    requires { place < size }
+    ensures { (place < result) × (result ≤ size) }
+{
+    place + SLICE.min(size - place)
+}
+
+/// The verdicts on the conditions from one place to before another, in their order.
+fn decided<R: Threads + Sync, G: Gate + Sync>(
     rt: &R,
     alloc: Global,
     gate: &G,
     workers: u32,
+    components: &Components,
     posed: &Posed,
+    from: usize,
+    to: usize,
 ) -> Result<Vec<Verdict>, Memory>
     requires workers { 0 < workers }
     requires ready { IsReady posed.now }
-    ensures { IfOk result (λ v. AreAnswers (setting_of (source_view posed.now.source)) posed.now.conditions.items v.items) }
+    requires components { components.now ≡ control_of (source_view posed.now.source).processes }
+    requires places { (from ≤ to) × (to ≤ length posed.now.conditions.items) }
+    ensures { IfOk result (λ v. AreAnswers (setting_of (source_view posed.now.source)) (take (to - from) (drop from posed.now.conditions.items)) v.items) }
 {
-    let components = components(alloc, &posed.source.program)?;
+    let slice = &posed.conditions[from..to];
     let variables = variables_of(&posed.source.program);
     decide_all(
         rt,
         alloc,
         gate,
-        crew(workers, posed),
-        &components,
+        crew(workers, slice),
+        components,
         variables,
-        &posed.conditions,
+        slice,
     )
-}
-
-fn is_valid(verdict: &Verdict) -> bool
-    ensures { result ≡ is_valid verdict.now }
-{
-    match verdict {
-        Verdict::Valid(_) => true,
-        Verdict::Open(_, _) => false,
-        Verdict::Wide(_, _) => false,
-    }
-}
-
-/// How many conditions in front are valid.
-fn valid_count(verdicts: &[Verdict]) -> usize
-    ensures count { result ≡ prefix_len is_valid verdicts.now }
-    ensures within { result ≤ length verdicts.now }
-{
-    let mut count = 0;
-    for verdict in verdicts {
-        if !is_valid(verdict) {
-            return count;
-        }
-        count += 1;
-    }
-    count
 }
 
 /// The end of a run in which the condition at a place is left open.
@@ -156,15 +146,50 @@ fn at_verdict(
     }
 }
 
-/// Goes on where all conditions are valid, and else ends at the first that isn't.
-pub fn all_valid(alloc: Global, posed: &Posed, verdicts: &[Verdict]) -> Result<Stage<()>, Memory>
+/// Goes on where these verdicts on the conditions from a place on are that all are valid, and else ends at the first that
+/// isn't.
+fn all_valid(
+    alloc: Global,
+    posed: &Posed,
+    from: usize,
+    verdicts: &[Verdict],
+) -> Result<Stage<()>, Memory>
     requires ready { IsReady posed.now }
-    requires answers { AreAnswers (setting_of (source_view posed.now.source)) posed.now.conditions.items verdicts.now }
-    ensures { IfOk result (λ s. Settled (posed_view posed.now) verdicts.now s) }
+    requires within { from + length verdicts.now ≤ length posed.now.conditions.items }
+    requires answers { AreAnswers (setting_of (source_view posed.now.source)) (take (length verdicts.now) (drop from posed.now.conditions.items)) verdicts.now }
+    ensures { IfOk result (λ s. Settled (posed_view posed.now) from verdicts.now s) }
 {
-    let place = valid_count(verdicts);
-    match verdicts.get(place) {
-        Some(verdict) => at_verdict(alloc, posed, place, verdict),
-        None => Ok(Stage::On(())),
+    let mut place = from;
+    for verdict in verdicts {
+        match at_verdict(alloc, posed, place, verdict)? {
+            Stage::On(_) => place += 1,
+            Stage::Over(ended) => return Ok(Stage::Over(ended)),
+        }
+    }
+    Ok(Stage::On(()))
+}
+
+/// The certificates of the next conditions, from a place on, where these are valid. Else the run's end at the first that
+/// isn't.
+pub fn next_valid<R: Threads + Sync, G: Gate + Sync>(
+    rt: &R,
+    alloc: Global,
+    gate: &G,
+    workers: u32,
+    components: &Components,
+    posed: &Posed,
+    place: usize,
+) -> Result<Stage<Vec<Verdict>>, Memory>
+    requires workers { 0 < workers }
+    requires ready { IsReady posed.now }
+    requires components { components.now ≡ control_of (source_view posed.now.source).processes }
+    requires place { place < length posed.now.conditions.items }
+    ensures { IfOk result (λ s. GoesFrom (posed_view posed.now) place s) }
+{
+    let end = slice_end(place, posed.conditions.len());
+    let verdicts = decided(rt, alloc, gate, workers, components, posed, place, end)?;
+    match all_valid(alloc, posed, place, &verdicts)? {
+        Stage::On(_) => Ok(Stage::On(verdicts)),
+        Stage::Over(ended) => Ok(Stage::Over(ended)),
     }
 }

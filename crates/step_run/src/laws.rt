@@ -1,10 +1,11 @@
-//! The law of the ends of runs, the contract of a function that does nothing.
+//! Laws of the ends of runs, each the contract of a function that does nothing.
 
 ghost use Rattle.step_run.specs.StatusZero.{EndsShow, EndsAreExact};
+ghost use Rattle.step_run.specs.Decided.{PlansAreDecided};
 
 use block_laws::laws::blocks_are_exact;
 use proof_grammar::laws::{read_scripts_are_spelled, spelled_scripts_are_read};
-use proof_script::laws::{scripts_are_over, scripts_are_proofs};
+use proof_script::laws::{faults_are_named, scripts_are_over, scripts_are_proofs};
 use script_bounds::laws::over_is_written;
 use script_laws::laws::{scripts_are_within, scripts_prove};
 use search_laws::laws::certificates_are_valid;
@@ -29,4 +30,13 @@ pub fn status_zero_is_exact()
     scripts_prove();
     blocks_are_exact();
     certificates_are_valid();
+}
+
+/// The plan of no request ends with want of memory or with a fault of the outside. What a text is refused for is always a
+/// fault at a place or a limit.
+pub fn plans_are_decided()
+    ensures { PlansAreDecided }
+{
+    read_is_typed();
+    faults_are_named();
 }

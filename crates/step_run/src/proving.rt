@@ -1,21 +1,24 @@
-//! What comes of the verdicts on all conditions: the report of `verify`, the certificates of `prove`, the numbers of a
-//! workload.
+//! What comes of a search for the certificates of all conditions: the report of `verify`, the certificates of `prove`, the
+//! numbers of a workload. Of each slice of conditions nothing is kept but what these need.
 
-ghost use Rattle.std.specs.Prelude.{◌≡◌, ◌<◌, ◌≤◌, ◌+◌, ◌++◌, true, length, IfOk, OnOk};
+ghost use Rattle.std.specs.Prelude.{◌≡◌, ◌<◌, ◌≤◌, ◌+◌, ◌*◌, ◌++◌, List, ℕ, true, length, IfOk, OnOk};
 ghost use Rattle.std.specs.Thread.{IsSync};
+ghost use Rattle.st_certificate.specs.Tree.{Tree};
 ghost use Rattle.cert_text.specs.Spelling.{block_text};
 ghost use Rattle.search_laws.specs.Sizes.{nodes};
-ghost use Rattle.step_report.specs.Goals.{blocks_text};
+ghost use Rattle.step_report.specs.Goals.{blocks_text, certificates_text};
 ghost use Rattle.step_plan.specs.Outcome.{ended_view};
 ghost use Rattle.step_run.specs.Verified.{certificates, goals_counted, nodes_in, verified, written, counted};
 ghost use Rattle.step_run.specs.Deciding.{is_valid, tree_in, trees_in, AreValid, AreModest, IsWritten};
 ghost use Rattle.step_run.specs.Views.{posed_view};
 ghost use Rattle.step_run.specs.Ready.{IsReady};
 
-use crate::deciding::{all_valid, decided};
+use crate::deciding::next_valid;
 use crate::posed::Posed;
 use crate::reports::goals_proved;
+use cert_lengths::room_behind_block;
 use cert_text::{Block, write_block, write_header};
+use control_facts::components;
 use linear_prover::Verdict;
 use st_memory::Memory;
 use st_outside::Gate;
@@ -37,62 +40,77 @@ pub fn verified<R: Threads + Sync, G: Gate + Sync>(
     requires ready { IsReady posed.now }
     ensures { IfOk result (λ e. ended_view e ≡ verified (posed_view posed.now)) }
 {
-    let verdicts = decided(rt, alloc, gate, workers, posed)?;
-    match all_valid(alloc, posed, &verdicts)? {
-        Stage::On(_) => goals_proved(alloc, posed),
-        Stage::Over(ended) => Ok(ended),
+    let components = components(alloc, &posed.source.program)?;
+    let mut place = 0;
+    while place < posed.conditions.len() {
+        match next_valid(rt, alloc, gate, workers, &components, posed, place)? {
+            Stage::On(verdicts) => place += verdicts.len(),
+            Stage::Over(ended) => return Ok(ended),
+        }
     }
-}
-
-/// Appends the block of a condition that is valid.
-fn push_block(
-    alloc: Global,
-    text: &mut Vec<u8>,
-    number: u32,
-    verdict: &Verdict,
-) -> Result<(), Memory>
-    ensures { OnOk result ((is_valid verdict.now ≡ true) → text.new.items ≡ text.old.items ++ block_text number (tree_in verdict.now)) }
-{
-    let Verdict::Valid(certificate) = verdict else {
-        return Ok(());
-    };
-    let block = Block {
-        number,
-        certificate: certificate.copy(alloc)?,
-    };
-    write_block(alloc, &block, text)
+    goals_proved(alloc, posed)
 }
 
 /// The most bytes of a text of certificates.
 const MOST: usize = 268_435_456;
 
-/// Appends the blocks of all conditions, as far as the text isn't too long to be checked.
-fn push_blocks(alloc: Global, text: &mut Vec<u8>, verdicts: &[Verdict]) -> Result<(), Memory>
-    requires valid { AreValid verdicts.now }
-    requires few { length verdicts.now ≤ 20000 }
-    ensures { OnOk result (IsWritten (text.old.items ++ blocks_text 1 (trees_in verdicts.now)) text.new.items) }
+/// Appends the block of a condition that is valid, and answers true; or false, and appends nothing, where the text would be
+/// too long to be checked.
+fn push_block(
+    alloc: Global,
+    text: &mut Vec<u8>,
+    number: u32,
+    verdict: Verdict,
+) -> Result<bool, Memory>
+    requires { length text.old.items ≤ 268435456 }
+    ensures { IfOk result (λ fits. is_valid verdict ≡ true → IsWritten (text.old.items ++ block_text number (tree_in verdict)) text.new.items fits) }
 {
-    let mut number = 1u32;
-    for verdict in verdicts {
-        if text.len() > MOST {
-            return Ok(());
-        }
-        push_block(alloc, text, number, verdict)?;
-        number += 1;
+    let Verdict::Valid(certificate) = verdict else {
+        return Ok(true);
+    };
+    let room = MOST + 1 - text.len();
+    if room_behind_block(room, number, &certificate) == 0 {
+        return Ok(false);
     }
-    Ok(())
+    let block = Block {
+        number,
+        certificate,
+    };
+    write_block(alloc, &block, text)?;
+    Ok(true)
 }
 
-/// The text of the certificates of all conditions, unless it is too long to be checked.
-fn certificates(alloc: Global, verdicts: &[Verdict]) -> Result<Ended, Memory>
-    requires valid { AreValid verdicts.now }
-    requires few { length verdicts.now ≤ 20000 }
-    ensures { IfOk result (λ e. ended_view e ≡ certificates (trees_in verdicts.now)) }
+/// Appends the blocks of conditions that are valid, from a number on, as long as the text fits.
+fn push_blocks(
+    alloc: Global,
+    text: &mut Vec<u8>,
+    fits: bool,
+    first: u32,
+    verdicts: Vec<Verdict>,
+) -> Result<bool, Memory>
+    requires short { fits ≡ true → length text.old.items ≤ 268435456 }
+    requires valid { AreValid verdicts.items }
+    requires few { first + length verdicts.items ≤ 20001 }
+    ensures { IfOk result (λ now. (whole : List ℕ) → IsWritten whole text.old.items fits → IsWritten (whole ++ blocks_text first (trees_in verdicts.items)) text.new.items now) }
 {
-    let mut text = Vec::new(alloc);
-    write_header(alloc, &mut text)?;
-    push_blocks(alloc, &mut text, verdicts)?;
-    if text.len() > MOST {
+    if !fits {
+        return Ok(false);
+    }
+    let mut number = first;
+    for verdict in verdicts {
+        if !push_block(alloc, text, number, verdict)? {
+            return Ok(false);
+        }
+        number += 1;
+    }
+    Ok(true)
+}
+
+/// The end of a run whose certificates were written, or don't fit.
+fn certificates(alloc: Global, text: Vec<u8>, fits: bool) -> Result<Ended, Memory>
+    ensures { IfOk result (λ e. (ts : List Tree) → IsWritten (certificates_text ts) text.items fits → ended_view e ≡ certificates ts) }
+{
+    if !fits {
         return limited(alloc, LimitKind::Certificates);
     }
     Ok(Ended {
@@ -111,11 +129,22 @@ pub fn written<R: Threads + Sync, G: Gate + Sync>(
     requires ready { IsReady posed.now }
     ensures { IfOk result (λ e. ended_view e ≡ written (posed_view posed.now)) }
 {
-    let verdicts = decided(rt, alloc, gate, 1, posed)?;
-    match all_valid(alloc, posed, &verdicts)? {
-        Stage::On(_) => certificates(alloc, &verdicts),
-        Stage::Over(ended) => Ok(ended),
+    let components = components(alloc, &posed.source.program)?;
+    let mut text = Vec::new(alloc);
+    write_header(alloc, &mut text)?;
+    let mut fits = true;
+    let mut place = 0;
+    while place < posed.conditions.len() {
+        match next_valid(rt, alloc, gate, 1, &components, posed, place)? {
+            Stage::On(verdicts) => {
+                let first = place as u32 + 1;
+                place += verdicts.len();
+                fits = push_blocks(alloc, &mut text, fits, first, verdicts)?;
+            }
+            Stage::Over(ended) => return Ok(ended),
+        }
     }
+    certificates(alloc, text, fits)
 }
 
 /// The number of nodes of a condition's certificate.
@@ -136,7 +165,8 @@ fn nodes_of(verdicts: &[Verdict]) -> u64
     requires valid { AreValid verdicts.now }
     requires modest { AreModest verdicts.now }
     requires few { length verdicts.now ≤ 20000 }
-    ensures { result ≡ nodes_in (trees_in verdicts.now) }
+    ensures count { result ≡ nodes_in (trees_in verdicts.now) }
+    ensures most { result ≤ 100000 * length verdicts.now }
 {
     let mut count = 0u64;
     for verdict in verdicts {
@@ -146,18 +176,15 @@ fn nodes_of(verdicts: &[Verdict]) -> u64
 }
 
 /// The numbers of goals, of conditions, and of nodes of their certificates.
-fn goals_counted(alloc: Global, posed: &Posed, verdicts: &[Verdict]) -> Result<Ended, Memory>
-    requires valid { AreValid verdicts.now }
-    requires modest { AreModest verdicts.now }
-    requires few { length verdicts.now ≤ 20000 }
-    ensures { IfOk result (λ e. ended_view e ≡ goals_counted (posed_view posed.now) (trees_in verdicts.now)) }
+fn goals_counted(alloc: Global, posed: &Posed, nodes: u64) -> Result<Ended, Memory>
+    ensures { IfOk result (λ e. (ts : List Tree) → nodes ≡ nodes_in ts → ended_view e ≡ goals_counted (posed_view posed.now) ts) }
 {
     let mut text = Vec::new(alloc);
     step_report::counted(
         &mut text,
         &posed.script.steps,
         posed.conditions.len() as u64,
-        nodes_of(verdicts),
+        nodes,
     )?;
     Ok(Ended {
         status: Status::Proved,
@@ -175,9 +202,17 @@ pub fn counted<R: Threads + Sync, G: Gate + Sync>(
     requires ready { IsReady posed.now }
     ensures { IfOk result (λ e. ended_view e ≡ counted (posed_view posed.now)) }
 {
-    let verdicts = decided(rt, alloc, gate, 1, posed)?;
-    match all_valid(alloc, posed, &verdicts)? {
-        Stage::On(_) => goals_counted(alloc, posed, &verdicts),
-        Stage::Over(ended) => Ok(ended),
+    let components = components(alloc, &posed.source.program)?;
+    let mut nodes = 0u64;
+    let mut place = 0;
+    while place < posed.conditions.len() {
+        match next_valid(rt, alloc, gate, 1, &components, posed, place)? {
+            Stage::On(verdicts) => {
+                place += verdicts.len();
+                nodes += nodes_of(&verdicts);
+            }
+            Stage::Over(ended) => return Ok(ended),
+        }
     }
+    goals_counted(alloc, posed, nodes)
 }

@@ -1,22 +1,21 @@
-use Rattle.std.proofs.Common.{refl}
-use Rattle.std.proofs.lemmas.Result.{IfOk-weaker}
-use Rattle.step_run.specs.Conditions.{setting_of}
-use Rattle.step_run.specs.Views.{source_view, posed_view}
-use Rattle.step_run.proofs.Verdicts.{found_at, none_at, place_there, settled_at, settled_all}
+use Rattle.std.proofs.Common.{◌≡◌, ◌+◌, length, refl, arith}
+use Rattle.step_run.specs.Views.{posed_view}
+use Rattle.step_run.proofs.Slices.{one_looked, looked_ends}
 use Rattle.step_run.proofs.deciding.all_valid.Goals as goal
 
-pub at_verdict-requires-clause-place : goal.at_verdict-requires-clause-place
-at_verdict-requires-clause-place c =
-    place_there (setting_of (source_view c.args.posed.now.source)) c.args.posed.now.conditions.items c.args.verdicts.now c.valid_count-place.result c.in-Some.verdict.now c.requires.answers
-    (found_at c.args.verdicts.now c.valid_count-place.result c.in-Some.verdict.now c.in-Some.ensures.lookup.0 c.in-Some.ensures.lookup.1)
+pub returns-in-Over : goal.returns-in-Over
+returns-in-Over c =
+    let a = c.args in
+    let l = c.loop-verdict in
+    looked_ends (posed_view a.posed.now) a.posed.now.conditions.items a.verdicts.now a.from l.verdict-index c.verdict-item.result refl c.requires.within c.requires.answers (omega arith) c.verdict-item.is l.invariant.looked l.place
+    c.in_ok-at_verdict.field-0 c.in-Over.ended l.invariant.place c.in-Over.is c.in_ok-at_verdict.ensures
 
-pub returns-in-Some : goal.returns-in-Some
-returns-in-Some c =
-    IfOk-weaker c.at_verdict.result _ _
-    (λ s h. settled_at (posed_view c.args.posed.now) c.args.posed.now.conditions.items c.args.verdicts.now c.valid_count-place.result c.in-Some.verdict.now s refl c.requires.answers c.valid_count-place.ensures.count
-    (found_at c.args.verdicts.now c.valid_count-place.result c.in-Some.verdict.now c.in-Some.ensures.lookup.0 c.in-Some.ensures.lookup.1) h)
-    c.at_verdict.ensures
-
-pub returns-in-None : goal.returns-in-None
-returns-in-None c =
-    settled_all (posed_view c.args.posed.now) c.args.posed.now.conditions.items c.args.verdicts.now c.valid_count-place.result refl c.requires.answers c.valid_count-place.ensures.count (none_at c.args.verdicts.now c.valid_count-place.result c.in-None.ensures.lookup.0)
+pub loop-verdict-preserved : goal.loop-verdict-preserved
+loop-verdict-preserved c =
+    let a = c.args in
+    let l = c.loop-verdict in
+    record {
+      place = (let at = l.invariant.place in omega (arith, at));
+      looked = one_looked (posed_view a.posed.now) a.posed.now.conditions.items a.verdicts.now a.from l.verdict-index c.verdict-item.result refl c.requires.within c.requires.answers (omega arith) c.verdict-item.is l.invariant.looked l.place
+          c.in_ok-at_verdict.field-0 c.in-On.field-0 l.invariant.place c.in-On.is c.in_ok-at_verdict.ensures;
+    }

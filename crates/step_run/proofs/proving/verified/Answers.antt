@@ -1,20 +1,29 @@
-use Rattle.std.proofs.Common.{◌∙◌, sym}
+use Rattle.std.proofs.Common.{◌≡◌, ◌+◌, length, sym, ◌∙◌, subst, arith}
+use Rattle.std.proofs.lemmas.List.{length-map}
 use Rattle.std.proofs.lemmas.Result.{IfOk-weaker}
+use Rattle.st_form.specs.Plain.{plain_condition}
 use Rattle.step_plan.specs.Outcome.{ended_view}
 use Rattle.step_run.specs.Checked.{goals_proved}
-use Rattle.step_run.specs.Deciding.{trees_in}
 use Rattle.step_run.specs.Views.{posed_view}
-use Rattle.step_run.proofs.Verdicts.{searched_on, searched_over}
+use Rattle.step_run.proofs.Slices.{Come, come_on, come_to_end, come_over}
 use Rattle.step_run.proofs.proving.verified.Goals as goal
 
-pub returns-in-On : goal.returns-in-On
-returns-in-On g c =
+pub loop-place-preserved : goal.loop-place-preserved
+loop-place-preserved g c =
     let x = posed_view c.args.posed.now in
-    let settled = rw (c.in-On.is, c.deref.ensures.value) at c.in_ok-all_valid.ensures in
-    IfOk-weaker c.goals_proved.result _ _ (λ e h. h ∙ sym (searched_on x (λ ts. goals_proved x) (trees_in c.in_ok-verdicts.verdicts.items) settled.1)) c.goals_proved.ensures
+    let next = rw c.in-On.is at c.in_ok-verdicts.ensures in
+    let sized : c.len-place.result ≡ length c.in-On.verdicts.items = omega (arith, c.len-place.ensures, c.in-On.verdicts.ok.0) in
+    let more = come_on x c.loop-place.place (λ ts. Unit {0}) (λ ts. Unit {0}) c.in-On.verdicts.items c.loop-place.invariant next (λ ts many kept. tt) in
+    subst (λ n. Come x (c.loop-place.place + n) (λ ts. Unit {0})) (sym sized) more
+
+pub returns-in-Over : goal.returns-in-Over
+returns-in-Over g c =
+    let x = posed_view c.args.posed.now in
+    come_over x c.loop-place.place (λ ts. Unit {0}) (λ ts. goals_proved x) (ended_view c.in-Over.ended) c.loop-place.invariant (rw c.in-Over.is at c.in_ok-verdicts.ensures)
 
 pub returns : goal.returns
 returns g c =
     let x = posed_view c.args.posed.now in
-    let settled = rw c.in-Over.is at c.in_ok-all_valid.ensures in
-    searched_over x (λ ts. goals_proved x) (ended_view c.in-Over.ended) settled.0
+    let size = length-map c.args.posed.now.conditions.items plain_condition in
+    let done = come_to_end x c.loop-place.place (λ ts. Unit {0}) (λ ts. goals_proved x) (omega (arith, size)) c.loop-place.invariant in
+    IfOk-weaker c.goals_proved.result _ _ (λ e h. h ∙ sym done.2) c.goals_proved.ensures

@@ -1,0 +1,26 @@
+use Rattle.std.proofs.Common.{◌≡◌, ◌+◌, ◌-◌, ◌≤◌, List, length, refl, sym, ap, subst, arith}
+use Rattle.linear_prover.specs.declared.verdict.Verdict.{Verdict}
+use Rattle.step_run.specs.Conditions.{setting_of}
+use Rattle.step_run.specs.Views.{source_view, posed_view}
+use Rattle.step_run.proofs.Slices.{next_answers, goes_next}
+use Rattle.step_run.proofs.deciding.next_valid.Goals as goal
+
+pub all_valid-requires-clause-within : goal.all_valid-requires-clause-within
+all_valid-requires-clause-within g c =
+    let x = c.args.posed.now in
+    let end = c.slice_end-end in
+    let next = next_answers (setting_of (source_view x.source)) x.conditions.items c.in_ok-verdicts.verdicts.items c.args.place end.result (omega arith) (omega arith) c.in_ok-verdicts.ensures in
+    let size = ap length c.deref.ensures.value in
+    omega (arith, next.0, size)
+
+pub all_valid-requires-clause-answers : goal.all_valid-requires-clause-answers
+all_valid-requires-clause-answers g c =
+    let x = c.args.posed.now in
+    let next = next_answers (setting_of (source_view x.source)) x.conditions.items c.in_ok-verdicts.verdicts.items c.args.place c.slice_end-end.result (omega arith) (omega arith) c.in_ok-verdicts.ensures in
+    rw c.deref.ensures.value next.1
+
+pub returns-in-On : goal.returns-in-On
+returns-in-On g c =
+    let x = c.args.posed.now in
+    let settled = rw (c.in-On.is, c.deref.ensures.value) at c.in_ok-all_valid.ensures in
+    goes_next (posed_view x) x.conditions.items c.in_ok-verdicts.verdicts.items c.args.place c.slice_end-end.result refl (omega arith) (omega arith) c.in_ok-verdicts.ensures settled

@@ -13,13 +13,14 @@ use Rattle.spl_typer.specs.ProgramRules.{program_faults}
 use Rattle.block_laws.specs.Checked.{whole_text}
 use Rattle.block_laws.specs.Blocks.{HasBlocks}
 use Rattle.proof_grammar.specs.Grammar.{SpellsScript}
-use Rattle.step_words.specs.Request.{PlainRequest, checks, verifies, proves, makes}
+use Rattle.equation_laws.specs.Equations.{PlainEquation, found}
+use Rattle.step_words.specs.Request.{PlainRequest, checks, verifies, proves, makes, finds}
 use Rattle.step_workload.specs.Texts.{program_text, proof_text}
 use Rattle.step_report.specs.Goals.{proved_text, counted_text, workload_line, certificates_text}
 use Rattle.step_plan.specs.declared.status.Status.{Status}
 use Rattle.step_plan.specs.declared.status.Status.TheVariants.{Proved}
 use Rattle.step_plan.specs.Plan.{Told}
-use Rattle.step_run.specs.Conditions.{setting_of, words_over, conditions_of, passes_limit}
+use Rattle.step_run.specs.Conditions.{system_of, setting_of, words_over, conditions_of, passes_limit}
 use Rattle.step_run.specs.Verified.{nodes_in}
 
 -- The texts of a program and of a proof are well formed: the one spells a program, within the limits of programs, in which no
@@ -31,6 +32,13 @@ pub record Reads (program_text proof_text : List ℕ) (p : Typed) (steps : List 
   pub typed : typing text ≡ Ok p
   pub script : SpellsScript (words_over p) proof_text steps
   pub few : passes_limit p steps ≡ None
+
+-- the text of a program is well formed
+pub record IsProgram (program_text : List ℕ) (p : Typed) : Type 0 where
+  pub text : raw.Program
+  pub spelled : Spells program_text text
+  pub lawful : program_faults text ≡ []
+  pub typed : typing text ≡ Ok p
 
 -- and the text of certificates holds a valid block for each condition, in order, with only blanks behind
 pub record Checks (program_text proof_text certificates : List ℕ) (p : Typed) (steps : List PlainStep) : Type 0 where
@@ -69,7 +77,8 @@ AreShort pt qt = (length pt ≤ 4194304) × (length qt ≤ 4194304)
 abbrev pub IsShort : List ℕ → Type 0
 IsShort ct = length ct ≤ 268435456
 
--- with status 0 goals hold, and the output names them: `prove` writes their certificates, and a workload counts them
+-- with status 0 goals hold, and the output names them: `prove` writes their certificates, a workload counts them, and where
+-- invariants are found it is the text that spells them
 abbrev pub Headline : Told → (List ℕ → Type 0) → Option PlainRequest → Type 0
 Headline told Said (Some (checks a b c)) =
     Both told a b (λ pt qt. IfSome (told c) (λ ct. (p : Typed) × (steps : List PlainStep) × Checks pt qt ct p steps × Hold p steps × Said (report p steps)))
@@ -78,9 +87,12 @@ Headline told Said (Some (proves a b)) =
     Both told a b (λ pt qt. (p : Typed) × (steps : List PlainStep) × (ts : List Tree) × Decides pt qt p steps ts × Hold p steps × Said (certificates_text ts))
 Headline told Said (Some (makes n)) =
     (p : Typed) × (steps : List PlainStep) × (ts : List Tree) × Decides (program_text n) (proof_text n) p steps ts × Hold p steps × Said (workload_line n ++ numbers p steps ts)
+Headline told Said (Some (finds a)) =
+    IfSome (told a) (λ pt. (p : Typed) × (text : List ℕ) × (steps : List PlainStep) × (ts : List Tree) × Decides pt text p steps ts × Hold p steps × Said text)
 Headline told Said _ = ⊥
 
--- status 0 comes exactly where all conditions are discharged, or decided valid
+-- status 0 comes exactly where all conditions are discharged, or decided valid; where invariants are looked for, exactly where no
+-- number is too large
 abbrev pub Exactly : Told → Status → Option PlainRequest → Type 0
 Exactly told status (Some (checks a b c)) =
     Both told a b (λ pt qt. IfSome (told c) (λ ct. (status ≡ Proved) ↔ (AreShort pt qt × IsShort ct × ((p : Typed) × (steps : List PlainStep) × Checks pt qt ct p steps))))
@@ -89,4 +101,6 @@ Exactly told status (Some (verifies a b)) =
 Exactly told status (Some (proves a b)) =
     Both told a b (λ pt qt. (status ≡ Proved) ↔ (AreShort pt qt × ((p : Typed) × (steps : List PlainStep) × (ts : List Tree) × Decides pt qt p steps ts × IsShort (certificates_text ts))))
 Exactly told status (Some (makes n)) = (status ≡ Proved) ↔ ((p : Typed) × (steps : List PlainStep) × (ts : List Tree) × Decides (program_text n) (proof_text n) p steps ts)
+Exactly told status (Some (finds a)) =
+    IfSome (told a) (λ pt. (status ≡ Proved) ↔ ((length pt ≤ 4194304) × ((p : Typed) × (es : List PlainEquation) × IsProgram pt p × (found (system_of p) ≡ Some es))))
 Exactly told status _ = status ≡ Proved → ⊥

@@ -2,6 +2,7 @@ pub mod Checked
 pub mod Conditions
 pub mod Deciding
 pub mod Headline
+pub mod Invariants
 pub mod Outcome
 pub mod Plans
 pub mod Posing

@@ -1,0 +1,75 @@
+//! The formula of an equation.
+
+ghost use Rattle.std.specs.Prelude.{◌≡◌, ◌+ℤ◌, ◌∷◌, [], IfOk, map, true};
+ghost use Rattle.std.specs.Option.{option_map};
+ghost use Rattle.st_form.specs.Plain.{plain, plain_list};
+ghost use Rattle.st_form.specs.Formula.{equal, formulas};
+ghost use Rattle.equation_forms.specs.Formulas.{case_of, cases_slight, short_formula};
+ghost use Rattle.linear_invariants.specs.Plain.{plain_equation};
+ghost use Rattle.equation_writer.specs.Proper.{IsProper};
+ghost use Rattle.equation_writer.specs.Plain.{plain_case};
+ghost use Rattle.equation_writer.specs.Sums.{AreModest};
+
+use crate::cases::{Case, cases, closed};
+use crate::classes::groups;
+use crate::limits::{are_few, cases_slight};
+use control_states::Components;
+use linear_invariants::Equation;
+use st_form::{Form, Lin};
+use st_memory::Memory;
+use std::alloc::Global;
+
+/// The equation in a case.
+fn equation_in(alloc: Global, equation: &Equation, sum: &i128) -> Result<Form, Memory>
+    requires proper { IsProper (plain_equation equation.now) }
+    requires modest { AreModest (([], sum.now) ∷ []) }
+    requires slight { cases_slight (plain_equation equation.now) (([], sum.now) ∷ []) ≡ true }
+    ensures { IfOk result (λ f. plain f ≡ equal (record { constant = equation.now.constant +ℤ sum.now; entries = equation.now.numbers.items })) }
+{
+    match Lin::of_entries(alloc, equation.constant + *sum, &equation.numbers)? {
+        Some(form) => Ok(Form::Equal(form)),
+        None => unreachable!(),
+    }
+}
+
+/// The formula of a case.
+fn case_form(alloc: Global, equation: &Equation, case: Case) -> Result<Form, Memory>
+    requires proper { IsProper (plain_equation equation.now) }
+    requires modest { AreModest (plain_case case ∷ []) }
+    requires slight { cases_slight (plain_equation equation.now) (plain_case case ∷ []) ≡ true }
+    ensures { IfOk result (λ f. plain f ≡ case_of (plain_equation equation.now) (plain_case case)) }
+{
+    let mut parts = case.parts;
+    parts.push(equation_in(alloc, equation, &case.sum)?)?;
+    Ok(closed(parts, true))
+}
+
+/// The formula that is true exactly where an equation holds, or `None` exactly where it has more than 64 cases or 1,024 atoms, or a
+/// number of size past 2^30.
+pub fn form_of(
+    alloc: Global,
+    components: &Components,
+    equation: &Equation,
+) -> Result<Option<Form>, Memory>
+    requires { IsProper (plain_equation equation.now) }
+    ensures { IfOk result (λ o. option_map plain o ≡ short_formula components.now (plain_equation equation.now)) }
+{
+    let groups = groups(
+        alloc,
+        components.owners(),
+        components.count(),
+        &equation.places,
+    )?;
+    if !are_few(alloc, &groups)? {
+        return Ok(None);
+    }
+    let cases = cases(alloc, &groups)?;
+    if !cases_slight(equation, &cases) {
+        return Ok(None);
+    }
+    let mut forms = Vec::with_capacity(alloc, cases.len())?;
+    for case in cases {
+        forms.push(case_form(alloc, equation, case)?)?;
+    }
+    Ok(Some(closed(forms, false)))
+}

@@ -1,5 +1,5 @@
 -- Texts of proofs that grow at their end.
-use Rattle.std.specs.Prelude.{◌≡◌, ℕ, ◌+◌, true, List, [], ◌∷◌, ◌++◌, length, map, All, Ok}
+use Rattle.std.specs.Prelude.{◌≡◌, ℕ, true, List, [], ◌∷◌, ◌++◌, length, Ok}
 use Rattle.st_tokens.specs.Text.{is_line_byte}
 use Rattle.st_tokens.specs.Stream.{Lexeme, text_stream, shifted, ◌++>◌}
 use Rattle.transition_system.specs.Systems.{System}
@@ -24,10 +24,15 @@ NothingStands = (g : Setting) → Stands g [] []
 abbrev pub LinesStand : Type 0
 LinesStand = (g : Setting) (text : List ℕ) (steps : List PlainStep) → script_spelled g.names g.system text ≡ Ok steps → Stands g (text ++ 10 ∷ []) steps
 
+-- no byte is a line feed
+abbrev pub IsLine : List ℕ → Type 0
+IsLine [] = Unit {0}
+IsLine (b ∷ bs) = (is_line_byte b ≡ true) × IsLine bs
+
 -- a comment behind it changes nothing
 abbrev pub CommentsAddNothing : Type 0
 CommentsAddNothing =
-    (g : Setting) (text comment : List ℕ) (steps : List PlainStep) → Stands g text steps → All (λ b. is_line_byte b ≡ true) comment → Stands g (text ++ 37 ∷ comment ++ 10 ∷ []) steps
+    (g : Setting) (text comment : List ℕ) (steps : List PlainStep) → Stands g text steps → IsLine comment → Stands g (text ++ 37 ∷ comment ++ 10 ∷ []) steps
 
 -- what stands is spelled
 abbrev pub StandingIsSpelled : Type 0

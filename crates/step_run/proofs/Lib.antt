@@ -10,3 +10,6 @@ pub mod Filed
 pub mod Tops
 pub mod Typed
 pub mod Verdicts
+pub mod Found
+pub mod Growing
+pub mod Judging

@@ -15,7 +15,7 @@ use Rattle.step_run.specs.declared.refusals.Refusal.{Refusal}
 use Rattle.step_run.specs.Conditions.{steps_spelled, passes_limit}
 use Rattle.step_run.specs.Source.{source_spelled}
 use Rattle.step_run.specs.Request.{NamesFile}
-use Rattle.step_run.specs.Plans.{program_or_end, source_of_text, source_plan, steps_or_end, script_of_text, posed_or_end, obliged, posed_of_text, posed_plan, conditions_plan, check_posed, verify_posed, prove_posed, count_posed, workload_posed, workload_conditions, numbered, plan_for, plan_of}
+use Rattle.step_run.specs.Plans.{program_or_end, source_of_text, source_plan, steps_or_end, script_of_text, posed_or_end, obliged, posed_of_text, posed_plan, conditions_plan, check_posed, verify_posed, prove_posed, count_posed, workload_posed, workload_conditions, numbered, find_in, plan_for, plan_of}
 use Rattle.step_workload.specs.Texts.{program_text, proof_text}
 
 module _ (P : Names) where
@@ -68,7 +68,7 @@ only_for (makes n) =
     let P : Names = NamesFile (Some (makes n)) in
     numbered_only P n (then_plan (workload_conditions n) count_posed) (only_workload P n)
 only_for (traces p q s) = tt
-only_for (finds p) = tt
+only_for (finds p) = let P : Names = NamesFile (Some (finds p)) in only_then P find_in (source_plan p) (refl, only_source P) (λ x. tt)
 
 only_of : (o : Option PlainRequest) → AsksOnly (NamesFile o) (plan_of o)
 only_of None = tt

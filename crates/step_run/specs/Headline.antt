@@ -23,6 +23,13 @@ use Rattle.step_plan.specs.Plan.{Told}
 use Rattle.step_run.specs.Conditions.{system_of, setting_of, words_over, conditions_of, passes_limit}
 use Rattle.step_run.specs.Verified.{nodes_in}
 
+-- The text of a program is well formed: it spells a program, within the limits of programs, in which no rule of typing is broken.
+pub record IsProgram (program_text : List ℕ) (p : Typed) : Type 0 where
+  pub text : raw.Program
+  pub spelled : Spells program_text text
+  pub lawful : program_faults text ≡ []
+  pub typed : typing text ≡ Ok p
+
 -- The texts of a program and of a proof are well formed: the one spells a program, within the limits of programs, in which no
 -- rule of typing is broken, the other a script over it, and no condition of the script passes a limit.
 pub record Reads (program_text proof_text : List ℕ) (p : Typed) (steps : List PlainStep) : Type 0 where
@@ -32,13 +39,6 @@ pub record Reads (program_text proof_text : List ℕ) (p : Typed) (steps : List 
   pub typed : typing text ≡ Ok p
   pub script : SpellsScript (words_over p) proof_text steps
   pub few : passes_limit p steps ≡ None
-
--- the text of a program is well formed
-pub record IsProgram (program_text : List ℕ) (p : Typed) : Type 0 where
-  pub text : raw.Program
-  pub spelled : Spells program_text text
-  pub lawful : program_faults text ≡ []
-  pub typed : typing text ≡ Ok p
 
 -- and the text of certificates holds a valid block for each condition, in order, with only blanks behind
 pub record Checks (program_text proof_text certificates : List ℕ) (p : Typed) (steps : List PlainStep) : Type 0 where

@@ -1,6 +1,7 @@
 pub mod Checked
 pub mod Conditions
 pub mod Deciding
+pub mod Growth
 pub mod Headline
 pub mod Invariants
 pub mod Outcome

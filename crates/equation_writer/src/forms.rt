@@ -44,6 +44,20 @@ fn case_form(alloc: Global, equation: &Equation, case: Case) -> Result<Form, Mem
     Ok(closed(parts, true))
 }
 
+/// The formulas of all cases.
+fn disjuncts(alloc: Global, equation: &Equation, cases: Vec<Case>) -> Result<Vec<Form>, Memory>
+    requires proper { IsProper (plain_equation equation.now) }
+    requires modest { AreModest (map plain_case cases.items) }
+    requires slight { cases_slight (plain_equation equation.now) (map plain_case cases.items) ≡ true }
+    ensures { IfOk result (λ v. map plain v.items ≡ map (case_of (plain_equation equation.now)) (map plain_case cases.items)) }
+{
+    let mut forms = Vec::with_capacity(alloc, cases.len())?;
+    for case in cases {
+        forms.push(case_form(alloc, equation, case)?)?;
+    }
+    Ok(forms)
+}
+
 /// The formula that is true exactly where an equation holds, or `None` exactly where it has more than 64 cases or 1,024 atoms, or a
 /// number of size past 2^30.
 pub fn form_of(
@@ -67,9 +81,5 @@ pub fn form_of(
     if !cases_slight(equation, &cases) {
         return Ok(None);
     }
-    let mut forms = Vec::with_capacity(alloc, cases.len())?;
-    for case in cases {
-        forms.push(case_form(alloc, equation, case)?)?;
-    }
-    Ok(Some(closed(forms, false)))
+    Ok(Some(closed(disjuncts(alloc, equation, cases)?, false)))
 }

@@ -1,12 +1,12 @@
 -- Where the tokens of a text end, and those of a comment.
-use Rattle.std.proofs.Common.{◌≡◌, ℕ, zero, suc, pred, ◌+◌, ◌-◌, true, List, [], ◌∷◌, ◌++◌, length, refl, sym, ap, ◌∙◌, arith, append-nil}
+use Rattle.std.proofs.Common.{◌≡◌, ℕ, zero, suc, pred, ◌+◌, ◌-◌, List, [], ◌∷◌, ◌++◌, length, refl, ap, ◌∙◌, arith, append-nil}
 use Rattle.std.specs.List.{prefix_len}
 use Rattle.st_tokens.specs.declared.kind.TokenFault.TheVariants.{BadByte, LongNumber}
 use Rattle.st_tokens.specs.declared.kind.Front.{Front}
 use Rattle.st_tokens.specs.declared.kind.Front.TheVariants.{Blank, Whole, Bad, Long}
 use Rattle.st_tokens.specs.Text.{front_at, is_line_byte}
 use Rattle.st_tokens.specs.Stream.{Lexeme, Stream, ends, breaks, more, ◌++>◌, lex, begin, text_stream, shifted}
-use Rattle.script_growth.specs.Growing.{IsLine}
+use Rattle.proof_grammar.specs.Growing.{IsLine}
 
 -- the end's place is the text's length
 begins_end : (end q place : ℕ) (bs : List ℕ) (go : ℕ → Stream) (f : Front) (ts : List Lexeme) → ((k : ℕ) (us : List Lexeme) → go k ≡ us ++> ends q → q ≡ end) → begin f place bs go ≡ ts ++> ends q → q ≡ end
@@ -30,10 +30,12 @@ ends_there text ts q h = lex_end (length text) 0 text ts q h
 
 -- tokens further on
 pub shifted_none : (s : Stream) → shifted 0 s ≡ s
-shifted_none (ends place) = refl
-shifted_none (breaks (BadByte place)) = refl
-shifted_none (breaks (LongNumber place)) = refl
-shifted_none (more t s) = ap (more t) (shifted_none s)
+shifted_none (ends place) = ap ends (omega arith)
+shifted_none (breaks (BadByte place)) = ap (λ p. breaks (BadByte p)) (omega arith)
+shifted_none (breaks (LongNumber place)) = ap (λ p. breaks (LongNumber p)) (omega arith)
+shifted_none (more t s) =
+    let place : 0 + t.start ≡ t.start = omega arith in
+    ap (λ (p : ℕ). more (record { kind = t.kind; text = t.text; start = p }) (shifted 0 s)) place ∙ ap (more t) (shifted_none s)
 
 pub shifted_twice : (a b : ℕ) (s : Stream) → shifted a (shifted b s) ≡ shifted (a + b) s
 shifted_twice a b (ends place) = ap ends (omega arith)
@@ -47,7 +49,7 @@ shifted_twice a b (more t s) =
 -- a comment has no token
 line_bytes : (bs : List ℕ) → IsLine bs → prefix_len is_line_byte bs ≡ length bs
 line_bytes [] h = refl
-line_bytes (b ∷ bs) h = rw h.0 (ap suc (line_bytes bs h.1))
+line_bytes (b ∷ bs) h = rw h.0 (omega (arith, line_bytes bs h.1))
 
 passed_over : (end : ℕ) (bs : List ℕ) → lex end (length bs) bs ≡ ends end
 unfolding lex
@@ -56,7 +58,13 @@ passed_over end (b ∷ bs) = passed_over end bs
 
 lex_comment : (end : ℕ) (bs : List ℕ) → IsLine bs → lex end 0 (37 ∷ bs) ≡ ends end
 unfolding lex
-lex_comment end bs h = ap (λ k. lex end k bs) (line_bytes bs h) ∙ passed_over end bs
+lex_comment end bs h =
+    let all : pred (1 + prefix_len is_line_byte bs) ≡ length bs = omega (arith, line_bytes bs h) in
+    ap (λ k. lex end k bs) all ∙ passed_over end bs
 
 pub comment_has_none : (bs : List ℕ) → IsLine bs → text_stream ((37 ∷ bs) ++ []) ≡ ends (length (37 ∷ bs))
 comment_has_none bs h = ap text_stream (append-nil (37 ∷ bs)) ∙ lex_comment (length (37 ∷ bs)) bs h
+
+pub no_text : text_stream [] ≡ ends 0
+unfolding lex
+no_text = refl

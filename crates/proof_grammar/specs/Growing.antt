@@ -2,10 +2,7 @@
 use Rattle.std.specs.Prelude.{◌≡◌, ℕ, true, List, [], ◌∷◌, ◌++◌, length, Ok}
 use Rattle.st_tokens.specs.Text.{is_line_byte}
 use Rattle.st_tokens.specs.Stream.{Lexeme, text_stream, shifted, ◌++>◌}
-use Rattle.transition_system.specs.Systems.{System}
 use Rattle.temporal_goals.specs.Texts.{PlainStep}
-use Rattle.vc_generator.specs.Building.{Draft}
-use Rattle.script_laws.specs.Script.{script_list}
 use Rattle.proof_script.specs.Listing.{Setting}
 use Rattle.proof_script.specs.Script.{script_spelled}
 use Rattle.proof_grammar.specs.Grammar.{IsScript, SpellsScript}
@@ -32,7 +29,7 @@ IsLine (b ∷ bs) = (is_line_byte b ≡ true) × IsLine bs
 -- a comment behind it changes nothing
 abbrev pub CommentsAddNothing : Type 0
 CommentsAddNothing =
-    (g : Setting) (text comment : List ℕ) (steps : List PlainStep) → Stands g text steps → IsLine comment → Stands g (text ++ 37 ∷ comment ++ 10 ∷ []) steps
+    (g : Setting) (text comment : List ℕ) (steps : List PlainStep) → Stands g text steps → IsLine comment → Stands g (text ++ (37 ∷ comment ++ 10 ∷ [])) steps
 
 -- what stands is spelled
 abbrev pub StandingIsSpelled : Type 0
@@ -43,7 +40,3 @@ abbrev pub ScriptsGoOn : Type 0
 ScriptsGoOn =
     (g : Setting) (text behind : List ℕ) (steps longer : List PlainStep) → Stands g text steps → script_spelled g.names g.system (text ++ behind) ≡ Ok longer
     → (further : List PlainStep) × (longer ≡ steps ++ further)
-
--- so the conditions are the same, and maybe more
-abbrev pub ConditionsGoOn : Type 0
-ConditionsGoOn = (system : System) (steps further : List PlainStep) → (ds : List Draft) × (script_list system (steps ++ further) ≡ script_list system steps ++ ds)

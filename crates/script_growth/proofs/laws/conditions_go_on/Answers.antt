@@ -1,5 +1,0 @@
-use Rattle.script_growth.proofs.Standing as proved
-use Rattle.script_growth.proofs.laws.conditions_go_on.Goals as goal
-
-pub returns : goal.returns
-returns c = proved.conditions_go_on

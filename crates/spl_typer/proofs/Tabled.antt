@@ -199,3 +199,7 @@ pub as_many : (p : raw.Program) (t : Typed) → typing p ≡ Ok t → length t.n
 as_many p t e =
     let fitted : Fitted t = subst (Holds Fitted) e (typing_fitted p) in
     sym (length-map t.names.variables (λ x. x.1)) ∙ ap length fitted.0 ∙ length-map t.variables (λ v. v.truth)
+
+-- by the variables' types, in their order
+pub kinds_stand : (p : raw.Program) (t : Typed) → typing p ≡ Ok t → map (λ x. x.1) t.names.variables ≡ map (λ v. v.truth) t.variables
+kinds_stand p t e = let fitted : Fitted t = subst (Holds Fitted) e (typing_fitted p) in fitted.0

@@ -1,7 +1,9 @@
 //! What is reported of a given run.
 
 ghost use Rattle.std.specs.Prelude.{◌≡◌, ◌<◌, ◌^◌, ◌++◌, length, map, OnOk};
+ghost use Rattle.std.specs.Fmt.{decimal};
 ghost use Rattle.temporal_goals.specs.Plain.{plain_step};
+ghost use Rattle.step_report.specs.Names.{line};
 ghost use Rattle.step_report.specs.Traces.{moves_limit_text, illegal_start_text, illegal_move_text, value_limit_text, round_lines, judged_text, judged_lines, played_text};
 
 use crate::goals::push_goal;
@@ -10,6 +12,15 @@ use run_judging::Judged;
 use st_memory::Memory;
 use st_program::NameTable;
 use temporal_goals::Step;
+
+/// A line of a text and a number.
+fn push_numbered(out: &mut Vec<u8>, text: &[u8], number: u64) -> Result<(), Memory>
+    ensures { OnOk result (out.new.items ≡ out.old.items ++ line (text.now ++ decimal number)) }
+{
+    push_text(out, text)?;
+    push_number(out, number)?;
+    push_text(out, b"\n")
+}
 
 /// Appends the text for a schedule of more moves than are read.
 pub fn moves_limited(out: &mut Vec<u8>) -> Result<(), Memory>
@@ -29,18 +40,15 @@ pub fn illegal_start(out: &mut Vec<u8>) -> Result<(), Memory>
 pub fn illegal_move(out: &mut Vec<u8>, number: u32) -> Result<(), Memory>
     ensures { OnOk result (out.new.items ≡ out.old.items ++ illegal_move_text number) }
 {
-    push_text(out, b"illegal: move ")?;
-    push_number(out, u64::from(number) + 1)?;
-    push_text(out, b"\n")
+    let counted = u64::from(number) + 1;
+    push_numbered(out, b"illegal: move ", counted)
 }
 
 /// Appends the text for a position at which a number is too large.
 pub fn value_limit(out: &mut Vec<u8>, position: u32) -> Result<(), Memory>
     ensures { OnOk result (out.new.items ≡ out.old.items ++ value_limit_text position) }
 {
-    push_text(out, b"value limit: position ")?;
-    push_number(out, u64::from(position))?;
-    push_text(out, b"\n")
+    push_numbered(out, b"value limit: position ", u64::from(position))
 }
 
 fn push_rounds(out: &mut Vec<u8>, counts: &[u32]) -> Result<(), Memory>
@@ -85,11 +93,16 @@ fn push_all_judged(
     requires { variables ≡ length names.now.variables }
     ensures { OnOk result (out.new.items ≡ out.old.items ++ judged_lines names.now (map plain_step steps.now) judged.now) }
 {
-    for (step, verdict) in steps.iter().zip(judged.iter()) {
+    let mut rest = judged;
+    for step in steps {
+        let Some((verdict, others)) = rest.split_first() else {
+            return Ok(());
+        };
         push_goal(out, names, variables, step.name.as_bytes(), &step.goal)?;
         push_text(out, b": ")?;
         push_judged(out, *verdict)?;
         push_text(out, b"\n")?;
+        rest = others;
     }
     Ok(())
 }

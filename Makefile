@@ -1,0 +1,26 @@
+# Installs the built program as `milkhour`, with its man page, completions for bash and zsh, and syntax for vim and pygments.
+#
+#   make                      builds the program, as README does
+#   make install              PREFIX=/usr/local by default; DESTDIR stands before all paths
+#   make uninstall            removes what `make install` with the same PREFIX and DESTDIR has put there
+
+PREFIX = /usr/local
+DESTDIR =
+
+built = crates/step_main/out/step_main
+shared := $(shell find share -type f | LC_ALL=C sort)
+prefix = $(DESTDIR)$(PREFIX)
+
+all:
+	cd crates/step_main && rt run -- check data/program data/proof data/certs
+
+install:
+	@test -x $(built) || { echo "$(built) isn't there: make builds it" >&2; exit 1; }
+	install -D -m 755 $(built) "$(prefix)/bin/milkhour"
+	for file in $(shared); do install -D -m 644 "$$file" "$(prefix)/$$file" || exit 1; done
+
+uninstall:
+	rm -f "$(prefix)/bin/milkhour"
+	for file in $(shared); do rm -f "$(prefix)/$$file" || exit 1; done
+
+.PHONY: all install uninstall

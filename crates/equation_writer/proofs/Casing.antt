@@ -1,6 +1,6 @@
 -- What the components add in the cases is small, where there are few cases.
-use Rattle.std.proofs.Common.{◌≡◌, ◌≢◌, ℕ, zero, suc, ◌+◌, ◌-◌, ◌*◌, ◌^◌, ◌<◌, ◌≤◌, Bool, true, false, ◌&&◌, ◌||◌, List, [], ◌∷◌, ◌++◌, length, map, drop, refl, sym, ap, ◌∙◌, subst, arith, ℤ, pos, negsuc, ◌+ℤ◌}
-use Rattle.std.specs.Prelude.{filter, flat_map, IsTrue, unsigned_abs, nat_lt, nat_le, ◌==◌, cond, slice_index_or}
+use Rattle.std.proofs.Common.{◌≡◌, ℕ, zero, suc, ◌+◌, ◌*◌, ◌^◌, ◌<◌, ◌≤◌, Bool, true, false, ◌&&◌, ◌||◌, List, [], ◌∷◌, ◌++◌, length, map, drop, refl, sym, subst, arith, rules, ℤ, pos, ◌+ℤ◌}
+use Rattle.std.specs.Prelude.{IsTrue, unsigned_abs, ◌==◌, cond, slice_index_or}
 use Rattle.std.specs.List.{list_any}
 use Rattle.std.specs.Ordering.{int_eq}
 use Rattle.std.proofs.lemmas.Int.{ints}
@@ -10,9 +10,8 @@ use Rattle.st_form.specs.Formula.{Formula}
 use Rattle.equation_forms.specs.Formulas.{Terms, terms_of, with_terms, groups, fresh, classes, choices}
 use Rattle.equation_writer.specs.Sizes.{case_count}
 use Rattle.equation_writer.specs.Sums.{with_class, with_classes, AreModest, AreSmall, AreNonzero, IsGroup, AreGroups}
-use Rattle.equation_writer.proofs.Counting.{count-grows}
 
-both : (a b : Bool) → (a && b) ≡ true → (a ≡ true) × (b ≡ true)
+pub both : (a b : Bool) → (a && b) ≡ true → (a ≡ true) × (b ≡ true)
 both true b h = (refl, h)
 both false b h = absurd cc
 
@@ -32,7 +31,7 @@ fresh-small seen (t ∷ ts) h =
     by true s a b = a
     by false s a b = (s, b)
 
-zero-small : IsTrue (is_small (pos 0))
+pub zero-small : IsTrue (is_small (pos 0))
 unfolding is_within
 zero-small = search rules
 
@@ -82,7 +81,9 @@ classes-within m ts (k ∷ ks) xs small h =
 
 choices-within : (gs : List Terms) → AreGroups gs → AllWithin (length gs * 2 ^ 100) (choices gs)
 choices-within [] h = (omega arith, tt)
-choices-within (ts ∷ gs) h = classes-within (length gs * 2 ^ 100) ts (classes ts) (choices gs) (classes-small ts h.0) (choices-within gs h.1)
+choices-within (ts ∷ gs) h =
+    let sum : 2 ^ 100 + length gs * 2 ^ 100 ≡ length (ts ∷ gs) * 2 ^ 100 = omega arith in
+    subst (λ (m : ℕ). AllWithin m (choices (ts ∷ gs))) sum (classes-within (length gs * 2 ^ 100) ts (classes ts) (choices gs) (classes-small ts h.0) (choices-within gs h.1))
 
 all-modest : (m : ℕ) (xs : List (List Formula × ℤ)) → m < 2 ^ 110 → AllWithin m xs → AreModest xs
 all-modest m [] l h = tt

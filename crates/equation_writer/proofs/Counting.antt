@@ -1,6 +1,6 @@
 -- How many cases and atoms there are.
-use Rattle.std.proofs.Common.{◌≡◌, ◌≢◌, ℕ, zero, suc, ◌+◌, ◌*◌, ◌<◌, ◌≤◌, Bool, true, false, List, [], ◌∷◌, ◌++◌, length, map, drop, refl, sym, ap, ◌∙◌, arith, length-append, ℤ, pos, negsuc, ◌+ℤ◌}
-use Rattle.std.specs.Prelude.{filter, flat_map}
+use Rattle.std.proofs.Common.{◌≡◌, ◌≢◌, ℕ, zero, suc, ◌+◌, ◌*◌, ◌≤◌, Bool, true, false, List, [], ◌∷◌, ◌++◌, length, map, drop, refl, ap, ◌∙◌, arith, length-append, ℤ, pos, negsuc, ◌+ℤ◌}
+use Rattle.std.specs.Prelude.{filter}
 use Rattle.std.specs.Ordering.{int_eq}
 use Rattle.std.proofs.lemmas.List.{length-map}
 use Rattle.st_form.specs.Formula.{Formula, Formulas, none, more, formulas, equal, at, negation, atoms, atoms_of}
@@ -14,6 +14,12 @@ use Rattle.equation_writer.specs.Sums.{with_class, with_classes}
 -- a product with some factor
 times-some : (n x : ℕ) → x ≤ suc n * x
 times-some n x = omega arith
+
+-- the atoms of a class that isn't 0
+pub other-class : (ts : Terms) (k : ℤ) → k ≢ pos 0 → class_atoms ts k ≡ length (filter (λ t. int_eq t.1 k) ts)
+other-class ts (pos zero) n = absurd (n refl)
+other-class ts (pos (suc m)) n = refl
+other-class ts (negsuc m) n = refl
 
 -- fewer components have no more cases
 pub count-grows : (k : ℕ) (gs : List Terms) → case_count (drop k gs) ≤ case_count gs
@@ -36,7 +42,7 @@ closed-atoms true (more f (more g fs)) = refl
 closed-atoms false (more f (more g fs)) = refl
 
 append-atoms : (fs gs : List Formula) → atoms_of (formulas (fs ++ gs)) ≡ atoms_of (formulas fs) + atoms_of (formulas gs)
-append-atoms [] gs = refl
+append-atoms [] gs = omega arith
 append-atoms (f ∷ fs) gs = omega (arith, append-atoms fs gs)
 
 absence-atoms : (ts : Terms) → atoms_of (formulas (map (λ t. negation (at t.0)) ts)) ≡ length ts
@@ -61,29 +67,21 @@ all-atoms [] = 0
 all-atoms (x ∷ xs) = (atoms_of (formulas x.0) + 1) + all-atoms xs
 
 all-append : (xs ys : List (List Formula × ℤ)) → all-atoms (xs ++ ys) ≡ all-atoms xs + all-atoms ys
-all-append [] ys = refl
+all-append [] ys = omega arith
 all-append (x ∷ xs) ys = omega (arith, all-append xs ys)
 
 class-atoms : (ts : Terms) (k : ℤ) (xs : List (List Formula × ℤ)) → all-atoms (map (with_class ts k) xs) ≡ length xs * class_atoms ts k + all-atoms xs
-class-atoms ts k [] = refl
+class-atoms ts k [] = omega arith
 class-atoms ts k (x ∷ xs) = omega (arith, class-atoms ts k xs, append-atoms (whereabouts ts k) x.0, whereabouts-atoms ts k)
 
 classes-count : (ts : Terms) (ks : List ℤ) (xs : List (List Formula × ℤ)) → length (with_classes ts ks xs) ≡ length ks * length xs
-classes-count ts [] xs = refl
+classes-count ts [] xs = omega arith
 classes-count ts (k ∷ ks) xs = omega (arith, length-append (map (with_class ts k) xs) (with_classes ts ks xs), length-map xs (with_class ts k), classes-count ts ks xs)
 
-times-plus : (n a b : ℕ) → n * (a + b) ≡ n * a + n * b
-times-plus zero a b = refl
-times-plus (suc n) a b = omega (arith, times-plus n a b)
-
 classes-all : (ts : Terms) (ks : List ℤ) (xs : List (List Formula × ℤ)) → all-atoms (with_classes ts ks xs) ≡ length xs * classes_atoms ts ks + length ks * all-atoms xs
-classes-all ts [] xs = omega (arith, times-zero (length xs))
-  where
-    times-zero : (n : ℕ) → n * 0 ≡ 0
-    times-zero zero = refl
-    times-zero (suc n) = times-zero n
+classes-all ts [] xs = omega arith
 classes-all ts (k ∷ ks) xs =
-    omega (arith, all-append (map (with_class ts k) xs) (with_classes ts ks xs), class-atoms ts k xs, classes-all ts ks xs, times-plus (length xs) (class_atoms ts k) (classes_atoms ts ks))
+    omega (arith, all-append (map (with_class ts k) xs) (with_classes ts ks xs), class-atoms ts k xs, classes-all ts ks xs)
 
 pub choices-count : (gs : List Terms) → length (choices gs) ≡ case_count gs
 choices-count [] = refl

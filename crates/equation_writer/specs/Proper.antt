@@ -1,7 +1,6 @@
 -- What equations that are found keep: variables and locations rise, no coefficient is 0, and each number is below 2^100 in size.
-use Rattle.std.specs.Prelude.{◌≡◌, IsTrue, List, Some}
+use Rattle.std.specs.Prelude.{◌≡◌, IsTrue, List, [], ◌∷◌, Some}
 use Rattle.st_linear.specs.Linear.{is_small}
-use Rattle.null_laws.specs.Bases.{AllMeet}
 use Rattle.matrix_rows.specs.Rows.{IsKept}
 use Rattle.transition_system.specs.Systems.{System}
 use Rattle.transition_system.specs.Bounds.{IsSystem}
@@ -12,5 +11,9 @@ pub record IsProper (e : PlainEquation) : Type 0 where
   pub places : IsKept e.places
   pub constant : IsTrue (is_small e.constant)
 
+abbrev pub AreProper : List PlainEquation → Type 0
+AreProper [] = Unit {0}
+AreProper (e ∷ es) = IsProper e × AreProper es
+
 abbrev pub FoundAreProper : Type 0
-FoundAreProper = (system : System) (es : List PlainEquation) → IsSystem system → found system ≡ Some es → AllMeet IsProper es
+FoundAreProper = (system : System) (es : List PlainEquation) → IsSystem system → found system ≡ Some es → AreProper es

@@ -1,5 +1,5 @@
 -- What the components add in the cases, and that it is small.
-use Rattle.std.specs.Prelude.{◌≢◌, ℕ, ◌<◌, ◌^◌, IsTrue, List, [], ◌∷◌, ◌++◌, map, flat_map, length, ℤ, pos, ◌+ℤ◌, unsigned_abs}
+use Rattle.std.specs.Prelude.{◌≢◌, ◌<◌, ◌^◌, IsTrue, List, [], ◌∷◌, ◌++◌, map, flat_map, length, ℤ, pos, ◌+ℤ◌, unsigned_abs}
 use Rattle.st_linear.specs.Linear.{is_small, are_small}
 use Rattle.st_form.specs.Formula.{Formula}
 use Rattle.equation_forms.specs.Formulas.{Terms, whereabouts}

@@ -1,6 +1,6 @@
 -- How formulas are printed: by the grammar of proof texts, with parentheses round a conjunction or a disjunction inside another
 -- formula.
-use Rattle.std.specs.Prelude.{ℕ, zero, suc, true, false, List, [], ◌++◌, codes}
+use Rattle.std.specs.Prelude.{ℕ, Bool, true, false, List, [], ◌++◌, codes}
 use Rattle.st_form.specs.Formula.{Formula, Formulas, truth_value, row, equal, bool_var, at, negation, every, some, none, more}
 use Rattle.st_program.specs.Names.{Names}
 use Rattle.step_report.specs.Names.{variable_text, location_text}
@@ -38,7 +38,7 @@ abbrev mutual
   further_text names sign none = []
   further_text names sign (more f fs) = sign ++ opening f ++ formula_text names f ++ closing f ++ further_text names sign fs
 
--- the parts from one on, the first of which has the number i
-abbrev pub from_part : Names → List ℕ → List ℕ → ℕ → Formulas → List ℕ
-from_part names sign empty zero fs = joined_text names sign empty fs
-from_part names sign empty (suc i) fs = further_text names sign fs
+-- the parts from one on, which may be the first
+abbrev pub from_part : Names → List ℕ → List ℕ → Bool → Formulas → List ℕ
+from_part names sign empty true fs = joined_text names sign empty fs
+from_part names sign empty false fs = further_text names sign fs

@@ -1,7 +1,7 @@
 //! The cases of a formula: for each component one of its classes, the first component weighing most. They are made from the last
 //! component to the first, so each step at least doubles what it goes over.
 
-ghost use Rattle.std.specs.Prelude.{◌≡◌, ◌++◌, ◌+ℤ◌, ◌^◌, [], true, false, IfOk, OnOk, IsTrue, map, filter};
+ghost use Rattle.std.specs.Prelude.{◌≡◌, ◌++◌, ◌∷◌, [], true, IfOk, OnOk, IsTrue, map, filter};
 ghost use Rattle.std.specs.Ordering.{int_eq};
 ghost use Rattle.st_linear.specs.Linear.{is_small};
 ghost use Rattle.st_form.specs.Formula.{at, negation};
@@ -10,9 +10,10 @@ ghost use Rattle.st_form.specs.Simple.{closed};
 ghost use Rattle.equation_forms.specs.Formulas.{classes, whereabouts, choices};
 ghost use Rattle.equation_writer.specs.Plain.{plain_terms, plain_case};
 ghost use Rattle.equation_writer.specs.Sizes.{are_few};
-ghost use Rattle.equation_writer.specs.Sums.{AreModest, AreGroups, AreSmall, with_class, with_classes};
+ghost use Rattle.equation_writer.specs.Sums.{AreModest, AreSmall, IsGroup, AreGroups, with_class, with_classes};
 
 use crate::classes::{Terms, classes};
+use crate::sums::sum;
 use st_form::{Form, copy_all};
 use st_memory::Memory;
 use std::alloc::Global;
@@ -32,13 +33,7 @@ pub(crate) fn closed(mut parts: Vec<Form>, all: bool) -> Form
     if parts.len() < 2 {
         return match parts.pop() {
             Some(only) => only,
-            None => {
-                if all {
-                    Form::True
-                } else {
-                    Form::False
-                }
-            }
+            None => { if all { Form::True } else { Form::False } }
         };
     }
     if all {
@@ -69,9 +64,10 @@ fn locations_with(
 {
     let mut out = Vec::new(alloc);
     for t in terms {
-        if t.1 == *coefficient {
-            out.push(Form::At(t.0))?;
+        if t.1 != *coefficient {
+            continue;
         }
+        out.push(Form::At(t.0))?;
     }
     Ok(out)
 }
@@ -109,7 +105,7 @@ fn with_class(
     parts.append(&mut rest)?;
     Ok(Case {
         parts,
-        sum: *class + case.sum,
+        sum: sum(class, &case.sum),
     })
 }
 
@@ -150,6 +146,16 @@ fn with_classes(
     Ok(out)
 }
 
+/// The cases of the components behind, with a further component in front.
+fn with_group(alloc: Global, terms: &[(u32, i128)], cases: &[Case]) -> Result<Vec<Case>, Memory>
+    requires group { IsGroup terms.now }
+    requires modest { AreModest (map plain_case cases.now) }
+    ensures { IfOk result (λ v. map plain_case v.items ≡ with_classes terms.now (classes terms.now) (map plain_case cases.now)) }
+{
+    let classes = classes(alloc, terms)?;
+    with_classes(alloc, terms, &classes, cases)
+}
+
 /// All cases.
 pub(crate) fn cases(alloc: Global, groups: &[Terms]) -> Result<Vec<Case>, Memory>
     requires few { are_few (plain_terms groups.now) ≡ true }
@@ -164,8 +170,7 @@ pub(crate) fn cases(alloc: Global, groups: &[Terms]) -> Result<Vec<Case>, Memory
     let mut left = groups.len();
     while left > 0 {
         left -= 1;
-        let classes = classes(alloc, &groups[left])?;
-        out = with_classes(alloc, &groups[left], &classes, &out)?;
+        out = with_group(alloc, &groups[left], &out)?;
     }
     Ok(out)
 }

@@ -1,6 +1,6 @@
 //! The components at whose locations an equation has coefficients, and the numbers that each may add.
 
-ghost use Rattle.std.specs.Prelude.{◌≡◌, IfOk, length, map, slice_index_or};
+ghost use Rattle.std.specs.Prelude.{◌≡◌, IfOk, slice_index_or};
 ghost use Rattle.std.specs.List.{list_any};
 ghost use Rattle.std.specs.Ordering.{int_eq};
 ghost use Rattle.equation_forms.specs.Formulas.{terms_of, groups, classes};
@@ -52,9 +52,10 @@ pub(crate) fn groups(
     let mut out = Vec::new(alloc);
     for component in 0..components {
         let terms = terms_of(alloc, owners, component, places)?;
-        if !terms.is_empty() {
-            out.push(terms)?;
+        if terms.is_empty() {
+            continue;
         }
+        out.push(terms)?;
     }
     Ok(out)
 }

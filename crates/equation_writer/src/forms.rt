@@ -13,6 +13,7 @@ ghost use Rattle.equation_writer.specs.Sums.{AreModest};
 use crate::cases::{Case, cases, closed};
 use crate::classes::groups;
 use crate::limits::{are_few, cases_slight};
+use crate::sums::sum;
 use control_states::Components;
 use linear_invariants::Equation;
 use st_form::{Form, Lin};
@@ -20,13 +21,13 @@ use st_memory::Memory;
 use std::alloc::Global;
 
 /// The equation in a case.
-fn equation_in(alloc: Global, equation: &Equation, sum: &i128) -> Result<Form, Memory>
+fn equation_in(alloc: Global, equation: &Equation, added: &i128) -> Result<Form, Memory>
     requires proper { IsProper (plain_equation equation.now) }
-    requires modest { AreModest (([], sum.now) ∷ []) }
-    requires slight { cases_slight (plain_equation equation.now) (([], sum.now) ∷ []) ≡ true }
-    ensures { IfOk result (λ f. plain f ≡ equal (record { constant = equation.now.constant +ℤ sum.now; entries = equation.now.numbers.items })) }
+    requires modest { AreModest (([], added.now) ∷ []) }
+    requires slight { cases_slight (plain_equation equation.now) (([], added.now) ∷ []) ≡ true }
+    ensures { IfOk result (λ f. plain f ≡ equal (record { constant = equation.now.constant +ℤ added.now; entries = equation.now.numbers.items })) }
 {
-    match Lin::of_entries(alloc, equation.constant + *sum, &equation.numbers)? {
+    match Lin::of_entries(alloc, sum(&equation.constant, added), &equation.numbers)? {
         Some(form) => Ok(Form::Equal(form)),
         None => unreachable!(),
     }

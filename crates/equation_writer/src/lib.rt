@@ -9,6 +9,7 @@ mod forms;
 pub mod laws;
 mod limits;
 mod sentences;
+mod sums;
 mod texts;
 
 pub use forms::form_of;

@@ -1,6 +1,6 @@
 //! The limits of a formula, which are decided before it is made: at most 64 cases and 1,024 atoms, and no number past 2^30.
 
-ghost use Rattle.std.specs.Prelude.{◌≡◌, ◌≤◌, ◌+◌, ◌*◌, ◌^◌, IfOk, IsTrue, length, map};
+ghost use Rattle.std.specs.Prelude.{◌≡◌, ◌≤◌, ◌*◌, ◌^◌, IfOk, IsTrue, length, map};
 ghost use Rattle.st_linear.specs.Linear.{is_small};
 ghost use Rattle.equation_forms.specs.Formulas.{is_slight, are_slight, cases_slight};
 ghost use Rattle.equation_writer.specs.Plain.{plain_terms, plain_case};
@@ -10,12 +10,14 @@ ghost use Rattle.linear_invariants.specs.Plain.{plain_equation};
 
 use crate::cases::Case;
 use crate::classes::{Terms, classes};
+use crate::sums::sum;
 use linear_invariants::Equation;
 use st_memory::Memory;
 use std::alloc::Global;
 
 /// The most cases, and the most atoms.
 const CASES: u128 = 64;
+
 const ATOMS: u128 = 1024;
 
 /// The largest size of a written number.
@@ -59,14 +61,18 @@ pub(crate) fn are_few(alloc: Global, groups: &[Terms]) -> Result<bool, Memory>
     let mut left = groups.len();
     while left > 0 {
         left -= 1;
-        let classes = classes(alloc, &groups[left])?;
+        let terms = groups[left].as_slice();
+        let classes = classes(alloc, terms)?;
         if classes.len() > CASES as usize {
             return Ok(false);
         }
         let count = classes.len() as u128;
-        atoms = cases * classes_atoms(&groups[left], &classes) + count * atoms;
+        atoms = cases * classes_atoms(terms, &classes) + count * atoms;
         cases *= count;
-        if cases > CASES || atoms > ATOMS {
+        if cases > CASES {
+            return Ok(false);
+        }
+        if atoms > ATOMS {
             return Ok(false);
         }
     }
@@ -97,7 +103,10 @@ pub(crate) fn cases_slight(equation: &Equation, cases: &[Case]) -> bool
     ensures { result ≡ cases_slight (plain_equation equation.now) (map plain_case cases.now) }
 {
     for case in cases {
-        if !is_slight(&(equation.constant + case.sum)) || !are_slight(&equation.numbers) {
+        if !is_slight(&sum(&equation.constant, &case.sum)) {
+            return false;
+        }
+        if !are_slight(&equation.numbers) {
             return false;
         }
     }

@@ -141,15 +141,15 @@ fn push_joined(
     if parts.is_empty() {
         return push_text(out, empty);
     }
-    let mut number = 0u64;
+    let mut first = true;
     for part in parts {
-        if number > 0 {
+        if !first {
             push_text(out, sign)?;
         }
         push_opening(out, part)?;
         push_formula(out, names, variables, part)?;
         push_closing(out, part)?;
-        number += 1;
+        first = false;
     }
     Ok(())
 }

@@ -8,9 +8,9 @@ use Rattle.spl_typer.specs.Programs.{Typed}
 use Rattle.proof_script.specs.Listing.{Setting}
 use Rattle.proof_grammar.specs.Grammar.{SpellsScript, IsScript, no_further_step}
 use Rattle.equation_laws.specs.Equations.{PlainEquation, found}
-use Rattle.script_growth.proofs.Standing.{nothing_stands, lines_stand, comments_add_nothing, standing_is_spelled}
+use Rattle.proof_grammar.proofs.Growing.{nothing_stands, lines_stand, comments_add_nothing, standing_is_spelled}
 use Rattle.step_plan.specs.declared.status.Status.TheVariants.{Proved}
-use Rattle.step_plan.specs.Outcome.{Outcome}
+use Rattle.step_plan.specs.Outcome.{Outcome, IsDecided}
 use Rattle.step_plan.specs.Plan.{Told, Plan, then_plan, EndsIn}
 use Rattle.step_run.specs.declared.refusals.Refusal.{Refusal}
 use Rattle.step_run.specs.declared.refusals.Refusal.TheVariants.{Fault, Limit, Memory}
@@ -78,3 +78,11 @@ nothing_passes p = rw (no-conditions p) refl
 
 pub no_script : (g : Setting) → SpellsScript g [] []
 no_script g = standing_is_spelled g [] [] (nothing_stands g)
+
+-- an end that is no fault
+pub looked-decided : (p : Typed) → IsDecided (invariants_of p).status
+unfolding invariants_of
+looked-decided p = by (found (system_of p)) where
+  by : (r : Option (List PlainEquation)) → IsDecided (looked_for p r).status
+  by None = tt
+  by (Some es) = tt

@@ -15,7 +15,7 @@ use Rattle.spl_typer.specs.Programs.{Typed}
 use Rattle.proof_script.specs.declared.fault.ScriptFault.{ScriptFault}
 use Rattle.equation_laws.specs.Equations.{PlainEquation}
 use Rattle.equation_writer.specs.Sentences.{sentence, left_out_text}
-use Rattle.script_growth.specs.Growing.{Stands, NothingStands, LinesStand, CommentsAddNothing, IsLine}
+use Rattle.proof_grammar.specs.Growing.{Stands, NothingStands, LinesStand, CommentsAddNothing, IsLine}
 use Rattle.step_report.specs.Names.{line}
 use Rattle.step_run.specs.Conditions.{setting_of, words_over, steps_spelled, drafts, conditions_of, passes_limit}
 use Rattle.step_run.specs.Verified.{verdict_on}

@@ -18,14 +18,14 @@ use Rattle.transition_system.specs.Bounds.{IsSystem}
 use Rattle.temporal_goals.specs.Texts.{PlainStep}
 use Rattle.vc_generator.specs.Building.{Draft}
 use Rattle.vc_generator.specs.declared.faults.VcFault.{VcFault}
-use Rattle.script_laws.specs.Script.{script_list}
+use Rattle.script_laws.specs.Script.{cited_of, step_list, steps_list, script_list}
 use Rattle.script_laws.specs.Refused.{refused_at}
 use Rattle.script_obligations.specs.Laws.{AreThese}
 use Rattle.spl_translation.specs.Translation.{translation}
 use Rattle.spl_translation.proofs.Systemic.{translation_is_system}
 use Rattle.spl_typer.specs.Programs.{Typed}
 use Rattle.proof_script.specs.declared.fault.ScriptFault.{ScriptFault}
-use Rattle.script_growth.proofs.Standing.{lines_stand, scripts_go_on, conditions_go_on}
+use Rattle.proof_grammar.proofs.Growing.{lines_stand, scripts_go_on}
 use Rattle.step_run.specs.Source.{IsSpelled}
 use Rattle.step_run.specs.Conditions.{system_of, setting_of, words_over, steps_spelled, drafts, conditions_of, passes_limit}
 use Rattle.step_run.specs.Verified.{verdict_on}
@@ -72,6 +72,14 @@ verdicts-say k (c ∷ cs) [] a = absurd a
 verdicts-say k (c ∷ cs) (v ∷ vs) a =
     ap (λ b. b && are_valid vs) (sym (valid-is v) ∙ ap is_decided a.0.exact) ∙ ap (λ b. is_decided (verdict_on k (plain_condition c)) && b) (verdicts-say k cs vs a.1)
 
+-- the conditions of steps with others behind them
+longer-list : (system : System) (earlier : List PlainStep) (n : ℕ) (xs ys : List PlainStep) → (ds : List Draft) × (steps_list system earlier n (xs ++ ys) ≡ steps_list system earlier n xs ++ ds)
+longer-list system earlier n [] ys = (steps_list system earlier n ys, refl)
+longer-list system earlier n (x ∷ xs) ys =
+    let r = longer-list system (earlier ++ x ∷ []) (n + 1) xs ys in
+    let first = step_list n system (cited_of earlier x.cited) x.goal x.rule in
+    (r.0, ap (λ (z : List Draft). first ++ z) r.1 ∙ sym (append_assoc first (steps_list system (earlier ++ x ∷ []) (n + 1) xs) r.0))
+
 -- conditions side by side
 decided-append : (k : Setting) (xs ys : List Implication) → are_decided k xs ≡ true → are_decided k (xs ++ ys) ≡ are_decided k ys
 decided-append k [] ys h = refl
@@ -95,7 +103,7 @@ module _ (p : Typed) (text s : List ℕ) (count : ℕ) (a : IsAccepted p text co
   unfolding drafts
   begins =
       let g = scripts_go_on (words_over p) text s a.steps longer a.stands script in
-      let d = conditions_go_on (system_of p) a.steps g.0 in
+      let d = longer-list (system_of p) [] 0 a.steps g.0 in
       (
         map (λ d. d.condition) d.0,
         ap (λ (z : List PlainStep). map (λ d. d.condition) (script_list (system_of p) z)) g.1

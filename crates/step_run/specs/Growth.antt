@@ -13,7 +13,7 @@ use Rattle.temporal_goals.specs.declared.scripts.Script.{Script}
 use Rattle.vc_generator.specs.declared.faults.VcFault.{VcFault}
 use Rattle.spl_typer.specs.Programs.{Typed}
 use Rattle.proof_script.specs.declared.fault.ScriptFault.{ScriptFault}
-use Rattle.script_growth.specs.Growing.{Stands}
+use Rattle.proof_grammar.specs.Growing.{Stands}
 use Rattle.step_run.specs.declared.invariants.Subject.{Subject}
 use Rattle.step_run.specs.Source.{IsSpelled}
 use Rattle.step_run.specs.Views.{source_view}

@@ -4,7 +4,7 @@
 //! whose conditions pass no limit and are decided valid. The text is read again each time, which is at most once for each variable;
 //! but of the conditions only those of the new step are decided, since the others are the same.
 
-ghost use Rattle.std.specs.Prelude.{◌≡◌, ◌++◌, length, map, IfOk, OnOk};
+ghost use Rattle.std.specs.Prelude.{◌≡◌, ◌≤◌, ◌++◌, drop, length, map, IfOk, OnOk};
 ghost use Rattle.std.specs.Thread.{IsSync};
 ghost use Rattle.std.specs.Option.{option_map};
 ghost use Rattle.st_outside.specs.Faults.{NoneFell};
@@ -12,8 +12,7 @@ ghost use Rattle.st_form.specs.Plain.{plain_condition};
 ghost use Rattle.discharge.specs.Verdicts.{AreSearchable};
 ghost use Rattle.temporal_goals.specs.Plain.{plain_script};
 ghost use Rattle.linear_invariants.specs.Plain.{plain_equations};
-ghost use Rattle.null_laws.specs.Bases.{AllMeet};
-ghost use Rattle.equation_writer.specs.Proper.{IsProper};
+ghost use Rattle.equation_writer.specs.Proper.{AreProper};
 ghost use Rattle.step_report.specs.Names.{line};
 ghost use Rattle.step_plan.specs.declared.status.Status.TheVariants.{InvariantsWide};
 ghost use Rattle.step_plan.specs.Outcome.{ended_view};
@@ -140,6 +139,14 @@ fn are_decided<R: Threads + Sync, G: Gate + Sync>(
     Ok(are_valid(&verdicts))
 }
 
+/// The conditions behind so many.
+fn behind(conditions: &[Condition], count: usize) -> &[Condition]
+    requires { count ≤ length conditions.now }
+    ensures { result.now ≡ drop count conditions.now }
+{
+    &conditions[count..]
+}
+
 /// How many conditions the script of a text has, if the text is accepted. The first `before` of them are known to be valid: they are
 /// those of the text so far, with which it begins.
 fn judged<R: Threads + Sync, G: Gate + Sync>(
@@ -163,7 +170,8 @@ fn judged<R: Threads + Sync, G: Gate + Sync>(
     let Some(conditions) = conditions_in(alloc, subject, &script)? else {
         return Ok(None);
     };
-    if !are_decided(rt, alloc, gate, subject, &conditions[kept.conditions..])? {
+    let fresh = behind(&conditions, kept.conditions);
+    if !are_decided(rt, alloc, gate, subject, fresh)? {
         return Ok(None);
     }
     Ok(Some(conditions.len()))
@@ -204,7 +212,7 @@ fn entered<R: Threads + Sync, G: Gate + Sync>(
     equations: &[Equation],
 ) -> Result<Vec<u8>, Memory>
     requires subject { IsSubject subject.now }
-    requires proper { AllMeet IsProper (plain_equations equations.now) }
+    requires proper { AreProper (plain_equations equations.now) }
     ensures { IfOk result (λ v. v.items ≡ invariants_text (source_view subject.now.source) (plain_equations equations.now)) }
 {
     let mut kept = Kept {

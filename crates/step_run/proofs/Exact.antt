@@ -6,6 +6,7 @@ use Rattle.st_tokens.specs.declared.limit.LimitKind.TheVariants as limits
 use Rattle.st_form.specs.Condition.{Implication}
 use Rattle.st_certificate.specs.Tree.{Tree}
 use Rattle.temporal_goals.specs.Texts.{PlainStep}
+use Rattle.equation_laws.specs.Equations.{PlainEquation, found}
 use Rattle.farkas_check.specs.Problem.{Setting}
 use Rattle.spl_parser.specs.Theorems.{SpelledIsRead}
 use Rattle.spl_typer.specs.Programs.{Typed}
@@ -23,16 +24,18 @@ use Rattle.step_plan.specs.Reading.{AreTold, IsPast}
 use Rattle.step_plan.specs.Plan.{Told, Plan, ends, goes_on, asks, then_plan, EndsIn}
 use Rattle.step_run.specs.Outcome.{words_refused}
 use Rattle.step_run.specs.Source.{source_spelled}
-use Rattle.step_run.specs.Conditions.{Posed, setting_of, conditions_of}
+use Rattle.step_run.specs.Conditions.{Posed, system_of, setting_of, words_over, conditions_of, passes_limit}
 use Rattle.step_run.specs.Checked.{goals_proved, ending, check_ended, checked}
 use Rattle.step_run.specs.Verified.{all_found, found_before, by_verdict, verdict_on, verified_from, search_ended, searched, certificates, goals_counted, counted}
-use Rattle.step_run.specs.Plans.{source_of_text, script_of_text, obliged, posed_of_text, posed_plan, conditions_plan, check_posed, verify_posed, prove_posed, workload_posed, workload_conditions, count_posed, with_number, numbered, plan_for, plan_of}
-use Rattle.step_run.specs.Headline.{Reads, Checks, AreFound, Decides, Hold, report, numbers, AreShort, IsShort, Headline, Exactly}
+use Rattle.step_run.specs.Invariants.{looked_for, invariants_of}
+use Rattle.step_run.specs.Plans.{source_of_text, script_of_text, obliged, posed_of_text, posed_plan, conditions_plan, check_posed, verify_posed, prove_posed, workload_posed, workload_conditions, count_posed, with_number, numbered, source_plan, find_in, plan_for, plan_of}
+use Rattle.step_run.specs.Headline.{Reads, IsProgram, Checks, AreFound, Decides, Hold, report, numbers, AreShort, IsShort, Headline, Exactly}
 use Rattle.step_run.proofs.Sources.{source_read}
 use Rattle.step_run.proofs.Posing.{script_read, obliged_is, few_drafts}
 use Rattle.step_run.proofs.Stages.{goes_then}
 use Rattle.step_run.proofs.Typed.{spelled_ok}
 use Rattle.step_run.proofs.Named.{only_workload}
+use Rattle.step_run.proofs.Found.{looked, looks, source_found}
 use Rattle.step_plan.proofs.Named.{AsksOnly}
 use Rattle.judging_laws.specs.Counted.{round_counts}
 use Rattle.judging_laws.proofs.Counted.{counts-are-greatest}
@@ -182,6 +185,29 @@ module _ (law : Laws) (spelled : SpelledIsRead) (told : Told) (o : Outcome) wher
       let last : with_number n (counted x) ≡ o = subst (λ (q : Plan Posed). EndsIn told (numbered n (then_plan q count_posed)) o) second e in
       subst IsProved (ap (with_number n) (sym (found_ends x (goals_counted x) ts h.found)) ∙ last) refl
 
+  -- invariants that are found
+  finds_show : (a pt : List ℕ) → told a ≡ Some pt → EndsIn told (plan_for (finds a)) o → IsProved o
+      → (length pt ≤ 4194304) × ((p : Typed) × (es : List PlainEquation) × IsProgram pt p × (found (system_of p) ≡ Some es))
+      × ((p : Typed) × (steps : List PlainStep) × (ts : List Tree) × Decides pt o.text p steps ts × Hold p steps)
+  finds_show a pt ia e proved =
+      let first = file_proved told o Program a pt (λ text. then_plan (source_of_text text) find_in) ia e proved in
+      let source = source_found told o pt first.1 proved in
+      let p = source.0 in
+      let l = looked p o source.2 proved in
+      let script = script_of law o.text p l.steps l.spells in
+      let them = reads law pt o.text p l.steps source.1 script l.few in
+      let holds = hold law p l.steps (pt, source.1) (o.text, script) (by_search law p l.steps l.trees (pt, source.1) (o.text, script) l.decided) in (
+        first.0,
+        (p, l.equations, them.scripted.program, l.found_are),
+        (p, l.steps, l.trees, record { reads = them; found = l.decided }, holds),
+      )
+
+  finds_end : (a pt : List ℕ) (p : Typed) (es : List PlainEquation) → told a ≡ Some pt → length pt ≤ 4194304 → IsProgram pt p → found (system_of p) ≡ Some es → EndsIn told (plan_for (finds a)) o → IsProved o
+  finds_end a pt p es ia short h are e =
+      let goes = file_goes told o Program a pt (λ text. then_plan (source_of_text text) find_in) ia short e in
+      let last : invariants_of p ≡ o = subst (λ (q : Plan Typed). EndsIn told (then_plan q find_in) o) (source_goes spelled pt p h) goes in
+      subst IsProved last (looks p es are)
+
 -- what a request shows with status 0
 pub shows : (law : Laws) → SpelledIsRead → (told : Told) (request : Option PlainRequest) (o : Outcome) (Said : List ℕ → Type 0) → EndsIn told (plan_of request) o → IsProved o → Said o.text → Headline told Said request
 shows law spelled told None o Said e proved said = absurd (let same : IsProved words_refused = subst IsProved (sym e) proved in cc)
@@ -214,7 +240,11 @@ shows law spelled told (Some (traces a b c)) o Said e proved said =
     let seen = observed_of t.0 t.2 t.3 in
     (t.0, t.1, t.2, t.3, round_counts seen, all_judged seen t.1, t.4, counts-are-greatest seen, are_judged seen t.1, subst Said (ap (λ (x : Outcome). x.text) t.5) said)
     ))))
-shows law spelled told (Some (finds p)) o Said e proved said = absurd (let same : IsProved words_refused = subst IsProved (sym e) proved in cc)
+shows law spelled told (Some (finds a)) o Said e proved said =
+    each_told (told a) _ (λ pt ia. (
+    let t = (finds_show law spelled told o a pt ia e proved).2 in
+    (t.0, o.text, t.1, t.2, t.3, t.4, said)
+    ))
 
 -- and when it comes
 pub exactly : (law : Laws) → SpelledIsRead → (told : Told) (request : Option PlainRequest) (o : Outcome) → EndsIn told (plan_of request) o → Exactly told o.status request
@@ -245,4 +275,8 @@ exactly law spelled told (Some (traces a b c)) o e =
       (λ proved. (let r = trace_shows law spelled told o a b c pt qt st ia ib ic e proved in let t = r.2 in (r.0, r.1, (t.0, t.1, t.2, t.3, t.4)))),
       (λ h. trace_ends law spelled told o a b c pt qt st h.2.0 h.2.1 h.2.2 h.2.3 ia ib ic h.0 h.1 h.2.4 e),
     ))))
-exactly law spelled told (Some (finds p)) o e = λ proved. (let same : IsProved words_refused = subst IsProved (sym e) proved in cc)
+exactly law spelled told (Some (finds a)) o e =
+    each_told (told a) _ (λ pt ia. (
+      (λ proved. (let s = finds_show law spelled told o a pt ia e proved in (s.0, s.1))),
+      (λ h. finds_end law spelled told o a pt h.1 h.2 ia h.0 h.3 h.4 e),
+    ))

@@ -16,3 +16,6 @@ pub mod Judging
 pub mod Runs
 pub mod Scripts
 pub mod ReportedRuns
+pub mod Found
+pub mod Growing
+pub mod Accepting

@@ -16,7 +16,7 @@ use Rattle.step_run.specs.Conditions.{steps_spelled, passes_limit}
 use Rattle.step_run.specs.Source.{source_spelled}
 use Rattle.step_run.specs.Request.{NamesFile}
 use Rattle.step_run.specs.Traced.{Scripted}
-use Rattle.step_run.specs.Plans.{program_or_end, source_of_text, source_plan, steps_or_end, script_of_text, posed_or_end, obliged, posed_of_text, posed_plan, conditions_plan, check_posed, verify_posed, prove_posed, count_posed, workload_posed, workload_conditions, numbered, script_plan, scripted_plan, trace_scripted, plan_for, plan_of}
+use Rattle.step_run.specs.Plans.{program_or_end, source_of_text, source_plan, steps_or_end, script_of_text, posed_or_end, obliged, posed_of_text, posed_plan, conditions_plan, check_posed, verify_posed, prove_posed, count_posed, workload_posed, workload_conditions, numbered, script_plan, scripted_plan, trace_scripted, plan_for, plan_of, find_in}
 use Rattle.step_workload.specs.Texts.{program_text, proof_text}
 
 module _ (P : Names) where
@@ -76,7 +76,7 @@ only_for (makes n) =
 only_for (traces a b c) =
     let P : Names = NamesFile (Some (traces a b c)) in
     only_then P (trace_scripted c) (scripted_plan a b) (only_scripted P a b refl refl) (λ x. (refl, λ text. tt))
-only_for (finds p) = tt
+only_for (finds p) = let P : Names = NamesFile (Some (finds p)) in only_then P find_in (source_plan p) (refl, only_source P) (λ x. tt)
 
 only_of : (o : Option PlainRequest) → AsksOnly (NamesFile o) (plan_of o)
 only_of None = tt

@@ -21,14 +21,15 @@ use Rattle.run_judging.specs.Greatest.{AreGreatest}
 use Rattle.run_judging.specs.declared.judged.Judged.{Judged}
 use Rattle.schedule_reader.specs.Schedules.{PlainSchedule, schedule_spelled}
 use Rattle.trace_player.specs.Judgements.{JudgedOn}
-use Rattle.step_words.specs.Request.{PlainRequest, checks, verifies, proves, makes, traces}
+use Rattle.equation_laws.specs.Equations.{PlainEquation, found}
+use Rattle.step_words.specs.Request.{PlainRequest, checks, verifies, proves, makes, traces, finds}
 use Rattle.step_workload.specs.Texts.{program_text, proof_text}
 use Rattle.step_report.specs.Goals.{proved_text, counted_text, workload_line, certificates_text}
 use Rattle.step_report.specs.Traces.{played_text}
 use Rattle.step_plan.specs.declared.status.Status.{Status}
 use Rattle.step_plan.specs.declared.status.Status.TheVariants.{Proved}
 use Rattle.step_plan.specs.Plan.{Told}
-use Rattle.step_run.specs.Conditions.{setting_of, words_over, conditions_of, passes_limit}
+use Rattle.step_run.specs.Conditions.{system_of, setting_of, words_over, conditions_of, passes_limit}
 use Rattle.step_run.specs.Verified.{nodes_in}
 use Rattle.step_run.specs.Scheduled.{observed_of, IsRunOfSchedule}
 
@@ -102,8 +103,9 @@ IsShort ct = length ct ≤ 268435456
 abbrev pub Three : Told → List ℕ → List ℕ → List ℕ → (List ℕ → List ℕ → List ℕ → Type 0) → Type 0
 Three told a b c P = Both told a b (λ pt qt. IfSome (told c) (λ ct. P pt qt ct))
 
--- with status 0 goals hold, and the output names them: `prove` writes their certificates, and a workload counts them. Of a given
--- run it is told how many rounds begin at each position at most, and what is judged of each goal on it
+-- with status 0 goals hold, and the output names them: `prove` writes their certificates, a workload counts them, and where
+-- invariants are found it is the text that spells them. Of a given run it is told how many rounds begin at each position at
+-- most, and what is judged of each goal on it
 abbrev pub Headline : Told → (List ℕ → Type 0) → Option PlainRequest → Type 0
 Headline told Said (Some (checks a b c)) =
     Both told a b (λ pt qt. IfSome (told c) (λ ct. (p : Typed) × (steps : List PlainStep) × Checks pt qt ct p steps × Hold p steps × Said (report p steps)))
@@ -115,9 +117,12 @@ Headline told Said (Some (makes n)) =
 Headline told Said (Some (traces a b c)) =
     Three told a b c (λ pt qt st. (p : Typed) × (steps : List PlainStep) × (s : PlainSchedule) × (later : List (TransName × State)) × (counts : List ℕ) × (judged : List Judged)
     × Traces pt qt st p steps s later × AreGreatest (observed_of p s later) counts × AreJudged (observed_of p s later) steps judged × Said (played_text p.names steps (length s.moves) counts judged))
+Headline told Said (Some (finds a)) =
+    IfSome (told a) (λ pt. (p : Typed) × (text : List ℕ) × (steps : List PlainStep) × (ts : List Tree) × Decides pt text p steps ts × Hold p steps × Said text)
 Headline told Said _ = ⊥
 
--- status 0 comes exactly where all conditions are discharged, or decided valid; and for a schedule where it gives a run
+-- status 0 comes exactly where all conditions are discharged, or decided valid; for a schedule where it gives a run, and where
+-- invariants are looked for where no number is too large
 abbrev pub Exactly : Told → Status → Option PlainRequest → Type 0
 Exactly told status (Some (checks a b c)) =
     Both told a b (λ pt qt. IfSome (told c) (λ ct. (status ≡ Proved) ↔ (AreShort pt qt × IsShort ct × ((p : Typed) × (steps : List PlainStep) × Checks pt qt ct p steps))))
@@ -129,4 +134,6 @@ Exactly told status (Some (makes n)) = (status ≡ Proved) ↔ ((p : Typed) × (
 Exactly told status (Some (traces a b c)) =
     Three told a b c (λ pt qt st. (status ≡ Proved) ↔ (AreShort pt qt × (length st ≤ 4194304)
     × ((p : Typed) × (steps : List PlainStep) × (s : PlainSchedule) × (later : List (TransName × State)) × Traces pt qt st p steps s later)))
+Exactly told status (Some (finds a)) =
+    IfSome (told a) (λ pt. (status ≡ Proved) ↔ ((length pt ≤ 4194304) × ((p : Typed) × (es : List PlainEquation) × IsProgram pt p × (found (system_of p) ≡ Some es))))
 Exactly told status _ = status ≡ Proved → ⊥

@@ -2,7 +2,9 @@ pub mod Checked
 pub mod Conditions
 pub mod Decided
 pub mod Deciding
+pub mod Growth
 pub mod Headline
+pub mod Invariants
 pub mod Judged
 pub mod Outcome
 pub mod Plans

@@ -18,6 +18,7 @@ use Rattle.step_run.specs.Outcome.{words_refused, program_refused, proof_refused
 use Rattle.step_run.specs.Checked.{checked}
 use Rattle.step_run.specs.Verified.{verified, written, counted}
 use Rattle.step_run.specs.Traced.{Scripted, traced}
+use Rattle.step_run.specs.Invariants.{invariants_of}
 use Rattle.step_workload.specs.Texts.{program_text, proof_text}
 
 -- the program that a text spells
@@ -98,14 +99,18 @@ scripted_plan program proof = then_plan (source_plan program) (script_plan proof
 abbrev pub trace_scripted : List ℕ → Scripted → Plan ⊥
 trace_scripted name x = file_end Schedule name (traced x)
 
--- the run that a request asks for; one request isn't answered
+-- the invariants that are found for a program
+abbrev pub find_in : Typed → Plan ⊥
+find_in p = ends (invariants_of p)
+
+-- the run that a request asks for
 abbrev pub plan_for : PlainRequest → Plan ⊥
 plan_for (checks program proof certificates) = then_plan (conditions_plan program proof) (check_posed certificates)
 plan_for (verifies program proof) = then_plan (conditions_plan program proof) verify_posed
 plan_for (proves program proof) = then_plan (conditions_plan program proof) prove_posed
 plan_for (makes n) = numbered n (then_plan (workload_conditions n) count_posed)
 plan_for (traces program proof schedule) = then_plan (scripted_plan program proof) (trace_scripted schedule)
-plan_for (finds program) = ends words_refused
+plan_for (finds program) = then_plan (source_plan program) find_in
 
 abbrev pub plan_of : Option PlainRequest → Plan ⊥
 plan_of None = ends words_refused

@@ -23,7 +23,10 @@ named_file (traces p q s) Program = Some p
 named_file (traces p q s) Proof = Some q
 named_file (traces p q s) Certificates = None
 named_file (traces p q s) Schedule = Some s
-named_file (finds p) role = None
+named_file (finds p) Program = Some p
+named_file (finds p) Proof = None
+named_file (finds p) Certificates = None
+named_file (finds p) Schedule = None
 
 -- what the words ask for names this file
 abbrev pub NamesFile : Option PlainRequest → FileRole → List ℕ → Type 0

@@ -6,6 +6,7 @@ mod checking;
 mod crew;
 mod deciding;
 mod ends;
+mod invariants;
 pub mod laws;
 mod posed;
 mod proving;

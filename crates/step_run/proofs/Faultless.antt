@@ -1,5 +1,5 @@
 -- No plan ends with a fault of the outside, or with want of memory.
-use Rattle.std.proofs.Common.{◌≡◌, inl, inr, ℕ, List, [], ◌∷◌, refl, ap, ◌∙◌, sym, subst}
+use Rattle.std.proofs.Common.{◌≡◌, inl, inr, ℕ, List, refl, ap, ◌∙◌, sym, subst}
 use Rattle.std.specs.Prelude.{Option, Some, None, Result, Ok, Err}
 use Rattle.st_tokens.specs.declared.kind.TokenFault.{TokenFault}
 use Rattle.st_tokens.specs.declared.kind.TokenFault.TheVariants as tokens

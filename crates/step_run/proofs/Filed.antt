@@ -1,5 +1,5 @@
 -- The end of a check of a file of certificates is that of the file's whole text.
-use Rattle.std.proofs.Common.{◌≡◌, ℕ, ◌+◌, ◌-◌, ◌≤◌, ◌<◌, List, length, get_or, refl, sym, ap, subst, ◌∙◌, arith}
+use Rattle.std.proofs.Common.{◌≡◌, ℕ, ◌+◌, ◌<◌, List, length, get_or, sym, ap, subst, ◌∙◌}
 use Rattle.std.specs.Prelude.{Option}
 use Rattle.st_form.specs.Condition.{Implication}
 use Rattle.st_form.specs.Plain.{plain_condition}

@@ -1,5 +1,5 @@
 -- A search that goes from slice to slice.
-use Rattle.std.proofs.Common.{◌≡◌, ℕ, zero, suc, ◌+◌, ◌-◌, ◌<◌, ◌≤◌, Bool, true, false, List, [], ◌∷◌, ◌++◌, length, map, get_or, take, drop, add-one, append_assoc, append-nil, length-append, length-take, length-drop, codes, ap, ◌∙◌, sym, subst, arith, refl}
+use Rattle.std.proofs.Common.{◌≡◌, ℕ, zero, suc, ◌+◌, ◌-◌, ◌<◌, ◌≤◌, true, List, [], ◌∷◌, ◌++◌, length, get_or, take, drop, add-one, append_assoc, append-nil, length-append, length-take, length-drop, codes, ap, ◌∙◌, sym, subst, arith, refl}
 use Rattle.std.proofs.lemmas.List.{length-map}
 use Rattle.st_form.specs.Condition.{Implication}
 use Rattle.st_form.specs.Plain.{plain_condition}
@@ -18,7 +18,7 @@ use Rattle.step_plan.specs.declared.stage.Stage.TheVariants.{On, Over}
 use Rattle.step_plan.specs.Outcome.{Outcome, ended_view}
 use Rattle.step_run.specs.Conditions.{Posed, setting_of}
 use Rattle.step_run.specs.Verified.{Verified, all_found, left_open, given_up, found_before, by_verdict, verdict_on, verified_from, search_ended, searched, nodes_in}
-use Rattle.step_run.specs.Deciding.{is_valid, tree_in, trees_in, AreValid, AreModest, EndsAt, found_from, all_before, FoundTo, EndsFrom, AreNext}
+use Rattle.step_run.specs.Deciding.{is_valid, tree_in, trees_in, AreValid, EndsAt, found_from, all_before, FoundTo, EndsFrom, AreNext}
 use Rattle.step_run.proofs.Verdicts.{verdict_is, by_valid, answers_same, modest_answers}
 
 -- certificates before what is found behind them
@@ -40,9 +40,6 @@ before_ended x all [] found = refl
 before_ended x all (t ∷ ts) found = first_ended x all t (all_before ts found) ∙ before_ended x (λ us. all (t ∷ us)) ts found
 
 -- from one place to another
-pub found_here : (x : Posed) (place : ℕ) → FoundTo x place place []
-found_here x place = refl
-
 found_on : (x : Posed) (from mid to : ℕ) (ts us : List Tree) → FoundTo x from mid ts → FoundTo x mid to us → FoundTo x from to (ts ++ us)
 found_on x from mid to ts us first more = first ∙ ap (all_before ts) more ∙ sym (before_append ts us (found_from x to))
 
@@ -112,10 +109,6 @@ valid_more [] i v lt is valid all = absurd (omega (arith, lt))
 valid_more (w ∷ vs) zero v lt is valid all = (ap is_valid (sym is) ∙ valid, tt)
 valid_more (w ∷ vs) (suc i) v lt is valid all = (all.0, valid_more vs i v (omega (arith, lt)) is valid all.1)
 
-take_all : (vs : List Verdict) → take (length vs) vs ≡ vs
-take_all [] = refl
-take_all (v ∷ vs) = ap (λ (l : List Verdict). v ∷ l) (take_all vs)
-
 some_of : (cs : List Condition) → 0 < length cs → Condition
 some_of [] some = absurd (omega (arith, some))
 some_of (c ∷ cs) some = c
@@ -124,9 +117,6 @@ some_of (c ∷ cs) some = c
 pub record Looked (x : Posed) (from : ℕ) (vs : List Verdict) (i : ℕ) : Type 0 where
   pub valid : AreValid (take i vs)
   pub found : FoundTo x from (from + i) (trees_in (take i vs))
-
-pub none_looked : (x : Posed) (from : ℕ) (vs : List Verdict) → Looked x from vs 0
-none_looked x from vs = record { valid = tt; found = ap (found_from x) (let e : from ≡ from + 0 = omega arith in e) }
 
 module _ (x : Posed) (cs : List Condition) (vs : List Verdict) (from i : ℕ) (v : Verdict) (are : x.conditions ≡ plains cs) (within : from + length vs ≤ length cs) where
   module _ (answers : AreAnswers (setting_of x.program) (take (length vs) (drop from cs)) vs) (lt : i < length vs) (is : v ≡ get_or vs i v) (looked : Looked x from vs i) where
@@ -154,11 +144,6 @@ module _ (x : Posed) (cs : List Condition) (vs : List Verdict) (from i : ℕ) (v
         let here = subst (EndsAt x (place + 1) (plain_condition (get_or cs place any)) v) is_over (ends any) in
         let there : EndsAt x (from + i + 1) (plain_condition (get_or cs (from + i) any)) v (Over ended) = subst (λ (p : ℕ). EndsAt x (p + 1) (plain_condition (get_or cs p any)) v (Over ended)) at here in
         ends_on x from (from + i) (trees_in (take i vs)) (ended_view ended) looked.found (one_ends x cs are (from + i) any v ended (omega (arith, within, lt)) (answer any) there)
-
-pub all_looked : (x : Posed) (from : ℕ) (vs : List Verdict) (i : ℕ) → i ≡ length vs → Looked x from vs i → AreValid vs × FoundTo x from (from + length vs) (trees_in vs)
-all_looked x from vs i is looked =
-    let whole : take i vs ≡ vs = ap (λ (m : ℕ). take m vs) is ∙ take_all vs in
-    (subst AreValid whole looked.valid, subst (λ (m : ℕ). FoundTo x from (from + m) (trees_in vs)) is (subst (λ (l : List Verdict). FoundTo x from (from + i) (trees_in l)) whole looked.found))
 
 -- the verdicts on a slice, as many as its conditions
 pub next_answers : (k : Setting) (cs : List Condition) (vs : List Verdict) (from to : ℕ) → from ≤ to → to ≤ length cs → AreAnswers k (take (to - from) (drop from cs)) vs
@@ -190,9 +175,6 @@ pub record Come (x : Posed) (place : ℕ) (Kept : List Tree → Type 0) : Type 0
   pub as_many : length trees ≡ place
   pub found : FoundTo x 0 place trees
   pub kept : Kept trees
-
-pub begun : (x : Posed) (Kept : List Tree → Type 0) → Kept [] → Come x 0 Kept
-begun x Kept kept = record { within = omega arith; trees = []; as_many = refl; found = refl; kept = kept }
 
 trees_length : (vs : List Verdict) → length (trees_in vs) ≡ length vs
 trees_length [] = refl

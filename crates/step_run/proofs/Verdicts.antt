@@ -7,7 +7,6 @@ use Rattle.std.specs.declared.alloc.Global.{Global}
 use Rattle.st_form.specs.Condition.{Implication}
 use Rattle.st_form.specs.Plain.{plain_condition}
 use Rattle.st_form.specs.declared.conditions.Condition.{Condition}
-use Rattle.st_certificate.specs.Tree.{Tree}
 use Rattle.farkas_check.specs.Problem.{Setting}
 use Rattle.search_laws.specs.Sizes.{nodes}
 use Rattle.linear_prover.specs.declared.verdict.Verdict.{Verdict}

@@ -2,7 +2,6 @@ use Rattle.std.proofs.Common.{◌+◌, ◌-◌, ◌≡◌, refl, arith}
 use Rattle.std.proofs.lemmas.Result.{IfOk-weaker}
 use Rattle.step_plan.specs.Outcome.{ended_view}
 use Rattle.step_run.specs.Views.{posed_view}
-use Rattle.certificate_batches.specs.Finding.{IsAmong}
 use Rattle.step_run.proofs.Filed.{discharged_is, refused_is}
 use Rattle.step_run.proofs.checking.told.Goals as goal
 

@@ -1,4 +1,4 @@
-use Rattle.std.proofs.Common.{◌≡◌, ◌+◌, length, refl, arith}
+use Rattle.std.proofs.Common.{refl, arith}
 use Rattle.step_run.specs.Views.{posed_view}
 use Rattle.step_run.proofs.Slices.{one_looked, looked_ends}
 use Rattle.step_run.proofs.deciding.all_valid.Goals as goal

@@ -1,5 +1,4 @@
-use Rattle.std.proofs.Common.{◌≡◌, ◌+◌, ◌-◌, ◌≤◌, List, length, refl, sym, ap, subst, arith}
-use Rattle.linear_prover.specs.declared.verdict.Verdict.{Verdict}
+use Rattle.std.proofs.Common.{length, refl, ap, arith}
 use Rattle.step_run.specs.Conditions.{setting_of}
 use Rattle.step_run.specs.Views.{source_view, posed_view}
 use Rattle.step_run.proofs.Slices.{next_answers, goes_next}

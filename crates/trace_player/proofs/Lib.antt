@@ -7,3 +7,4 @@ pub mod Controls
 pub mod Clear
 pub mod Verdicts
 pub mod Lengths
+pub mod Marking

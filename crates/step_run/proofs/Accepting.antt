@@ -30,7 +30,11 @@ use Rattle.step_run.specs.Source.{IsSpelled}
 use Rattle.step_run.specs.Conditions.{system_of, setting_of, words_over, steps_spelled, drafts, conditions_of, passes_limit}
 use Rattle.step_run.specs.Verified.{verdict_on}
 use Rattle.step_run.specs.Deciding.{is_valid}
-use Rattle.step_run.specs.Invariants.{is_decided, are_decided, accepts_steps, accepts}
+use Rattle.equation_laws.specs.Equations.{PlainEquation, found}
+use Rattle.step_plan.specs.declared.status.Status.{Status}
+use Rattle.step_plan.specs.declared.status.Status.TheVariants.{Proved, InvariantsWide}
+use Rattle.step_plan.specs.Outcome.{Outcome}
+use Rattle.step_run.specs.Invariants.{is_decided, are_decided, accepts_steps, accepts, invariants_text, wide_text, looked_for, invariants_of}
 use Rattle.step_run.specs.Growth.{IsAccepted, AreConditions, AreConditionsIn, are_valid}
 use Rattle.step_run.proofs.Typed.{well_typed}
 
@@ -83,10 +87,10 @@ longer-list system earlier n (x ∷ xs) ys =
 -- conditions side by side
 decided-append : (k : Setting) (xs ys : List Implication) → are_decided k xs ≡ true → are_decided k (xs ++ ys) ≡ are_decided k ys
 decided-append k [] ys h = refl
-decided-append k (x ∷ xs) ys h = by (is_decided (verdict_on k x)) h where
-  by : (b : Bool) → (b && are_decided k xs) ≡ true → (b && are_decided k (xs ++ ys)) ≡ are_decided k ys
-  by true e = decided-append k xs ys e
-  by false e = absurd cc
+decided-append k (x ∷ xs) ys h = by (is_decided (verdict_on k x)) (decided-append k xs ys) h where
+  by : (b : Bool) → (are_decided k xs ≡ true → are_decided k (xs ++ ys) ≡ are_decided k ys) → (b && are_decided k xs) ≡ true → (b && are_decided k (xs ++ ys)) ≡ are_decided k ys
+  by true again e = again e
+  by false again e = absurd cc
 
 map-append : {A B : Type 0} (f : A → B) (xs ys : List A) → map f (xs ++ ys) ≡ map f xs ++ map f ys
 map-append f [] ys = refl
@@ -129,9 +133,9 @@ module _ (p : Typed) (text s : List ℕ) (count : ℕ) (a : IsAccepted p text co
         ∙ ap (λ n. drop n (conditions_of p a.steps ++ begins.0)) a.counted
         ∙ drop-append_seam (conditions_of p a.steps) begins.0
 
-    pub judged : (yes : Bool) → yes ≡ are_decided (setting_of p) (map plain_condition (drop count cs)) → accepts p (text ++ s) ≡ yes
+    pub judged : (b : Bool) → b ≡ are_decided (setting_of p) (map plain_condition (drop count cs)) → accepts p (text ++ s) ≡ b
     unfolding accepts
-    judged yes e =
+    judged b e =
         ap (accepts_steps p) script
         ∙ ap (λ o. is_none o && are_decided (setting_of p) (conditions_of p longer)) these.few
         ∙ ap (are_decided (setting_of p)) begins.1
@@ -152,3 +156,15 @@ module _ (p : Typed) (text s : List ℕ) (count : ℕ) (a : IsAccepted p text co
 pub no-script : (p : Typed) (text : List ℕ) (fault : ScriptFault) → steps_spelled p text ≡ Err fault → accepts p text ≡ false
 unfolding accepts
 no-script p text fault is = ap (accepts_steps p) is
+
+-- what is looked for
+abbrev pub ended-as : Status → List ℕ → Outcome
+ended-as s t = record { status = s; text = t }
+
+pub looked-none : (p : Typed) (system : System) → system ≡ system_of p → found system ≡ None → ended-as InvariantsWide wide_text ≡ invariants_of p
+unfolding invariants_of
+looked-none p system same e = ap (looked_for p) (sym (ap found (sym same) ∙ e))
+
+pub looked-some : (p : Typed) (system : System) (es : List PlainEquation) (text : List ℕ) → system ≡ system_of p → found system ≡ Some es → text ≡ invariants_text p es → ended-as Proved text ≡ invariants_of p
+unfolding invariants_of
+looked-some p system es text same e is = ap (ended-as Proved) is ∙ ap (looked_for p) (sym (ap found (sym same) ∙ e))

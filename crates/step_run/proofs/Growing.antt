@@ -29,13 +29,14 @@ glyph-line d h = grind (arith, nat_tests)
 
 digits-line : (k n : ℕ) (acc : List ℕ) → IsLine acc → IsLine (digits_onto k 10 false n acc)
 digits-line zero n acc h = h
-digits-line (suc k) n acc h = by (n / 10 == 0) where
+digits-line (suc k) n acc h = by (n / 10 == 0) here (digits-line k (n / 10) (digit_glyph false (n % 10) ∷ acc) (here, h)) where
   here : is_line_byte (digit_glyph false (n % 10)) ≡ true
   here = glyph-line (n % 10) (omega arith)
 
-  by : (b : Bool) → IsLine (cond b (digit_glyph false (n % 10) ∷ acc) (digits_onto k 10 false (n / 10) (digit_glyph false (n % 10) ∷ acc)))
-  by true = (here, h)
-  by false = digits-line k (n / 10) (digit_glyph false (n % 10) ∷ acc) (here, h)
+  by : (b : Bool) → is_line_byte (digit_glyph false (n % 10)) ≡ true → IsLine (digits_onto k 10 false (n / 10) (digit_glyph false (n % 10) ∷ acc))
+      → IsLine (cond b (digit_glyph false (n % 10) ∷ acc) (digits_onto k 10 false (n / 10) (digit_glyph false (n % 10) ∷ acc)))
+  by true e k = (e, h)
+  by false e k = k
 
 pub decimal-line : (n : ℕ) → IsLine (decimal n)
 unfolding digits
@@ -43,7 +44,7 @@ decimal-line n = digits-line 64 n [] tt
 
 -- what stands behind the sign of the comment
 pub comment-line : (n : ℕ) → IsLine (codes " left out: eq" ++ decimal n)
-comment-line n = (refl, refl, refl, refl, refl, refl, refl, refl, refl, refl, refl, refl, refl, decimal-line n)
+comment-line n = (refl, (refl, (refl, (refl, (refl, (refl, (refl, (refl, (refl, (refl, (refl, (refl, (refl, decimal-line n)))))))))))))
 
 -- what is accepted
 is-none : {A : Type 0} (o : Option A) → is_none o ≡ true → o ≡ None
@@ -120,7 +121,7 @@ module _ (nothing : NothingStands) (lines : LinesStand) (comments : CommentsAddN
 
 -- conditions that are decided valid have certificates
 found-one : (k : Setting) (c : Implication) (cs : List Implication) (v : Verdict) → decided k c.given c.shown ≡ v → is_decided v ≡ true → (ts : List Tree) × AreFound k cs ts → (ts : List Tree) × AreFound k (c ∷ cs) ts
-found-one k c cs (valid t) is e r = (t ∷ r.0, is, r.1)
+found-one k c cs (valid t) is e r = (t ∷ r.0, (is, r.1))
 found-one k c cs (open_at path state) is e r = absurd cc
 found-one k c cs (wide_at path stage) is e r = absurd cc
 

@@ -139,6 +139,16 @@ fn are_decided<R: Threads + Sync, G: Gate + Sync>(
     Ok(are_valid(&verdicts))
 }
 
+/// A text with more behind it.
+fn joined(alloc: Global, text: &[u8], more: &[u8]) -> Result<Vec<u8>, Memory>
+    ensures { IfOk result (λ v. v.items ≡ text.now ++ more.now) }
+{
+    let mut out = Vec::with_capacity(alloc, text.len())?;
+    push_text(&mut out, text)?;
+    push_text(&mut out, more)?;
+    Ok(out)
+}
+
 /// The conditions behind so many.
 fn behind(conditions: &[Condition], count: usize) -> &[Condition]
     requires { count ≤ length conditions.now }
@@ -161,9 +171,7 @@ fn judged<R: Threads + Sync, G: Gate + Sync>(
     requires accepted { IsAccepted (source_view subject.now.source) kept.now.text.items kept.now.conditions }
     ensures { IfOk result (λ o. Judges (source_view subject.now.source) (kept.now.text.items ++ sentence.now) o) }
 {
-    let mut text = Vec::new(alloc);
-    text.extend_from_slice(&kept.text)?;
-    text.extend_from_slice(sentence)?;
+    let text = joined(alloc, &kept.text, sentence)?;
     let Some(script) = script_in(alloc, subject, &text)? else {
         return Ok(None);
     };
@@ -189,7 +197,7 @@ fn enter<R: Threads + Sync, G: Gate + Sync>(
 ) -> Result<(), Memory>
     requires subject { IsSubject subject.now }
     requires accepted { IsAccepted (source_view subject.now.source) kept.old.text.items kept.old.conditions }
-    ensures text { OnOk result (kept.new.text.items ≡ kept.old.text.items ++ line (entry (source_view subject.now.source) kept.old.text.items number (option_map (λ v. v.items) sentence.entry))) }
+    ensures text { OnOk result (kept.new.text.items ≡ kept.old.text.items ++ line (entry (source_view subject.now.source) kept.old.text.items number (option_map (λ v. v.items) sentence))) }
     ensures accepted { OnOk result (IsAccepted (source_view subject.now.source) kept.new.text.items kept.new.conditions) }
 {
     if let Some(sentence) = sentence {

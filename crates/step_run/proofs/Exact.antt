@@ -278,5 +278,5 @@ exactly law spelled told (Some (traces a b c)) o e =
 exactly law spelled told (Some (finds a)) o e =
     each_told (told a) _ (λ pt ia. (
       (λ proved. (let s = finds_show law spelled told o a pt ia e proved in (s.0, s.1))),
-      (λ h. finds_end law spelled told o a pt h.1 h.2 ia h.0 h.3 h.4 e),
+      (λ h. finds_end law spelled told o a pt h.1.0 h.1.1 ia h.0 h.1.2 h.1.3 e),
     ))

@@ -200,8 +200,7 @@ module _ (law : Laws) (spelled : SpelledIsRead) (told : Told) (o : Outcome) wher
       let l = looked p o source.2 proved in
       let script = script_of law o.text p l.steps l.spells in
       let them = reads law pt o.text p l.steps source.1 script l.few in
-      let holds = hold law p l.steps (pt, source.1) (o.text, script) (by_search law p l.steps l.trees (pt, source.1) (o.text, script) l.decided) in
-      (
+      let holds = hold law p l.steps (pt, source.1) (o.text, script) (by_search law p l.steps l.trees (pt, source.1) (o.text, script) l.decided) in (
         first.0,
         (p, l.equations, record { text = them.text; spelled = them.spelled; lawful = them.lawful; typed = them.typed }, l.found_are),
         (p, l.steps, l.trees, record { reads = them; found = l.decided }, holds),
@@ -274,5 +273,5 @@ exactly law spelled told (Some (traces p q s)) o e = λ proved. (let same : IsPr
 exactly law spelled told (Some (finds a)) o e =
     each_told (told a) _ (λ pt ia. (
       (λ proved. (let s = finds_show law spelled told o a pt ia e proved in (s.0, s.1))),
-      (λ h. finds_end law spelled told o a pt h.1 h.2 ia h.0 h.3 h.4 e),
+      (λ h. finds_end law spelled told o a pt h.1.0 h.1.1 ia h.0 h.1.2 h.1.3 e),
     ))

@@ -107,12 +107,11 @@ module _ (p : Typed) (text s : List ℕ) (count : ℕ) (a : IsAccepted p text co
   unfolding drafts
   begins =
       let g = scripts_go_on (words_over p) text s a.steps longer a.stands script in
-      let d = longer-list (system_of p) [] 0 a.steps g.0 in
-      (
+      let d = longer-list (system_of p) [] 0 a.steps g.0 in (
         map (λ d. d.condition) d.0,
         ap (λ (z : List PlainStep). map (λ d. d.condition) (script_list (system_of p) z)) g.1
-        ∙ ap (map (λ d. d.condition)) d.1
-        ∙ map-append (λ d. d.condition) (script_list (system_of p) a.steps) d.0,
+            ∙ ap (map (λ d. d.condition)) d.1
+            ∙ map-append (λ d. d.condition) (script_list (system_of p) a.steps) d.0,
       )
 
   -- and only the others are open

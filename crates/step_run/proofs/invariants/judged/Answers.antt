@@ -69,8 +69,7 @@ returns g c =
     let these : AreConditions p (plain_script c.in-Some.script) cs = rw c.in-Some-2.is at c.in_ok-conditions.ensures in
     let says : c.in_ok-are_decided.field-0 ≡ are_decided (setting_of p) (map plain_condition c.behind-fresh.result.now) = c.in_ok-are_decided.ensures in
     let e = sym c.if-not-branch.false ∙ says ∙ ap (λ xs. are_decided (setting_of p) (map plain_condition xs)) (c.behind-fresh.ensures ∙ ap (drop count) c.deref-3.ensures.value) in
-    let size : length cs ≡ c.len.result = omega (arith, c.in-Some-2.conditions.ok.0, c.len.ensures) in
-    (
+    let size : length cs ≡ c.len.result = omega (arith, c.in-Some-2.conditions.ok.0, c.len.ensures) in (
       judged p text s count c.requires.accepted (plain_script c.in-Some.script) script cs these true e,
       subst (λ n. IsAccepted p ((text ++ s) ++ 10 ∷ []) n) size (all-accepted p text s count c.requires.accepted (plain_script c.in-Some.script) script cs these (sym e)),
     )

@@ -34,3 +34,5 @@ mod Waits
 mod Responses
 mod Steps
 pub mod Scripts
+mod TextEnds
+pub mod Growing

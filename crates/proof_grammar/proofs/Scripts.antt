@@ -34,7 +34,7 @@ module _ (g : Setting) where
   shrinks : (claim : Claim) (place : ℕ) (steps : List PlainStep) → Shrinks (step_turn g claim place steps)
   shrinks claim place steps = sound_shrinks (step_turn g claim place steps) (turn claim place steps).language (turn claim place steps).sound
 
-  ended_sound : (steps : List PlainStep) → Sound (ended steps) (Given steps)
+  pub ended_sound : (steps : List PlainStep) → Sound (ended steps) (Given steps)
   unfolding at_end
   ended_sound steps (ends q) zs rest h = taken {X = ScriptFault} (Given steps) [] (gives steps (ends q)) steps zs (ends q) rest refl h given
   ended_sound steps (breaks f) zs rest h = absurd cc
@@ -51,28 +51,32 @@ module _ (g : Setting) where
       let c = chain_sound claim_in (step_turn g) ended (λ claim place xs. (turn claim place xs).language) Given refl (λ claim place xs. (turn claim place xs).sound) ended_sound (size s) before s steps rest h in
       record { text = c.text; is = c.is; spells = to_script before c.text steps c.spells }
 
-  -- one step, and what stands behind it
-  one_more_step : (claim : Claim) (xs : List PlainStep) (t : Lexeme) (a b : List Lexeme) (s : PlainStep) (zs : List PlainStep) (q : ℕ) → Claims (sign_of t) claim → IsRead (Claimed g claim) (earlier_of xs) a s
-      → steps_of g (xs ++ s ∷ []) (b ++> ends q) ≡ Ok (zs, ends q) → steps_of g xs (((t ∷ a) ++ b) ++> ends q) ≡ Ok (zs, ends q)
+  -- over one step, whatever stands behind it
+  over_step : (claim : Claim) (xs : List PlainStep) (t : Lexeme) (a b : List Lexeme) (s : PlainStep) (after : Stream) → Claims (sign_of t) claim → IsRead (Claimed g claim) (earlier_of xs) a s
+      → steps_of g xs (((t ∷ a) ++ b) ++> after) ≡ steps_of g (xs ++ s ∷ []) (b ++> after)
   unfolding steps_of
-  one_more_step claim xs t a b s zs q e l again =
-      chain_step claim_in refl (step_turn g) ended shrinks t claim xs ((a ++ b) ++> ends q) (claim_found (sign_of t) claim e)
-      ∙ ap (then_reads (step_turn g claim t.start xs) (turned (chain_of claim_in refl (step_turn g) ended shrinks))) (append_stream a b (ends q))
-      ∙ bind_ok (step_turn g claim t.start xs) (turned (chain_of claim_in refl (step_turn g) ended shrinks)) (a ++> (b ++> ends q)) (goes (xs ++ s ∷ [])) (b ++> ends q) ((turn claim t.start xs).complete a (goes (xs ++ s ∷ [])) (made a s l) (b ++> ends q) refl)
-      ∙ again
+  over_step claim xs t a b s after e l =
+      chain_step claim_in refl (step_turn g) ended shrinks t claim xs ((a ++ b) ++> after) (claim_found (sign_of t) claim e)
+      ∙ ap (then_reads (step_turn g claim t.start xs) (turned (chain_of claim_in refl (step_turn g) ended shrinks))) (append_stream a b after)
+      ∙ bind_ok (step_turn g claim t.start xs) (turned (chain_of claim_in refl (step_turn g) ended shrinks)) (a ++> (b ++> after)) (goes (xs ++ s ∷ [])) (b ++> after)
+      ((turn claim t.start xs).complete a (goes (xs ++ s ∷ [])) (made a s l) (b ++> after) refl)
+
+  -- and over a script
+  pub over_script : (before : List PlainStep) (ts : List Lexeme) (steps : List PlainStep) → AreApart (names_of_steps before) → IsScript g before ts steps → (after : Stream) → steps_of g before (ts ++> after) ≡ steps_of g steps after
+  over_script before ts steps apart (no_further_step xs) after = refl
+  over_script before ts steps apart (a_further_step xs a b s zs (invariance_step t us x e l) rest) after =
+      over_step claims.Invariant xs t us b x after e (from_named xs apart (IsInvariance g) us x l) ∙ over_script (xs ++ x ∷ []) b zs (still_apart xs (IsInvariance g) us x apart l) rest after
+  over_script before ts steps apart (a_further_step xs a b s zs (waiting_step t us x e l) rest) after =
+      over_step claims.Waiting xs t us b x after e (from_named xs apart (IsWaiting g) us x l) ∙ over_script (xs ++ x ∷ []) b zs (still_apart xs (IsWaiting g) us x apart l) rest after
+  over_script before ts steps apart (a_further_step xs a b s zs (response_step t us x e l) rest) after =
+      over_step claims.Response xs t us b x after e (from_named xs apart (IsResponse g) us x l) ∙ over_script (xs ++ x ∷ []) b zs (still_apart xs (IsResponse g) us x apart l) rest after
 
   no_more_step : (xs : List PlainStep) (q : ℕ) → steps_of g xs (ends q) ≡ Ok (xs, ends q)
   unfolding steps_of at_end
   no_more_step xs q = chain_none claim_in (step_turn g) ended (size (ends q)) xs (ends q) refl
 
   script_complete : (before : List PlainStep) (ts : List Lexeme) (steps : List PlainStep) → AreApart (names_of_steps before) → IsScript g before ts steps → (q : ℕ) → steps_of g before (ts ++> ends q) ≡ Ok (steps, ends q)
-  script_complete before ts steps apart (no_further_step xs) q = no_more_step xs q
-  script_complete before ts steps apart (a_further_step xs a b s zs (invariance_step t us x e l) rest) q =
-      one_more_step claims.Invariant xs t us b x zs q e (from_named xs apart (IsInvariance g) us x l) (script_complete (xs ++ x ∷ []) b zs (still_apart xs (IsInvariance g) us x apart l) rest q)
-  script_complete before ts steps apart (a_further_step xs a b s zs (waiting_step t us x e l) rest) q =
-      one_more_step claims.Waiting xs t us b x zs q e (from_named xs apart (IsWaiting g) us x l) (script_complete (xs ++ x ∷ []) b zs (still_apart xs (IsWaiting g) us x apart l) rest q)
-  script_complete before ts steps apart (a_further_step xs a b s zs (response_step t us x e l) rest) q =
-      one_more_step claims.Response xs t us b x zs q e (from_named xs apart (IsResponse g) us x l) (script_complete (xs ++ x ∷ []) b zs (still_apart xs (IsResponse g) us x apart l) rest q)
+  script_complete before ts steps apart l q = over_script before ts steps apart l (ends q) ∙ no_more_step steps q
 
   script_read_once : (ts : List Lexeme) (xs ys : List PlainStep) → IsScript g [] ts xs → IsScript g [] ts ys → xs ≡ ys
   script_read_once ts xs ys l m = (values (steps_of g [] (ts ++> ends 0)) xs ys (ends 0) (ends 0) (script_complete [] ts xs tt l 0) (script_complete [] ts ys tt m 0)).0
@@ -84,7 +88,7 @@ module _ (g : Setting) where
   ended_ends steps zs (breaks f) rest h = absurd cc
   ended_ends steps zs (more t s) rest h = absurd cc
 
-  never_leaves : (claim : Claim) (place : ℕ) (xs zs : List PlainStep) (s m : Stream) → step_turn g claim place xs s ≡ Ok (leaves zs, m) → ⊥
+  pub never_leaves : (claim : Claim) (place : ℕ) (xs zs : List PlainStep) (s m : Stream) → step_turn g claim place xs s ≡ Ok (leaves zs, m) → ⊥
   never_leaves claim place xs zs s m h =
       let c = (turn claim place xs).sound s (leaves zs) m h in
       none c.text c.spells
@@ -114,7 +118,7 @@ module _ (g : Setting) where
   script_ends before zs s rest h = chain_ends (size s) before zs s rest h
 
 -- THE LAWS
-alone_read : {A : Type 0} (r : Read ScriptFault A) (x : A) → alone r ≡ Ok x → (rest : Stream) × (r ≡ Ok (x, rest))
+pub alone_read : {A : Type 0} (r : Read ScriptFault A) (x : A) → alone r ≡ Ok x → (rest : Stream) × (r ≡ Ok (x, rest))
 alone_read (Ok (y, rest)) x h = let e : y ≡ x = cc in (rest, ap (λ z. Ok (z, rest)) e)
 alone_read (Err f) x h = absurd cc
 

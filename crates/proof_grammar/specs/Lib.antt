@@ -4,3 +4,4 @@ pub mod Drawings
 pub mod Rules
 pub mod Grammar
 pub mod Theorems
+pub mod Growing

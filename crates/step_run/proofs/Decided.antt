@@ -9,6 +9,17 @@ use Rattle.step_report.specs.Goals.{certificates_text}
 use Rattle.step_plan.specs.declared.status.Status.TheVariants.{Proved}
 use Rattle.step_plan.specs.Limits.{limited}
 use Rattle.step_plan.specs.Outcome.{Outcome, IsDecided}
+use Rattle.std.specs.Prelude.{Result, Ok, Err}
+use Rattle.st_tokens.specs.declared.kind.TokenFault.{TokenFault}
+use Rattle.st_tokens.specs.declared.kind.TokenFault.TheVariants as tokens
+use Rattle.spl_semantics.specs.Stores.{holds}
+use Rattle.spl_semantics.specs.Data.{store_of}
+use Rattle.schedule_reader.specs.Schedules.{PlainSchedule, schedule_spelled}
+use Rattle.schedule_reader.specs.declared.fault.ScheduleFault.{ScheduleFault}
+use Rattle.schedule_reader.specs.declared.fault.ScheduleFault.TheVariants as faults
+use Rattle.trace_player.specs.Playing as playing
+use Rattle.step_run.specs.Scheduled.{start_of}
+use Rattle.step_run.specs.Traced.{Scripted, token_refused, schedule_refused, no_start, play_ended, schedule_played, schedule_ended, traced}
 use Rattle.step_run.specs.Conditions.{Posed, setting_of}
 use Rattle.step_run.specs.Checked.{goals_proved, ending, check_ended, checked}
 use Rattle.step_run.specs.Verified.{Verified, all_found, left_open, given_up, verified_from, search_ended, searched, certificates, goals_counted, verified, written, counted}
@@ -48,3 +59,39 @@ written_decided x = searched_decided x certificates certificates_decided
 
 pub counted_decided : (x : Posed) → IsDecided (counted x).status
 counted_decided x = searched_decided x (goals_counted x) (λ ts. tt)
+
+-- the ends of traces
+token_decided : (f : TokenFault) → IsDecided (token_refused f).status
+token_decided (tokens.BadByte place) = tt
+token_decided (tokens.LongNumber place) = tt
+
+refused_decided : (f : ScheduleFault) → IsDecided (schedule_refused f).status
+refused_decided (faults.Token f) = token_decided f
+refused_decided (faults.Syntax place) = tt
+refused_decided (faults.Unknown place) = tt
+refused_decided (faults.Twice place) = tt
+refused_decided (faults.WrongType place) = tt
+refused_decided (faults.Unset place) = tt
+refused_decided (faults.UnknownTransition place) = tt
+refused_decided (faults.Moves place) = tt
+refused_decided faults.Memory = tt
+
+play_decided : (x : Scripted) (s : PlainSchedule) (r : playing.Outcome) → IsDecided (play_ended x s r).status
+play_decided x s (playing.made later) = tt
+play_decided x s (playing.too_large k) = tt
+play_decided x s (playing.illegal k) = tt
+
+played_decided : (x : Scripted) (s : PlainSchedule) → IsDecided (schedule_played x s).status
+unfolding schedule_played
+played_decided x s = by (holds x.program.initial (store_of s.store)) where
+  by : (b : Bool) → IsDecided (cond {A = Outcome} b (play_ended x s (playing.outcome x.program.processes s.moves (start_of x.program s) 0)) no_start).status
+  by true = play_decided x s (playing.outcome x.program.processes s.moves (start_of x.program s) 0)
+  by false = tt
+
+schedule_decided : (x : Scripted) (r : Result PlainSchedule ScheduleFault) → IsDecided (schedule_ended x r).status
+schedule_decided x (Ok s) = played_decided x s
+schedule_decided x (Err f) = refused_decided f
+
+pub traced_decided : (x : Scripted) (text : List ℕ) → IsDecided (traced x text).status
+unfolding traced
+traced_decided x text = schedule_decided x (schedule_spelled x.program.names x.program.processes text)

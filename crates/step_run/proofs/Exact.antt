@@ -6,6 +6,7 @@ use Rattle.st_tokens.specs.declared.limit.LimitKind.TheVariants as limits
 use Rattle.st_form.specs.Condition.{Implication}
 use Rattle.st_certificate.specs.Tree.{Tree}
 use Rattle.temporal_goals.specs.Texts.{PlainStep}
+use Rattle.equation_laws.specs.Equations.{PlainEquation, found}
 use Rattle.farkas_check.specs.Problem.{Setting}
 use Rattle.spl_parser.specs.Theorems.{SpelledIsRead}
 use Rattle.spl_typer.specs.Programs.{Typed}
@@ -23,32 +24,30 @@ use Rattle.step_plan.specs.Reading.{AreTold, IsPast}
 use Rattle.step_plan.specs.Plan.{Told, Plan, ends, goes_on, asks, then_plan, EndsIn}
 use Rattle.step_run.specs.Outcome.{words_refused}
 use Rattle.step_run.specs.Source.{source_spelled}
-use Rattle.step_run.specs.Conditions.{Posed, setting_of, conditions_of}
+use Rattle.step_run.specs.Conditions.{Posed, system_of, setting_of, words_over, conditions_of, passes_limit}
 use Rattle.step_run.specs.Checked.{goals_proved, ending, check_ended, checked}
 use Rattle.step_run.specs.Verified.{all_found, found_before, by_verdict, verdict_on, verified_from, search_ended, searched, certificates, goals_counted, counted}
-use Rattle.step_run.specs.Plans.{source_of_text, script_of_text, obliged, posed_of_text, posed_plan, conditions_plan, check_posed, verify_posed, prove_posed, workload_posed, workload_conditions, count_posed, with_number, numbered, plan_for, plan_of}
-use Rattle.step_run.specs.Headline.{Reads, Checks, AreFound, Decides, Hold, report, numbers, AreShort, IsShort, Headline, Exactly}
+use Rattle.step_run.specs.Invariants.{looked_for, invariants_of}
+use Rattle.step_run.specs.Plans.{source_of_text, script_of_text, obliged, posed_of_text, posed_plan, conditions_plan, check_posed, verify_posed, prove_posed, workload_posed, workload_conditions, count_posed, with_number, numbered, source_plan, find_in, plan_for, plan_of}
+use Rattle.step_run.specs.Headline.{Reads, IsProgram, Checks, AreFound, Decides, Hold, report, numbers, AreShort, IsShort, Headline, Exactly}
 use Rattle.step_run.proofs.Sources.{source_read}
 use Rattle.step_run.proofs.Posing.{script_read, obliged_is, few_drafts}
 use Rattle.step_run.proofs.Stages.{goes_then}
 use Rattle.step_run.proofs.Typed.{spelled_ok}
 use Rattle.step_run.proofs.Named.{only_workload}
+use Rattle.step_run.proofs.Found.{looked, looks, source_found}
 use Rattle.step_plan.proofs.Named.{AsksOnly}
-use Rattle.step_run.proofs.Headline.{IsProved, posed, file_proved, source_proved, posed_proved, Laws, script_of, reads, hold, by_blocks, by_search, check_passed, search_passed, certificates_passed}
-
--- a file that is told and within its limit is gone on with
-file_goes : {A : Type 0} (told : Told) (o : Outcome) (role : FileRole) (name text : List ℕ) (go : List ℕ → Plan A) → told name ≡ Some text → length text ≤ length_limit role → EndsIn told (asks role name go) o → EndsIn told (go text) o
-file_goes told o role name text go is short (inl long) = absurd (let past : IsPast (Some text) (length_limit role) = subst (λ (t : Option (List ℕ)). IsPast t (length_limit role)) is long.0 in omega (arith, past, short))
-file_goes told o role name text go is short (inr m) =
-    let same : m.0 ≡ text = subst (λ (t : Option (List ℕ)). AreTold t m.0) is m.1 in
-    subst (λ (b : List ℕ). EndsIn told (go b) o) same m.3
+use Rattle.judging_laws.specs.Counted.{round_counts}
+use Rattle.judging_laws.proofs.Counted.{counts-are-greatest}
+use Rattle.step_run.specs.Scheduled.{observed_of}
+use Rattle.step_run.specs.Judged.{all_judged}
+use Rattle.step_run.proofs.Judging.{are_judged}
+use Rattle.step_run.proofs.Runs.{trace_shows, trace_ends}
+use Rattle.step_run.proofs.Headline.{IsProved, posed, file_proved, file_goes, source_proved, source_goes, posed_proved, Laws, script_of, reads, hold, by_blocks, by_search, check_passed, search_passed, certificates_passed}
 
 module _ (law : Laws) (spelled : SpelledIsRead) where
-  source_goes : (pt qt : List ℕ) (p : Typed) (steps : List PlainStep) → Reads pt qt p steps → source_of_text pt ≡ goes_on p
-  source_goes pt qt p steps r = source_read pt (Ok p) (spelled_ok pt r.text p (spelled pt r.text r.spelled) r.typed)
-
   posed_goes : (pt qt : List ℕ) (p : Typed) (steps : List PlainStep) → Reads pt qt p steps → posed_of_text p qt ≡ goes_on (posed p steps)
-  posed_goes pt qt p steps r = goes_then (obliged p) (script_of_text p qt) steps (goes_on (posed p steps)) (script_read p qt (Ok steps) (script_of law qt p steps r.script)) (obliged_is p steps None r.few)
+  posed_goes pt qt p steps r = goes_then (obliged p) (script_of_text p qt) steps (goes_on (posed p steps)) (script_read p qt (Ok steps) (script_of law qt p steps r.scripted.script)) (obliged_is p steps None r.few)
 
   module _ (told : Told) (o : Outcome) where
     -- the files are read, and the conditions posed
@@ -56,7 +55,7 @@ module _ (law : Laws) (spelled : SpelledIsRead) where
         → EndsIn told (then_plan (conditions_plan a b) next) o → EndsIn told (next (posed p steps)) o
     files_go a b pt qt p steps next ia ib short r e =
         let first = file_goes told o Program a pt (λ text. then_plan (then_plan (source_of_text text) (posed_plan b)) next) ia short.0 e in
-        let second = subst (λ (q : Plan Typed). EndsIn told (then_plan (then_plan q (posed_plan b)) next) o) (source_goes pt qt p steps r) first in
+        let second = subst (λ (q : Plan Typed). EndsIn told (then_plan (then_plan q (posed_plan b)) next) o) (source_goes spelled pt p r.scripted.program) first in
         let third = file_goes told o Proof b qt (λ text. then_plan (posed_of_text p text) next) ib short.1 second in
         subst (λ (q : Plan Posed). EndsIn told (then_plan q next) o) (posed_goes pt qt p steps r) third
 
@@ -132,14 +131,14 @@ module _ (law : Laws) (spelled : SpelledIsRead) (told : Told) (o : Outcome) wher
       let last = file_proved told o {A = ⊥} Certificates c ct (λ text. ends (checked (posed f.p f.steps) text)) ic f.goes proved in
       let passed = check_passed (posed f.p f.steps) ct o last.1 proved in
       let blocks = (law.blocks (setting_of f.p) (conditions_of f.p f.steps) (whole_text ct) refl (room pt qt f.p f.steps f.reads_them)).0 passed.all in
-      let holds = hold law f.p f.steps (pt, f.source) (qt, script_of law qt f.p f.steps f.reads_them.script) (by_blocks law f.p (conditions_of f.p f.steps) (whole_text ct) blocks) in
+      let holds = hold law f.p f.steps (pt, f.source) (qt, script_of law qt f.p f.steps f.reads_them.scripted.script) (by_blocks law f.p (conditions_of f.p f.steps) (whole_text ct) blocks) in
       (f.short, last.0, (f.p, f.steps, record { reads = f.reads_them; blocks = blocks }, holds, ap (λ (x : Outcome). x.text) passed.same))
 
   check_ends : (a b c pt qt ct : List ℕ) (p : Typed) (steps : List PlainStep) → told a ≡ Some pt → told b ≡ Some qt → told c ≡ Some ct → AreShort pt qt → IsShort ct → Checks pt qt ct p steps
       → EndsIn told (plan_for (checks a b c)) o → IsProved o
   check_ends a b c pt qt ct p steps ia ib ic short third h e =
       let goes = files_go law spelled told o a b pt qt p steps (check_posed c) ia ib short h.reads e in
-      let last : checked (posed p steps) ct ≡ o = file_goes {A = ⊥} told o Certificates c ct (λ text. ends (checked (posed p steps) text)) ic third goes in
+      let last : checked (posed p steps) ct ≡ o = file_goes told o {A = ⊥} Certificates c ct (λ text. ends (checked (posed p steps) text)) ic third goes in
       let all = (law.blocks (setting_of p) (conditions_of p steps) (whole_text ct) refl (room pt qt p steps h.reads)).1 h.blocks in
       subst IsProved (sym (discharged_ends (posed p steps) ct all) ∙ last) refl
 
@@ -152,7 +151,7 @@ module _ (law : Laws) (spelled : SpelledIsRead) (told : Told) (o : Outcome) wher
       let x = posed f.p f.steps in
       let last : searched x (all x) ≡ o = subst (λ (q : Plan ⊥). EndsIn told q o) (is x) f.goes in
       let found = search_passed x (all x) o last proved in
-      let holds = hold law f.p f.steps (pt, f.source) (qt, script_of law qt f.p f.steps f.reads_them.script) (by_search law f.p f.steps found.trees (pt, f.source) (qt, script_of law qt f.p f.steps f.reads_them.script) found.found) in
+      let holds = hold law f.p f.steps (pt, f.source) (qt, script_of law qt f.p f.steps f.reads_them.scripted.script) (by_search law f.p f.steps found.trees (pt, f.source) (qt, script_of law qt f.p f.steps f.reads_them.scripted.script) found.found) in
       (f.short, (f.p, f.steps, found.trees, record { reads = f.reads_them; found = found.found }, holds, found.same))
 
   search_ends : (a b pt qt : List ℕ) (all : Posed → List Tree → Outcome) (next : Posed → Plan ⊥) → ((x : Posed) → next x ≡ ends (searched x (all x))) → (p : Typed) (steps : List PlainStep) (ts : List Tree)
@@ -181,10 +180,33 @@ module _ (law : Laws) (spelled : SpelledIsRead) (told : Told) (o : Outcome) wher
   workload_ends : (n : ℕ) (p : Typed) (steps : List PlainStep) (ts : List Tree) → Decides (program_text n) (proof_text n) p steps ts → EndsIn told (plan_for (makes n)) o → IsProved o
   workload_ends n p steps ts h e =
       let x = posed p steps in
-      let first = ap (λ (q : Plan Typed). then_plan q (workload_posed n)) (source_goes law spelled (program_text n) (proof_text n) p steps h.reads) in
+      let first = ap (λ (q : Plan Typed). then_plan q (workload_posed n)) (source_goes spelled (program_text n) p h.reads.scripted.program) in
       let second : workload_conditions n ≡ goes_on x = first ∙ posed_goes law spelled (program_text n) (proof_text n) p steps h.reads in
       let last : with_number n (counted x) ≡ o = subst (λ (q : Plan Posed). EndsIn told (numbered n (then_plan q count_posed)) o) second e in
       subst IsProved (ap (with_number n) (sym (found_ends x (goals_counted x) ts h.found)) ∙ last) refl
+
+  -- invariants that are found
+  finds_show : (a pt : List ℕ) → told a ≡ Some pt → EndsIn told (plan_for (finds a)) o → IsProved o
+      → (length pt ≤ 4194304) × ((p : Typed) × (es : List PlainEquation) × IsProgram pt p × (found (system_of p) ≡ Some es))
+      × ((p : Typed) × (steps : List PlainStep) × (ts : List Tree) × Decides pt o.text p steps ts × Hold p steps)
+  finds_show a pt ia e proved =
+      let first = file_proved told o Program a pt (λ text. then_plan (source_of_text text) find_in) ia e proved in
+      let source = source_found told o pt first.1 proved in
+      let p = source.0 in
+      let l = looked p o source.2 proved in
+      let script = script_of law o.text p l.steps l.spells in
+      let them = reads law pt o.text p l.steps source.1 script l.few in
+      let holds = hold law p l.steps (pt, source.1) (o.text, script) (by_search law p l.steps l.trees (pt, source.1) (o.text, script) l.decided) in (
+        first.0,
+        (p, l.equations, them.scripted.program, l.found_are),
+        (p, l.steps, l.trees, record { reads = them; found = l.decided }, holds),
+      )
+
+  finds_end : (a pt : List ℕ) (p : Typed) (es : List PlainEquation) → told a ≡ Some pt → length pt ≤ 4194304 → IsProgram pt p → found (system_of p) ≡ Some es → EndsIn told (plan_for (finds a)) o → IsProved o
+  finds_end a pt p es ia short h are e =
+      let goes = file_goes told o Program a pt (λ text. then_plan (source_of_text text) find_in) ia short e in
+      let last : invariants_of p ≡ o = subst (λ (q : Plan Typed). EndsIn told (then_plan q find_in) o) (source_goes spelled pt p h) goes in
+      subst IsProved last (looks p es are)
 
 -- what a request shows with status 0
 pub shows : (law : Laws) → SpelledIsRead → (told : Told) (request : Option PlainRequest) (o : Outcome) (Said : List ℕ → Type 0) → EndsIn told (plan_of request) o → IsProved o → Said o.text → Headline told Said request
@@ -211,8 +233,18 @@ shows law spelled told (Some (proves a b)) o Said e proved said =
 shows law spelled told (Some (makes n)) o Said e proved said =
     let t = workload_shows law spelled told o n e proved in
     (t.0, t.1, t.2, t.3, t.4, subst Said t.5 said)
-shows law spelled told (Some (traces p q s)) o Said e proved said = absurd (let same : IsProved words_refused = subst IsProved (sym e) proved in cc)
-shows law spelled told (Some (finds p)) o Said e proved said = absurd (let same : IsProved words_refused = subst IsProved (sym e) proved in cc)
+shows law spelled told (Some (traces a b c)) o Said e proved said =
+    each_told (told a) _ (λ pt ia. each_told (told b) _ (λ qt ib. each_told (told c) _ (λ st ic. (
+    let r = trace_shows law spelled told o a b c pt qt st ia ib ic e proved in
+    let t = r.2 in
+    let seen = observed_of t.0 t.2 t.3 in
+    (t.0, t.1, t.2, t.3, round_counts seen, all_judged seen t.1, t.4, counts-are-greatest seen, are_judged seen t.1, subst Said (ap (λ (x : Outcome). x.text) t.5) said)
+    ))))
+shows law spelled told (Some (finds a)) o Said e proved said =
+    each_told (told a) _ (λ pt ia. (
+    let t = (finds_show law spelled told o a pt ia e proved).2 in
+    (t.0, o.text, t.1, t.2, t.3, t.4, said)
+    ))
 
 -- and when it comes
 pub exactly : (law : Laws) → SpelledIsRead → (told : Told) (request : Option PlainRequest) (o : Outcome) → EndsIn told (plan_of request) o → Exactly told o.status request
@@ -238,5 +270,13 @@ exactly law spelled told (Some (proves a b)) o e =
     )))
 exactly law spelled told (Some (makes n)) o e =
     ((λ proved. (let t = workload_shows law spelled told o n e proved in (t.0, t.1, t.2, t.3))), (λ h. workload_ends law spelled told o n h.0 h.1 h.2 h.3 e))
-exactly law spelled told (Some (traces p q s)) o e = λ proved. (let same : IsProved words_refused = subst IsProved (sym e) proved in cc)
-exactly law spelled told (Some (finds p)) o e = λ proved. (let same : IsProved words_refused = subst IsProved (sym e) proved in cc)
+exactly law spelled told (Some (traces a b c)) o e =
+    each_told (told a) _ (λ pt ia. each_told (told b) _ (λ qt ib. each_told (told c) _ (λ st ic. (
+      (λ proved. (let r = trace_shows law spelled told o a b c pt qt st ia ib ic e proved in let t = r.2 in (r.0, r.1, (t.0, t.1, t.2, t.3, t.4)))),
+      (λ h. trace_ends law spelled told o a b c pt qt st h.2.0 h.2.1 h.2.2 h.2.3 ia ib ic h.0 h.1 h.2.4 e),
+    ))))
+exactly law spelled told (Some (finds a)) o e =
+    each_told (told a) _ (λ pt ia. (
+      (λ proved. (let s = finds_show law spelled told o a pt ia e proved in (s.0, s.1))),
+      (λ h. finds_end law spelled told o a pt h.1.0 h.1.1 ia h.0 h.1.2 h.1.3 e),
+    ))

@@ -30,9 +30,10 @@ use Rattle.step_run.specs.Refusals.{of_token, of_stop, of_rule, of_kind, of_scri
 use Rattle.step_run.specs.Outcome.{program_refused, proof_refused}
 use Rattle.step_run.specs.Source.{source_typed, source_of, source_spelled}
 use Rattle.step_run.specs.Conditions.{Posed, system_of, steps_spelled, passes_limit}
-use Rattle.step_run.specs.Plans.{program_or_end, source_of_text, source_plan, steps_or_end, script_of_text, posed_or_end, obliged, posed_of_text, posed_plan, conditions_plan, check_posed, verify_posed, prove_posed, count_posed, workload_posed, workload_conditions, numbered, plan_for, plan_of}
+use Rattle.step_run.specs.Plans.{program_or_end, source_of_text, source_plan, steps_or_end, script_of_text, script_plan, scripted_plan, trace_scripted, find_in, posed_or_end, obliged, posed_of_text, posed_plan, conditions_plan, check_posed, verify_posed, prove_posed, count_posed, workload_posed, workload_conditions, numbered, plan_for, plan_of}
 use Rattle.step_run.specs.Decided.{PlansAreDecided}
-use Rattle.step_run.proofs.Decided.{checked_decided, verified_decided, written_decided, counted_decided}
+use Rattle.step_run.proofs.Decided.{checked_decided, verified_decided, written_decided, counted_decided, traced_decided}
+use Rattle.step_run.proofs.Found.{looked-decided}
 use Rattle.step_run.proofs.Sources.{source_read}
 use Rattle.step_run.proofs.Posing.{script_read, obliged_is}
 
@@ -173,8 +174,12 @@ module _ (typed : ReadIsTyped) (named : FaultsAreNamed) where
   decided_for (verifies a b) = decided_then verify_posed (conditions_plan a b) (decided_conditions a b) verified_decided
   decided_for (proves a b) = decided_then prove_posed (conditions_plan a b) (decided_conditions a b) written_decided
   decided_for (makes n) = numbered_decided n (then_plan (workload_conditions n) count_posed) (decided_workload n)
-  decided_for (traces p q s) = tt
-  decided_for (finds p) = tt
+  decided_for (traces a b c) =
+      decided_then (trace_scripted c) (scripted_plan a b)
+      (decided_then (script_plan b) (source_plan a) decided_source
+      (λ p text. decided_then (λ steps. goes_on (record { program = p; steps = steps })) (script_of_text p text) (decided_script p text) (λ steps. tt)))
+      (λ x text. traced_decided x text)
+  decided_for (finds p) = decided_then find_in (source_plan p) decided_source (λ p. looked-decided p)
 
   decided_of : (o : Option PlainRequest) → EndsDecided (plan_of o)
   decided_of None = tt

@@ -32,7 +32,7 @@ use Rattle.spl_translation.proofs.Systemic.{translation_is_system}
 use Rattle.obligation_laws.specs.Obligations.{AreValid}
 use Rattle.obligation_laws.proofs.Enough.{enough}
 use Rattle.script_obligations.proofs.Programs.{scripts-hold}
-use Rattle.spl_parser.specs.Theorems.{ReadIsSpelled}
+use Rattle.spl_parser.specs.Theorems.{ReadIsSpelled, SpelledIsRead}
 use Rattle.spl_typer.specs.Programs.{Typed, typing}
 use Rattle.spl_typer.specs.ProgramRules.{program_faults}
 use Rattle.expression_typer.specs.declared.fault.TypeFault.{TypeFault}
@@ -50,8 +50,8 @@ use Rattle.step_report.specs.Goals.{certificates_text}
 use Rattle.step_plan.specs.declared.status.Status.TheVariants.{Proved}
 use Rattle.step_plan.specs.Limits.{length_limit, length_kind, limited}
 use Rattle.step_plan.specs.Outcome.{Outcome}
-use Rattle.step_plan.specs.Reading.{AreTold}
-use Rattle.step_plan.specs.Plan.{Told, Plan, asks, then_plan, EndsIn}
+use Rattle.step_plan.specs.Reading.{AreTold, IsPast}
+use Rattle.step_plan.specs.Plan.{Told, Plan, goes_on, asks, then_plan, EndsIn}
 use Rattle.step_run.specs.declared.refusals.Refusal.{Refusal}
 use Rattle.step_run.specs.declared.refusals.Refusal.TheVariants.{Fault, Limit, Memory}
 use Rattle.step_run.specs.Refusals.{of_script}
@@ -64,10 +64,10 @@ use Rattle.step_run.specs.Checked.{goals_proved, ending, check_ended, checked}
 use Rattle.step_run.specs.Verified.{Verified, all_found, left_open, given_up, by_verdict, verdict_on, verified_from, search_ended, searched, certificates}
 use Rattle.step_run.specs.Plans.{program_or_end, source_of_text, steps_or_end, posed_or_end, obliged, posed_of_text}
 use Rattle.step_run.specs.Posing.{IsScript}
-use Rattle.step_run.specs.Headline.{Reads, AreFound, Hold}
+use Rattle.step_run.specs.Headline.{IsProgram, IsScripted, Reads, AreFound, Hold}
 use Rattle.step_run.proofs.Sources.{source_read}
 use Rattle.step_run.proofs.Posing.{script_read, obliged_is, is_proof, is_written}
-use Rattle.step_run.proofs.Typed.{from_text, well_typed}
+use Rattle.step_run.proofs.Typed.{from_text, well_typed, spelled_ok}
 
 abbrev pub IsProved : Outcome → Type 0
 IsProved o = o.status ≡ Proved
@@ -82,7 +82,7 @@ refused_not (Fault kind place) e = cc
 refused_not (Limit kind) e = cc
 refused_not Memory e = cc
 
-proof_not : (refusal : Refusal) → IsProved (proof_refused refusal) → ⊥
+pub proof_not : (refusal : Refusal) → IsProved (proof_refused refusal) → ⊥
 proof_not (Fault kind place) e = cc
 proof_not (Limit kind) e = cc
 proof_not Memory e = cc
@@ -91,7 +91,7 @@ limited_not : (kind : LimitKind) → IsProved (limited kind) → ⊥
 limited_not kind e = cc
 
 module _ (told : Told) (o : Outcome) where
-  ends_as : (p : Outcome) → (IsProved p → ⊥) → p ≡ o → IsProved o → ⊥
+  pub ends_as : (p : Outcome) → (IsProved p → ⊥) → p ≡ o → IsProved o → ⊥
   ends_as p never is e = never (subst IsProved (sym is) e)
 
   -- a file that is told is within its limit, and its bytes are gone on with
@@ -101,8 +101,15 @@ module _ (told : Told) (o : Outcome) where
       let same : m.0 ≡ text = subst (λ (t : Option (List ℕ)). AreTold t m.0) is m.1 in
       (subst (λ (b : List ℕ). length b ≤ length_limit role) same m.2, subst (λ (b : List ℕ). EndsIn told (go b) o) same m.3)
 
+  -- one within its limit is gone on with
+  pub file_goes : {A : Type 0} (role : FileRole) (name text : List ℕ) (go : List ℕ → Plan A) → told name ≡ Some text → length text ≤ length_limit role → EndsIn told (asks role name go) o → EndsIn told (go text) o
+  file_goes role name text go is short (inl long) = absurd (let past : IsPast (Some text) (length_limit role) = subst (λ (t : Option (List ℕ)). IsPast t (length_limit role)) is long.0 in omega (arith, past, short))
+  file_goes role name text go is short (inr m) =
+      let same : m.0 ≡ text = subst (λ (t : Option (List ℕ)). AreTold t m.0) is m.1 in
+      subst (λ (b : List ℕ). EndsIn told (go b) o) same m.3
+
   -- the text of the program spells one
-  pub source_proved : (text : List ℕ) (f : Typed → Plan Posed) (next : Posed → Plan ⊥) → EndsIn told (then_plan (then_plan (source_of_text text) f) next) o → IsProved o
+  pub source_proved : {A : Type 0} (text : List ℕ) (f : Typed → Plan A) (next : A → Plan ⊥) → EndsIn told (then_plan (then_plan (source_of_text text) f) next) o → IsProved o
       → (p : Typed) × (source_spelled text ≡ Ok p) × EndsIn told (then_plan (f p) next) o
   source_proved text f next e proved =
       by (source_spelled text) refl (subst (λ (q : Plan Typed). EndsIn told (then_plan (then_plan q f) next) o) (source_read text (source_spelled text) refl) e) where
@@ -128,6 +135,9 @@ module _ (told : Told) (o : Outcome) where
         by (Ok steps) is g =
             by_limit steps (passes_limit p steps) is refl (subst (λ (q : Plan Posed). EndsIn told (then_plan q next) o) (obliged_is p steps (passes_limit p steps) refl) g)
         by (Err fault) is g = absurd (ends_as (proof_refused (of_script fault)) (proof_not (of_script fault)) g proved)
+
+pub source_goes : SpelledIsRead → (pt : List ℕ) (p : Typed) → IsProgram pt p → source_of_text pt ≡ goes_on p
+source_goes law pt p h = source_read pt (Ok p) (spelled_ok pt h.text p (law pt h.text h.spelled) h.typed)
 
 -- what is within bounds is as the search wants it
 pub record IsSearched (p : Typed) (d : Draft) : Type 0 where
@@ -185,17 +195,21 @@ module _ (law : Laws) where
   script_of qt p steps h = law.scripts_read (words_over p) qt steps h
 
   -- the texts are well formed
-  pub reads : (pt qt : List ℕ) (p : Typed) (steps : List PlainStep) → source_spelled pt ≡ Ok p → steps_spelled p qt ≡ Ok steps → passes_limit p steps ≡ None → Reads pt qt p steps
-  reads pt qt p steps source script few =
+  pub scripted : (pt qt : List ℕ) (p : Typed) (steps : List PlainStep) → source_spelled pt ≡ Ok p → steps_spelled p qt ≡ Ok steps → IsScripted pt qt p steps
+  scripted pt qt p steps source script =
       let f = from_text pt p source in
       record {
-        text = f.program;
-        spelled = law.spelled pt f.program f.reads;
-        lawful = told_least (typing f.program) p (program_faults f.program) f.types (law.typed pt f.program f.reads).1;
-        typed = f.types;
+        program = record {
+          text = f.program;
+          spelled = law.spelled pt f.program f.reads;
+          lawful = told_least (typing f.program) p (program_faults f.program) f.types (law.typed pt f.program f.reads).1;
+          typed = f.types;
+        };
         script = law.scripts_spelled (words_over p) qt steps script;
-        few = few;
       }
+
+  pub reads : (pt qt : List ℕ) (p : Typed) (steps : List PlainStep) → source_spelled pt ≡ Ok p → steps_spelled p qt ≡ Ok steps → passes_limit p steps ≡ None → Reads pt qt p steps
+  reads pt qt p steps source script few = record { scripted = scripted pt qt p steps source script; few = few }
 
   -- where all conditions are valid, the goals hold
   abbrev pub AllValid : Typed → List Implication → Type 0

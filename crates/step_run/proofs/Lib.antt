@@ -12,3 +12,10 @@ pub mod Filed
 pub mod Tops
 pub mod Typed
 pub mod Verdicts
+pub mod Judging
+pub mod Runs
+pub mod Scripts
+pub mod ReportedRuns
+pub mod Found
+pub mod Growing
+pub mod Accepting

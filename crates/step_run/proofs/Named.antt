@@ -15,7 +15,8 @@ use Rattle.step_run.specs.declared.refusals.Refusal.{Refusal}
 use Rattle.step_run.specs.Conditions.{steps_spelled, passes_limit}
 use Rattle.step_run.specs.Source.{source_spelled}
 use Rattle.step_run.specs.Request.{NamesFile}
-use Rattle.step_run.specs.Plans.{program_or_end, source_of_text, source_plan, steps_or_end, script_of_text, posed_or_end, obliged, posed_of_text, posed_plan, conditions_plan, check_posed, verify_posed, prove_posed, count_posed, workload_posed, workload_conditions, numbered, plan_for, plan_of}
+use Rattle.step_run.specs.Traced.{Scripted}
+use Rattle.step_run.specs.Plans.{program_or_end, source_of_text, source_plan, steps_or_end, script_of_text, posed_or_end, obliged, posed_of_text, posed_plan, conditions_plan, check_posed, verify_posed, prove_posed, count_posed, workload_posed, workload_conditions, numbered, script_plan, scripted_plan, trace_scripted, plan_for, plan_of, find_in}
 use Rattle.step_workload.specs.Texts.{program_text, proof_text}
 
 module _ (P : Names) where
@@ -49,6 +50,11 @@ module _ (P : Names) where
   only_conditions : (a b : List ℕ) → P Program a → P Proof b → AsksOnly P (conditions_plan a b)
   only_conditions a b first second = only_then P (posed_plan b) (source_plan a) (first, only_source) (λ p. (second, only_posed p))
 
+  only_scripted : (a b : List ℕ) → P Program a → P Proof b → AsksOnly P (scripted_plan a b)
+  only_scripted a b first second =
+      only_then P (script_plan b) (source_plan a) (first, only_source)
+      (λ p. (second, λ text. only_then P (λ steps. goes_on (record { program = p; steps = steps })) (script_of_text p text) (only_script p text) (λ steps. tt)))
+
   numbered_only : (n : ℕ) (plan : Plan ⊥) → AsksOnly P plan → AsksOnly P (numbered n plan)
   numbered_only n (ends o) h = tt
   numbered_only n (goes_on x) h = absurd x
@@ -67,8 +73,10 @@ only_for (proves a b) = let P : Names = NamesFile (Some (proves a b)) in only_th
 only_for (makes n) =
     let P : Names = NamesFile (Some (makes n)) in
     numbered_only P n (then_plan (workload_conditions n) count_posed) (only_workload P n)
-only_for (traces p q s) = tt
-only_for (finds p) = tt
+only_for (traces a b c) =
+    let P : Names = NamesFile (Some (traces a b c)) in
+    only_then P (trace_scripted c) (scripted_plan a b) (only_scripted P a b refl refl) (λ x. (refl, λ text. tt))
+only_for (finds p) = let P : Names = NamesFile (Some (finds p)) in only_then P find_in (source_plan p) (refl, only_source P) (λ x. tt)
 
 only_of : (o : Option PlainRequest) → AsksOnly (NamesFile o) (plan_of o)
 only_of None = tt

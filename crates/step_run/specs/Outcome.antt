@@ -12,7 +12,7 @@ use Rattle.step_run.specs.declared.refusals.Refusal.TheVariants.{Fault, Limit, M
 
 -- the commands that are answered
 abbrev pub answered : List Command
-answered = commands.Check ∷ commands.Verify ∷ commands.Prove ∷ commands.Workload ∷ []
+answered = commands.Check ∷ commands.Verify ∷ commands.Prove ∷ commands.Workload ∷ commands.Trace ∷ commands.Invariants ∷ []
 
 abbrev pub words_refused : Outcome
 words_refused = record { status = Words; text = words_refused_text answered }

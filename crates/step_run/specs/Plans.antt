@@ -5,7 +5,7 @@ use Rattle.vc_generator.specs.declared.faults.VcFault.{VcFault}
 use Rattle.spl_typer.specs.Programs.{Typed}
 use Rattle.proof_script.specs.declared.fault.ScriptFault.{ScriptFault}
 use Rattle.step_words.specs.Request.{PlainRequest, checks, verifies, proves, makes, traces, finds}
-use Rattle.step_report.specs.declared.refusals.FileRole.TheVariants.{Program, Proof, Certificates}
+use Rattle.step_report.specs.declared.refusals.FileRole.TheVariants.{Program, Proof, Certificates, Schedule}
 use Rattle.step_report.specs.Goals.{workload_line}
 use Rattle.step_plan.specs.Limits.{limited}
 use Rattle.step_plan.specs.Outcome.{Outcome}
@@ -17,6 +17,8 @@ use Rattle.step_run.specs.Conditions.{Posed, steps_spelled, conditions_of, passe
 use Rattle.step_run.specs.Outcome.{words_refused, program_refused, proof_refused}
 use Rattle.step_run.specs.Checked.{checked}
 use Rattle.step_run.specs.Verified.{verified, written, counted}
+use Rattle.step_run.specs.Traced.{Scripted, traced}
+use Rattle.step_run.specs.Invariants.{invariants_of}
 use Rattle.step_workload.specs.Texts.{program_text, proof_text}
 
 -- the program that a text spells
@@ -84,14 +86,31 @@ numbered n (ends o) = ends (with_number n o)
 numbered n (goes_on x) = goes_on x
 numbered n (asks role name go) = asks role name (λ bytes. numbered n (go bytes))
 
--- the run that a request asks for; two requests aren't answered
+-- a trace, which makes no conditions
+abbrev pub scripted_of_text : Typed → List ℕ → Plan Scripted
+scripted_of_text p text = then_plan (script_of_text p text) (λ steps. goes_on (record { program = p; steps = steps }))
+
+abbrev pub script_plan : List ℕ → Typed → Plan Scripted
+script_plan name p = then_plan (file_plan Proof name) (scripted_of_text p)
+
+abbrev pub scripted_plan : List ℕ → List ℕ → Plan Scripted
+scripted_plan program proof = then_plan (source_plan program) (script_plan proof)
+
+abbrev pub trace_scripted : List ℕ → Scripted → Plan ⊥
+trace_scripted name x = file_end Schedule name (traced x)
+
+-- the invariants that are found for a program
+abbrev pub find_in : Typed → Plan ⊥
+find_in p = ends (invariants_of p)
+
+-- the run that a request asks for
 abbrev pub plan_for : PlainRequest → Plan ⊥
 plan_for (checks program proof certificates) = then_plan (conditions_plan program proof) (check_posed certificates)
 plan_for (verifies program proof) = then_plan (conditions_plan program proof) verify_posed
 plan_for (proves program proof) = then_plan (conditions_plan program proof) prove_posed
 plan_for (makes n) = numbered n (then_plan (workload_conditions n) count_posed)
-plan_for (traces program proof schedule) = ends words_refused
-plan_for (finds program) = ends words_refused
+plan_for (traces program proof schedule) = then_plan (scripted_plan program proof) (trace_scripted schedule)
+plan_for (finds program) = then_plan (source_plan program) find_in
 
 abbrev pub plan_of : Option PlainRequest → Plan ⊥
 plan_of None = ends words_refused

@@ -19,8 +19,14 @@ named_file (proves p q) Proof = Some q
 named_file (proves p q) Certificates = None
 named_file (proves p q) Schedule = None
 named_file (makes n) role = None
-named_file (traces p q s) role = None
-named_file (finds p) role = None
+named_file (traces p q s) Program = Some p
+named_file (traces p q s) Proof = Some q
+named_file (traces p q s) Certificates = None
+named_file (traces p q s) Schedule = Some s
+named_file (finds p) Program = Some p
+named_file (finds p) Proof = None
+named_file (finds p) Certificates = None
+named_file (finds p) Schedule = None
 
 -- what the words ask for names this file
 abbrev pub NamesFile : Option PlainRequest → FileRole → List ℕ → Type 0

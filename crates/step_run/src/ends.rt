@@ -20,6 +20,8 @@ pub fn words_refused(alloc: Global) -> Result<Ended, Memory>
         Command::Verify,
         Command::Prove,
         Command::Workload,
+        Command::Trace,
+        Command::Invariants,
     ];
     let mut text = Vec::new(alloc);
     step_report::words_refused(&mut text, &commands)?;

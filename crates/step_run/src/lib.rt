@@ -6,13 +6,17 @@ mod checking;
 mod crew;
 mod deciding;
 mod ends;
+mod invariants;
 pub mod laws;
 mod posed;
 mod proving;
 mod refusals;
 mod reports;
+mod scheduling;
+mod scripted;
 mod source;
 mod top;
+mod tracing;
 mod work;
 mod workload;
 

@@ -42,7 +42,7 @@ pub struct Posed {
 }
 
 /// The script that a text spells over a program, or the run's end.
-fn script_of_text(
+pub fn script_of_text(
     alloc: Global,
     source: &Source,
     fts: &Fts,

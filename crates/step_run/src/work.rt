@@ -10,8 +10,10 @@ ghost use Rattle.step_run.specs.Plans.{conditions_plan, check_posed, verify_pose
 
 use crate::checking::checked;
 use crate::ends::words_refused;
+use crate::invariants::find_in;
 use crate::posed::ask_conditions;
 use crate::proving::{verified, written};
+use crate::tracing::trace;
 use crate::workload::workload;
 use st_memory::Memory;
 use st_outside::{Files, Gate};
@@ -118,8 +120,8 @@ fn answer<R: Threads + Sync, F: Files, G: Gate + Sync>(
         }
         Request::Prove(program, proof) => prove(rt, alloc, files, gate, program, proof),
         Request::Workload(n) => workload(rt, alloc, gate, n),
-        Request::Trace(_, _, _) => words_refused(alloc),
-        Request::Invariants(_) => words_refused(alloc),
+        Request::Trace(program, proof, schedule) => trace(alloc, files, program, proof, schedule),
+        Request::Invariants(program) => find_in(rt, alloc, files, gate, program),
     }
 }
 

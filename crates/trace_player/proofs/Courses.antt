@@ -64,7 +64,7 @@ module _ (p : Processes) where
   names_show (step ∷ later) zero = refl
   names_show (step ∷ later) (suc k) = names_show later k
 
-  rows_long : (ss : List State) (enabled : List (Vec TransName Global)) → AreEnabled p ss enabled → length enabled ≡ length ss
+  pub rows_long : (ss : List State) (enabled : List (Vec TransName Global)) → AreEnabled p ss enabled → length enabled ≡ length ss
   rows_long [] [] h = refl
   rows_long [] (row ∷ enabled) h = absurd h
   rows_long (s ∷ ss) [] h = absurd h

@@ -3,3 +3,8 @@ pub mod Outcomes
 pub mod Narrow
 pub mod Courses
 pub mod StatementNames
+pub mod Controls
+pub mod Clear
+pub mod Verdicts
+pub mod Lengths
+pub mod Marking

@@ -1,3 +1,6 @@
 pub mod Seen
 pub mod Playing
 pub mod Courses
+pub mod Fronts
+pub mod Judgements
+pub mod Columns

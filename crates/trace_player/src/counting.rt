@@ -23,12 +23,13 @@ fn rows_of(
     alloc: Global,
     names: &[(TransName, Fairness)],
     enabled: &[Vec<TransName>],
+    statements: u32,
 ) -> Result<Vec<Vec<bool>>, Memory>
     ensures { IfOk result (λ v. map (λ r. r.items) v.items ≡ are_rows names.now enabled.now) }
 {
     let mut rows = Vec::new(alloc);
     for row in enabled {
-        rows.push(flags_of(alloc, names, row)?)?;
+        rows.push(flags_of(alloc, names, row, statements)?)?;
     }
     Ok(rows)
 }
@@ -57,7 +58,7 @@ pub fn course_of(alloc: Global, program: &Program, played: &Played) -> Result<Co
     let names = all_names(alloc, program)?;
     Ok(Course {
         fairness: fairness_of(alloc, &names)?,
-        enabled: rows_of(alloc, &names, &played.enabled)?,
+        enabled: rows_of(alloc, &names, &played.enabled, program.statements)?,
         taken: places_of(alloc, &names, &played.names)?,
     })
 }

@@ -2,9 +2,12 @@
 #![tactic(auto)]
 
 mod beginning;
+mod columns;
 mod counting;
 mod enabling;
 mod faults;
+mod fronts;
+mod judgement;
 mod naming;
 mod playing;
 mod runs;
@@ -12,5 +15,6 @@ mod values;
 
 pub use counting::rounds;
 pub use faults::PlayFault;
+pub use judgement::judge;
 pub use playing::play;
 pub use runs::Played;

@@ -1,11 +1,13 @@
 //! The names of a program's transitions, in order, each with what is owed to it.
 
-ghost use Rattle.std.specs.Prelude.{◌≡◌, ◌++◌, ◌∷◌, [], IfOk, OnOk, map};
+ghost use Rattle.std.specs.Prelude.{◌≡◌, ℕ, ◌++◌, ◌∷◌, [], false, Some, IfOk, OnOk, map, slice_get};
+ghost use Rattle.st_form.specs.declared.conditions.Part.{Part};
 ghost use Rattle.st_form.specs.declared.conditions.TransName.TheVariants.{Step};
 ghost use Rattle.st_program.specs.Plain.{plain_kind, plain_children};
-ghost use Rattle.spl_semantics.specs.Names.{own_names, all_names};
+ghost use Rattle.spl_semantics.specs.Names.{own_names, all_names, same_name};
 ghost use Rattle.spl_semantics.specs.Runs.{place_in};
 ghost use Rattle.trace_player.specs.Playing.{is_among};
+ghost use Rattle.trace_player.specs.Courses.{Marks};
 
 use crate::enabling::same_name;
 use observations::Fairness;
@@ -85,17 +87,54 @@ fn is_among(name: TransName, row: &[TransName]) -> bool
     false
 }
 
-/// For each name a flag, whether it is one of these.
+/// Sets the flag of the name's statement.
+fn mark(marks: &mut [bool], name: TransName)
+    ensures { (occ : ℕ) → slice_get marks.new occ ≡ Some false → (slice_get marks.old occ ≡ Some false) × ((part : Part) → same_name name (Step occ part) ≡ false) }
+{
+    if let TransName::Step { occ, .. } = name {
+        let place = occ as usize;
+        if place < marks.len() {
+            marks[place] = true;
+        }
+    }
+}
+
+/// Sets the flags of the statements of which the row has a name.
+fn mark_all(marks: &mut [bool], row: &[TransName])
+    ensures { Marks row.now marks.new }
+{
+    for name in row {
+        mark(marks, *name);
+    }
+}
+
+/// Whether the name is in the row. Where its statement isn't marked it isn't.
+fn is_marked(name: TransName, row: &[TransName], marks: &[bool]) -> bool
+    requires { Marks row.now marks.now }
+    ensures { result ≡ is_among name row.now }
+{
+    if let TransName::Step { occ, .. } = name {
+        if let Some(false) = marks.get(occ as usize) {
+            return false;
+        }
+    }
+    is_among(name, row)
+}
+
+/// For each name a flag, whether it is one of these. Few statements have a name in a row, and only their names are looked for.
 pub fn flags_of(
     alloc: Global,
     names: &[(TransName, Fairness)],
     row: &[TransName],
+    statements: u32,
 ) -> Result<Vec<bool>, Memory>
     ensures { IfOk result (λ v. v.items ≡ map (λ n. is_among n.0 row.now) names.now) }
 {
-    let mut flags = Vec::new(alloc);
+    let mut marks = vec![in alloc; false; statements as usize]?;
+    mark_all(&mut marks, row);
+    let mut flags = Vec::with_capacity(alloc, names.len())?;
     for known in names {
-        flags.push(is_among(known.0, row))?;
+        flags.push(is_marked(known.0, row, &marks))?;
     }
     Ok(flags)
 }

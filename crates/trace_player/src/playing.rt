@@ -2,7 +2,7 @@
 //!
 //! A move takes the first step with its name, in the order of the definition of steps. In states of runs there is one.
 
-ghost use Rattle.std.specs.Prelude.{◌≡◌, ◌≤◌, ◌<◌, ◌^◌, ◌++◌, ◌∷◌, [], All, IfOk, OnOk, length};
+ghost use Rattle.std.specs.Prelude.{◌≡◌, suc, ◌≤◌, ◌<◌, ◌^◌, ◌++◌, ◌∷◌, [], All, IfOk, OnOk, length};
 ghost use Rattle.st_form.specs.Plain.{plain};
 ghost use Rattle.st_program.specs.Plain.{plain_children};
 ghost use Rattle.spl_semantics.specs.Data.{store_of, StoreFits};
@@ -97,7 +97,8 @@ pub fn play(alloc: Global, program: &Program, schedule: &Schedule) -> Result<Pla
     requires store { StoreFits program.now.variables schedule.now.store.items }
     requires written { All IsWritten schedule.now.store.items }
     requires few { length schedule.now.moves.items ≤ 1000 }
-    ensures { PlayAnswers (plain_children program.now.processes) (plain program.now.initial) (store_of schedule.now.store.items) schedule.now.moves.items result }
+    ensures answers { PlayAnswers (plain_children program.now.processes) (plain program.now.initial) (store_of schedule.now.store.items) schedule.now.moves.items result }
+    ensures long { IfOk result (λ played. (length played.states.items ≡ suc (length schedule.now.moves.items)) × (length played.enabled.items ≡ suc (length schedule.now.moves.items))) }
 {
     if !begins(program, &schedule.store)? {
         return Err(PlayFault::NoStart);

@@ -1,0 +1,4 @@
+pub mod Searching
+pub mod Counted
+pub mod Levels
+pub mod Sentences

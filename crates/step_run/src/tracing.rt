@@ -1,0 +1,151 @@
+//! A trace: the schedule of a run is read and played, and each goal of the script is judged on that run.
+
+ghost use Rattle.std.specs.Prelude.{◌≡◌, ◌<◌, ◌≤◌, ◌^◌, suc, List, length, map, IfOk, Ok};
+ghost use Rattle.st_outside.specs.Faults.{NoneFell};
+ghost use Rattle.st_form.specs.Plain.{plain};
+ghost use Rattle.st_form.specs.declared.conditions.TransName.{TransName};
+ghost use Rattle.st_program.specs.Plain.{plain_children};
+ghost use Rattle.temporal_goals.specs.Plain.{plain_step};
+ghost use Rattle.spl_semantics.specs.Data.{store_of, StoreFits};
+ghost use Rattle.spl_semantics.specs.Runs.{State, observed};
+ghost use Rattle.schedule_reader.specs.Schedules.{plain_schedule};
+ghost use Rattle.schedule_reader.specs.Values.{IsWritten};
+ghost use Rattle.std.specs.List.{All};
+ghost use Rattle.trace_player.specs.Playing.{IsPlayed, PlayAnswers};
+ghost use Rattle.step_plan.specs.Outcome.{ended_view};
+ghost use Rattle.step_plan.specs.Plan.{then_plan, Follows};
+ghost use Rattle.step_run.specs.Judged.{all_judged};
+ghost use Rattle.step_run.specs.Traced.{schedule_played, traced};
+ghost use Rattle.step_run.specs.Source.{IsSpelled};
+ghost use Rattle.step_run.specs.Views.{source_view, scripted_view};
+ghost use Rattle.step_run.specs.Plans.{scripted_plan, trace_scripted};
+ghost use Rattle.step_run.specs.Played.{IsPlayedBy};
+
+use crate::scheduling::{no_start, not_enabled, schedule_refused, too_large_at};
+use crate::scripted::{Scripted, ask_script};
+use crate::source::Source;
+use run_judging::Judged;
+use schedule_reader::laws::schedules_obey;
+use schedule_reader::{Schedule, read_schedule};
+use st_memory::Memory;
+use st_outside::Files;
+use st_program::Program;
+use std::alloc::Global;
+use step_plan::{Ended, FileRole, Stage, Status, ask};
+use temporal_goals::Step;
+use trace_player::{PlayFault, Played, judge, play, rounds};
+
+/// What is judged of the goal of each step.
+fn judged_all(
+    alloc: Global,
+    program: &Program,
+    played: &Played,
+    steps: &[Step],
+) -> Result<Vec<Judged>, Memory>
+    requires few { length played.now.enabled.items < 2 ^ 32 }
+    requires long { length played.now.states.items ≡ length played.now.enabled.items }
+    ensures { IfOk result (λ judged. (s : State) (later : List (TransName × State)) → IsPlayed (plain_children program.now.processes) s later played.now
+        → judged.items ≡ all_judged (observed (plain_children program.now.processes) s later) (map plain_step steps.now)) }
+{
+    let mut judged = Vec::new(alloc);
+    for step in steps {
+        judged.push(judge(alloc, program, played, &step.goal)?)?;
+    }
+    Ok(judged)
+}
+
+/// How many variables a program has, at most 64.
+fn variable_count(source: &Source) -> u32
+    requires { IsSpelled (source_view source.now) }
+    ensures { result ≡ length source.now.names.variables }
+{
+    source.program.variables.len() as u32
+}
+
+/// The report of a run.
+fn reported(
+    alloc: Global,
+    scripted: &Scripted,
+    schedule: &Schedule,
+    played: &Played,
+) -> Result<Ended, Memory>
+    requires spelled { IsSpelled (source_view scripted.now.source) }
+    requires few { length schedule.now.moves.items ≤ 1000 }
+    requires plays { IsPlayedBy (source_view scripted.now.source) (plain_schedule schedule.now) played.now }
+    ensures { IfOk result (λ e. ended_view e ≡ schedule_played (scripted_view scripted.now) (plain_schedule schedule.now)) }
+{
+    let program = &scripted.source.program;
+    let counts = rounds(alloc, program, played)?;
+    let judged = judged_all(alloc, program, played, &scripted.script.steps)?;
+    let mut text = Vec::new(alloc);
+    step_report::played(
+        &mut text,
+        &scripted.source.names,
+        variable_count(&scripted.source),
+        &scripted.script.steps,
+        schedule.moves.len() as u32,
+        &counts,
+        &judged,
+    )?;
+    Ok(Ended {
+        status: Status::Proved,
+        text,
+    })
+}
+
+/// The end that a schedule brings.
+fn played(alloc: Global, scripted: &Scripted, schedule: &Schedule) -> Result<Ended, Memory>
+    requires spelled { IsSpelled (source_view scripted.now.source) }
+    requires store { StoreFits scripted.now.source.program.variables schedule.now.store.items }
+    requires written { All IsWritten schedule.now.store.items }
+    requires few { length schedule.now.moves.items ≤ 1000 }
+    ensures { IfOk result (λ e. ended_view e ≡ schedule_played (scripted_view scripted.now) (plain_schedule schedule.now)) }
+{
+    match play(alloc, &scripted.source.program, schedule) {
+        Ok(played) => reported(alloc, scripted, schedule, &played),
+        Err(PlayFault::NoStart) => no_start(alloc),
+        Err(PlayFault::ValueLimit(position)) => too_large_at(alloc, position),
+        Err(PlayFault::Illegal(number)) => not_enabled(alloc, number),
+        Err(PlayFault::Memory) => Err(Memory),
+    }
+}
+
+/// The end that the text of a schedule brings.
+fn traced(alloc: Global, scripted: &Scripted, text: &[u8]) -> Result<Ended, Memory>
+    requires { IsSpelled (source_view scripted.now.source) }
+    ensures { IfOk result (λ e. ended_view e ≡ traced (scripted_view scripted.now) text.now) }
+{
+    // No file is so long.
+    if text.len() >= 1 << 32 {
+        return Err(Memory);
+    }
+    schedules_obey();
+    let source = &scripted.source;
+    match read_schedule(alloc, text, &source.program, &source.names) {
+        Ok(schedule) => played(alloc, scripted, &schedule),
+        Err(fault) => schedule_refused(alloc, fault),
+    }
+}
+
+/// Plays a schedule of a program, and judges the goals of a script on its run.
+pub fn trace<F: Files>(
+    alloc: Global,
+    files: &mut F,
+    program: &str,
+    proof: &str,
+    schedule: &str,
+) -> Result<Ended, Memory>
+    ensures follows { IfOk result (Follows (F.told files.old) (F.faults files.old) (F.faults files.new)
+        (then_plan (scripted_plan program.now proof.now) (trace_scripted schedule.now))) }
+    ensures same { F.told files.new ≡ F.told files.old }
+    ensures later { NoneFell (F.faults files.old) (F.faults files.new) }
+{
+    let scripted = match ask_script(alloc, files, program, proof)? {
+        Stage::On(scripted) => scripted,
+        Stage::Over(ended) => return Ok(ended),
+    };
+    match ask(alloc, files, FileRole::Schedule, schedule)? {
+        Stage::On(text) => traced(alloc, &scripted, &text),
+        Stage::Over(ended) => Ok(ended),
+    }
+}

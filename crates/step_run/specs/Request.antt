@@ -1,4 +1,4 @@
--- The files that a request names. Requests that aren't answered name none: their words are refused.
+-- The files that a request names. A workload names none: its texts are made.
 use Rattle.std.specs.Prelude.{ℕ, List, ◌≡◌, Option, Some, None}
 use Rattle.step_report.specs.declared.refusals.FileRole.{FileRole}
 use Rattle.step_report.specs.declared.refusals.FileRole.TheVariants.{Program, Proof, Certificates, Schedule}

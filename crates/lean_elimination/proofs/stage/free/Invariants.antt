@@ -1,0 +1,12 @@
+use Rattle.std.proofs.Common.{◌≡◌, ◌≤◌, ◌+◌, ◌-◌, ◌++◌, ℕ, [], map, Some, length, drop, take, true, List, ℤ}
+use Rattle.elimination_laws.specs.Stages.{freed, paired, pairs, kept_by, is_free, bounds_above, bounds_below, solver, others, tracked, stages, contradiction}
+use Rattle.row_elimination.specs.Places.{sift_from}
+use Rattle.lean_elimination.specs.Arenas.{tracks, row_at, listed, AllUnder, IsGrown}
+use Rattle.lean_elimination.specs.Placings.{AreFree, AllStay}
+use Rattle.lean_elimination.proofs.stage.free.Given as goal
+
+abbrev pub invariant-loop-k : goal.invariant-loop-k
+invariant-loop-k l = record {
+  under : AllUnder (length l.arena.rows.items) l.next.items;
+  same : sift_from (listed (tracks l.arena.rows.items) l.next.items) (map Some (kept_by (is_free l.var) (listed (tracks l.arena.rows.items) (drop l.k-index l.list)))) ≡ sift_from [] (map Some (kept_by (is_free l.var) (listed (tracks l.arena.rows.items) l.list)));
+}

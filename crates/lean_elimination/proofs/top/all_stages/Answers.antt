@@ -1,0 +1,24 @@
+use Rattle.std.proofs.Common.{arith, ap, sym, subst, refl, ◌∙◌, ◌≡◌, ◌^◌, ◌+◌, ◌-◌, ◌<◌, ◌≤◌, length, get_or, drop, take, map, [], ◌∷◌, Some, None, true, false}
+use mir.Syntax.{w64}
+use mir.Val.{to_z, of_z}
+use Rattle.std.proofs.lemmas.Result.{err_from_is_err_and}
+use Rattle.elimination_laws.specs.Stages.{made, sifted, stages, ending, tracked, contradiction}
+use Rattle.row_elimination.specs.Places.{sift_from}
+use Rattle.row_elimination.specs.Runs.{first_row}
+use Rattle.lean_elimination.specs.Arenas.{tracks, row_at, listed}
+use Rattle.lean_elimination.specs.Placings.{Ends}
+use Rattle.lean_elimination.proofs.Growing.{at-grown, under-at, under-more, grown-then, grown-same, row-is}
+use Rattle.lean_elimination.proofs.Narrowing.{to_z-narrow}
+use Rattle.lean_elimination.proofs.Stepping.{turn-ok, turn-stops}
+use Rattle.lean_elimination.proofs.Skipping.{stage-free, sifted-few, stages-after, stages-stop, ending-stop, ending-is, first-few, length-listed}
+use Rattle.lean_elimination.proofs.Answering.{picks-input, picks-sum, one-bounded, answer-turned, answer-same, if_ok, tracked-more}
+use Rattle.lean_elimination.proofs.top.all_stages.Goals as goal
+use Rattle.lean_elimination.proofs.top.all_stages.Goals.{then-not-are_free+in_ok-current, else-not-are_free}
+
+pub returns-in_err-current : goal.returns-in_err-current
+returns-in_err-current c = 
+    let p = err_from_is_err_and c.from_residual.result c.from_residual.ensures.1 in
+    rw (p.1, p.2) (stages-stop c.args.variables c.loop-v.v (listed (tracks c.loop-v.arena.rows.items) c.loop-v.current.items) _ c.in_err-current.field-0.0 _ (omega arith) c.in_err-current.ensures c.loop-v.invariant.same)
+
+pub loop-v-preserved : goal.loop-v-preserved
+loop-v-preserved c = ?

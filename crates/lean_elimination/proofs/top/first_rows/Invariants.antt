@@ -1,0 +1,13 @@
+use Rattle.std.proofs.Common.{◌≡◌, ◌≤◌, ◌+◌, ◌-◌, ◌++◌, ℕ, [], map, Some, length, drop, take, true, List, ℤ}
+use Rattle.elimination_laws.specs.Stages.{freed, paired, pairs, kept_by, is_free, bounds_above, bounds_below, solver, others, tracked, stages, contradiction}
+use Rattle.row_elimination.specs.Places.{sift_from}
+use Rattle.lean_elimination.specs.Arenas.{tracks, row_at, listed, AllUnder, IsGrown}
+use Rattle.lean_elimination.specs.Placings.{AreFree, AllStay}
+use Rattle.lean_elimination.proofs.top.first_rows.Given as goal
+
+abbrev pub invariant-loop-i : goal.invariant-loop-i
+invariant-loop-i l = record {
+  grown : IsGrown l.fn.arena.rows.items l.arena.rows.items;
+  under : AllUnder (length l.arena.rows.items) l.next.items;
+  same : sift_from (listed (tracks l.arena.rows.items) l.next.items) (map Some (tracked l.i (drop l.i l.lines))) ≡ sift_from [] (map Some (tracked 0 l.lines));
+}

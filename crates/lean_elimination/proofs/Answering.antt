@@ -11,6 +11,7 @@ use Rattle.elimination_laws.specs.Mixing.{Tracked, mixed_entries}
 use Rattle.elimination_laws.specs.Stages.{Judgement, clashes, judged, judged_by, judged_constant, turned, tracked}
 use Rattle.lean_elimination.specs.declared.row.Row.{Row}
 use Rattle.lean_elimination.specs.declared.row.Origin.{Origin}
+use Rattle.lean_elimination.specs.declared.row.Parts.{Parts}
 use Rattle.lean_elimination.specs.declared.row.Origin.TheVariants.{Input, Sum}
 use Rattle.lean_elimination.specs.Arenas.{row_at, tracks, if_mixed, picks_by}
 use Rattle.lean_elimination.proofs.Growing.{row-is, grown-take, at-grown}
@@ -22,9 +23,9 @@ picks-input rs k n r h e o = sym (ap (λ t. t.picks) (row-is rs k r h e) ∙ ap 
 before : (rs : List Row) (k i : ℕ) → k < length rs → i < k → row_at (tracks (take k rs)) i ≡ row_at (tracks rs) i
 before rs k i h l = let n : length (take k rs) ≡ k = search rules in sym (at-grown (take k rs) rs i (grown-take rs k (omega arith)) (omega (arith, n)))
 
-pub picks-sum : (rs : List Row) (k i j : ℕ) (x y : ℤ) (r : Row) (out : List (ℕ × ℤ)) → k < length rs → r ≡ get_or rs k r → r.origin ≡ Sum x i y j → i < k → j < k → mixed_entries (2 ^ 40) x (row_at (tracks rs) i).picks y (row_at (tracks rs) j).picks ≡ Some out → out ≡ (row_at (tracks rs) k).picks
-picks-sum rs k i j x y r out h e o l m s =
-    sym (ap (λ t. t.picks) (row-is rs k r h e) ∙ ap (picks_by (tracks (take k rs))) o ∙ rw (before rs k i h l, before rs k j h m, s) refl)
+pub picks-sum : (rs : List Row) (k : ℕ) (p : Parts) (r : Row) (out : List (ℕ × ℤ)) → k < length rs → r ≡ get_or rs k r → r.origin ≡ Sum p → p.first < k → p.second < k → mixed_entries (2 ^ 40) p.x (row_at (tracks rs) p.first).picks p.y (row_at (tracks rs) p.second).picks ≡ Some out → out ≡ (row_at (tracks rs) k).picks
+picks-sum rs k p r out h e o l m s =
+    sym (ap (λ t. t.picks) (row-is rs k r h e) ∙ ap (picks_by (tracks (take k rs))) o ∙ rw (before rs k p.first h l, before rs k p.second h m, s) refl)
 
 pub one-bounded : (k : ℕ) → IsTrue (are_within 2 ((k, pos 1) ∷ []))
 unfolding is_within
@@ -59,3 +60,6 @@ if_ok (Err e) P Q f h = tt
 -- the input's lines from a place on
 pub tracked-more : (lines : List Line) (i : ℕ) (d : Line) → i < length lines → tracked i (drop i lines) ≡ first_row i (get_or lines i d) ∷ tracked (i + 1) (drop (i + 1) lines)
 tracked-more lines i d h = ap (tracked i) (drop_more lines i d h)
+
+pub mix-same : (n : ℕ) (x p y q : ℤ) (xs ps ys qs out : List (ℕ × ℤ)) → p ≡ x → q ≡ y → ps ≡ xs → qs ≡ ys → mixed_entries n p ps q qs ≡ Some out → mixed_entries n x xs y ys ≡ Some out
+mix-same n x p y q xs ps ys qs out e f g h m = rw (e, f, g, h) at m

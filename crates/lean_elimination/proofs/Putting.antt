@@ -35,7 +35,7 @@ put-stops now new m o next ms whole (Clash k) made under h s = record {
   multiples = s.multiples;
   found = s.found;
   is = step-clash (listed (tracks now) next) (row_at (tracks new) m) o ms whole s.multiples made.same h
-  (ap (λ ts. placed_on ts (row_at (tracks new) m)) (sym (listed-grown now new next made.grown under)) ∙ s.is);
+      (ap (λ ts. placed_on ts (row_at (tracks new) m)) (sym (listed-grown now new next made.grown under)) ∙ s.is);
 }
 put-stops now new m o next ms whole Unfit made under h s = tt
 put-stops now new m o next ms whole Memory made under h s = tt

@@ -24,7 +24,7 @@ if_mixed (Some ps) = ps
 -- the multiples of a row, from those of the rows before it
 abbrev pub picks_by : List Tracked → Origin → List (ℕ × ℤ)
 picks_by done (Input k) = (k, pos 1) ∷ []
-picks_by done (Sum x i y j) = if_mixed (mixed_entries (2 ^ 40) x (row_at done i).picks y (row_at done j).picks)
+picks_by done (Sum p) = if_mixed (mixed_entries (2 ^ 40) p.x (row_at done p.first).picks p.y (row_at done p.second).picks)
 
 abbrev pub tracked_row : List Tracked → Row → Tracked
 tracked_row done r = record {

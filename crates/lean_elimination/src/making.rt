@@ -10,7 +10,7 @@ use crate::adding::add;
 use crate::arena::Arena;
 use crate::factors::{against, part, quotient, shared};
 use crate::merging::{mix_entries, mix_number};
-use crate::row::{Origin, Row};
+use crate::row::{Origin, Parts, Row};
 use crate::stop::Refusal;
 use std::alloc::Global;
 
@@ -24,7 +24,10 @@ fn bound_of(x: &i64, first: u64, y: &i64, second: u64) -> Result<u64, Refusal>
     ensures value { IfOk result (λ n. n ≡ unsigned_abs x.now * first + unsigned_abs y.now * second) }
     ensures small { IfOk result (λ n. n < 2 ^ 16) }
 {
-    match (x.unsigned_abs().checked_mul(first), y.unsigned_abs().checked_mul(second)) {
+    match (
+        x.unsigned_abs().checked_mul(first),
+        y.unsigned_abs().checked_mul(second),
+    ) {
         (Some(p), Some(q)) => {
             if p < BOUND_LIMIT && q < BOUND_LIMIT && p + q < BOUND_LIMIT {
                 Ok(p + q)
@@ -33,6 +36,26 @@ fn bound_of(x: &i64, first: u64, y: &i64, second: u64) -> Result<u64, Refusal>
             }
         }
         _ => Err(Refusal::Unfit),
+    }
+}
+
+/// Two rows and how often each is taken, where that is a number that this way is for.
+#[tactic(auto, unfolding(st_linear::specs::Linear::is_within))]
+fn parts_of(x: i64, first: usize, y: i64, second: usize) -> Result<Parts, Refusal>
+    ensures x { IfOk result (λ p. p.x ≡ x) }
+    ensures first { IfOk result (λ p. p.first ≡ first) }
+    ensures y { IfOk result (λ p. p.y ≡ y) }
+    ensures second { IfOk result (λ p. p.second ≡ second) }
+{
+    if x.unsigned_abs() < ENTRY_LIMIT && y.unsigned_abs() < ENTRY_LIMIT {
+        Ok(Parts {
+            x,
+            first,
+            y,
+            second,
+        })
+    } else {
+        Err(Refusal::Unfit)
     }
 }
 
@@ -54,6 +77,7 @@ fn mix(
 {
     let s = &arena.rows[i];
     let t = &arena.rows[j];
+    let parts = parts_of(x, i, y, j)?;
     let bound = bound_of(&x, s.bound, &y, t.bound)?;
     let constant = mix_number(ENTRY_LIMIT, &x, &s.constant, &y, &t.constant)?;
     let entries = mix_entries(
@@ -68,7 +92,7 @@ fn mix(
         equal,
         constant,
         entries,
-        origin: Origin::Sum(x, i, y, j),
+        origin: Origin::Sum(parts),
         bound,
     })
 }

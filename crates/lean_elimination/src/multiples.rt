@@ -26,18 +26,18 @@ pub(crate) fn multiples(alloc: Global, arena: &Arena, k: usize) -> Result<Entrie
             picks.push((number, 1))?;
             Ok(picks)
         }
-        Origin::Sum(x, i, y, j) => {
-            if i >= k || j >= k {
+        Origin::Sum(parts) => {
+            if parts.first >= k || parts.second >= k {
                 return Err(Refusal::Unfit);
             }
-            let first = multiples(alloc, arena, i)?;
-            let second = multiples(alloc, arena, j)?;
+            let first = multiples(alloc, arena, parts.first)?;
+            let second = multiples(alloc, arena, parts.second)?;
             mix_entries(
                 alloc,
                 PICK_LIMIT,
-                &x,
+                &parts.x,
                 first.as_slice(),
-                &y,
+                &parts.y,
                 second.as_slice(),
             )
         }

@@ -8,11 +8,22 @@ use smallvec::SmallVec;
 /// Variables and their coefficients.
 pub(crate) type Entries = SmallVec<(u32, i64), 2>;
 
-/// Where a row comes from: an input line, or so many times one row and so many times another.
+/// Where a row comes from: an input line, or two rows.
 #[derive(Clone, Copy)]
 pub(crate) enum Origin {
     Input(u32),
-    Sum(i64, usize, i64, usize),
+    Sum(Parts),
+}
+
+/// So many times one row and so many times another.
+#[derive(Clone, Copy)]
+pub(crate) struct Parts {
+    pub(crate) x: i64,
+    pub(crate) first: usize,
+    pub(crate) y: i64,
+    pub(crate) second: usize,
+    ghost x_within: { IsTrue (is_within (2 ^ 62) x) },
+    ghost y_within: { IsTrue (is_within (2 ^ 62) y) },
 }
 
 /// A line on the way. None of its multipliers of input lines is above the bound in size.

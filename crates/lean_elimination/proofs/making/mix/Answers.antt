@@ -25,6 +25,7 @@ returns-clause-same c =
     let rs = c.args.arena.now.rows.items in
     let s = c.index-s.result.now in
     let t = c.index-t.result.now in
+    let q = c.in_ok-parts.ensures in
     let x = to_z-of_z w64 c.args.x c.ranges.x in
     let y = to_z-of_z w64 c.args.y c.ranges.y in
     let k = to_z-narrow (2 ^ 62) c.in_ok-constant.constant (omega arith) (constant-is _ _ _ _ _ c.in_ok-constant.ensures) in
@@ -32,7 +33,7 @@ returns-clause-same c =
     (rw (← c.index-s.ensures) at (bounded-at rs (tracks rs) c.args.i s c.args.arena.now.bounded c.requires.i))
     (rw (← c.index-t.ensures) at (bounded-at rs (tracks rs) c.args.j t c.args.arena.now.bounded c.requires.j))
     (rw (x, y) at c.in_ok-bound.ensures.value) c.in_ok-bound.ensures.small in
-    rw (x, y, k) (mixed-row c.args.equal c.args.x c.args.y c.in_ok-constant.constant s.constant t.constant _ _ c.in_ok-entries.entries.items s.entries.items t.entries.items c.in_ok-bound.bound
+    rw (q.x, q.first, q.y, q.second, x, y, k) (mixed-row c.args.equal c.args.x c.args.y c.in_ok-constant.constant s.constant t.constant _ _ c.in_ok-entries.entries.items s.entries.items t.entries.items c.in_ok-bound.bound
     (ap (λ u. u.form) (row-is rs c.args.i s c.requires.i c.index-s.ensures))
     (ap (λ u. u.form) (row-is rs c.args.j t c.requires.j c.index-t.ensures))
     (rw (x, y) at c.in_ok-constant.ensures)
@@ -43,10 +44,11 @@ returns-clause-bounded c =
     let rs = c.args.arena.now.rows.items in
     let s = c.index-s.result.now in
     let t = c.index-t.result.now in
+    let q = c.in_ok-parts.ensures in
     let x = to_z-of_z w64 c.args.x c.ranges.x in
     let y = to_z-of_z w64 c.args.y c.ranges.y in
     let b = bounded-mix s.bound t.bound c.in_ok-bound.bound c.args.x (row_at (tracks rs) c.args.i).picks c.args.y (row_at (tracks rs) c.args.j).picks
     (rw (← c.index-s.ensures) at (bounded-at rs (tracks rs) c.args.i s c.args.arena.now.bounded c.requires.i))
     (rw (← c.index-t.ensures) at (bounded-at rs (tracks rs) c.args.j t c.args.arena.now.bounded c.requires.j))
     (rw (x, y) at c.in_ok-bound.ensures.value) c.in_ok-bound.ensures.small in
-    rw (x, y) (bounded-row c.in_ok-bound.bound c.args.x c.args.y _ _ b)
+    rw (q.x, q.first, q.y, q.second, x, y) (bounded-row c.in_ok-bound.bound c.args.x c.args.y _ _ b)

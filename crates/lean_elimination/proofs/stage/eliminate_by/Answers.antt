@@ -27,6 +27,6 @@ pub solve-requires-clause-solves : goal.solve-requires-clause-solves
 solve-requires-clause-solves c = solver-has c.args.var (listed (tracks c.args.arena.now.rows.items) c.args.list.items) (row_at (tracks c.args.arena.now.rows.items) c.remove-equation.result) (c.requires.solver.here c.remove-equation.result ∙ ap (λ k. Some (row_at (tracks c.args.arena.now.rows.items) k)) (sym c.remove-equation.ensures.value))
 
 pub returns : goal.returns
-returns c = 
+returns c =
     let r = c.requires.solver.rest ∙ ap (listed (tracks c.args.arena.now.rows.items)) (sym c.remove-equation.ensures.by_index.2) in
     subst (λ x. GivesList c.solve.result c.args.arena.now.rows.items c.solve.new.arena.rows.items x) (made-solved c.args.var (listed (tracks c.args.arena.now.rows.items) c.args.list.items) (row_at (tracks c.args.arena.now.rows.items) c.remove-equation.result) _ (c.requires.solver.here c.remove-equation.result ∙ ap (λ k. Some (row_at (tracks c.args.arena.now.rows.items) k)) (sym c.remove-equation.ensures.value)) r) (rw c.deref.ensures.value at c.solve.ensures)

@@ -18,4 +18,4 @@ use Rattle.lean_elimination.proofs.Stepping.{turn-ok, turn-stops, freed-old, pai
 use Rattle.lean_elimination.proofs.stage.run_stage.Goals as goal
 
 pub returns-in-None : goal.returns-in-None
-returns-in-None c = subst (λ x. GivesList c.bound.result c.args.arena.now.rows.items c.bound.new.arena.rows.items x) (stage-none c.args.var (listed (tracks c.args.arena.now.rows.items) c.args.list.items) (rw c.deref.ensures.value at c.in-None.ensures)) (rw c.deref-2.ensures.value at c.bound.ensures)
+returns-in-None c = subst (λ x. GivesList c.bound.result c.args.arena.now.rows.items c.bound.new.arena.rows.items x) (stage-none c.args.var (listed (tracks c.args.arena.now.rows.items) c.args.list.items) (rw c.deref.ensures.value at c.in-None.ensures)) (rw c.deref-in-None.ensures.value at c.bound.ensures)

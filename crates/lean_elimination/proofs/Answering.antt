@@ -1,5 +1,5 @@
 -- The multiples of a row, and the answer that they are.
-use Rattle.std.proofs.Common.{◌≡◌, ℕ, zero, suc, ◌+◌, ◌<◌, ◌≤◌, ◌^◌, Bool, true, false, Some, List, [], ◌∷◌, length, get_or, take, drop, refl, ap, sym, ◌∙◌, arith, rules, ℤ, pos, negsuc}
+use Rattle.std.proofs.Common.{◌≡◌, ℕ, zero, suc, ◌+◌, ◌<◌, ◌^◌, Bool, true, false, Some, List, [], ◌∷◌, length, get_or, take, drop, refl, ap, sym, ◌∙◌, arith, rules, ℤ, pos, negsuc}
 use Rattle.std.specs.Prelude.{IsTrue, Result, Ok, Err, IfOk}
 use Rattle.std.proofs.lemmas.List.{drop_more}
 use Rattle.st_linear.specs.declared.rows.Line.{Line}
@@ -8,12 +8,11 @@ use lib.Signed.{lt_z}
 use Rattle.std.proofs.lemmas.Bool.Decides.{nat_tests}
 use Rattle.st_linear.specs.Linear.{is_within, are_within}
 use Rattle.elimination_laws.specs.Mixing.{Tracked, mixed_entries}
-use Rattle.elimination_laws.specs.Stages.{Judgement, clashes, judged, judged_by, judged_constant, turned, tracked}
+use Rattle.elimination_laws.specs.Stages.{clashes, judged, judged_by, turned, tracked}
 use Rattle.lean_elimination.specs.declared.row.Row.{Row}
-use Rattle.lean_elimination.specs.declared.row.Origin.{Origin}
 use Rattle.lean_elimination.specs.declared.row.Parts.{Parts}
 use Rattle.lean_elimination.specs.declared.row.Origin.TheVariants.{Input, Sum}
-use Rattle.lean_elimination.specs.Arenas.{row_at, tracks, if_mixed, picks_by}
+use Rattle.lean_elimination.specs.Arenas.{row_at, tracks, picks_by}
 use Rattle.lean_elimination.proofs.Growing.{row-is, grown-take, at-grown}
 
 pub picks-input : (rs : List Row) (k n : ℕ) (r : Row) → k < length rs → r ≡ get_or rs k r → r.origin ≡ Input n → (n, pos 1) ∷ [] ≡ (row_at (tracks rs) k).picks

@@ -1,11 +1,11 @@
 -- Multiples within bounds: those of a sum of two rows are within the sum of the bounds.
-use Rattle.std.proofs.Common.{◌≡◌, ℕ, zero, suc, ◌+◌, ◌*◌, ◌<◌, ◌≤◌, ◌^◌, Bool, true, false, List, [], ◌∷◌, ◌++◌, length, get_or, refl, sym, ap, ◌∙◌, arith, ℤ, pos, negsuc, ◌+ℤ◌, ◌*ℤ◌, Some}
-use Rattle.std.specs.Prelude.{IsTrue, unsigned_abs, nat_lt, ◌&&◌, if◌then◌else◌}
+use Rattle.std.proofs.Common.{◌≡◌, ℕ, zero, suc, ◌+◌, ◌*◌, ◌<◌, ◌≤◌, ◌^◌, Bool, true, false, List, [], ◌∷◌, ◌++◌, length, get_or, refl, sym, arith, ℤ, pos, negsuc, ◌+ℤ◌, ◌*ℤ◌, Some}
+use Rattle.std.specs.Prelude.{IsTrue, unsigned_abs, if◌then◌else◌}
 use Rattle.std.proofs.lemmas.Bool.{and_from, and_parts}
 use Rattle.std.proofs.lemmas.Bool.Decides.{nat_tests}
 use Rattle.std.proofs.lemmas.Int.{ints, unsigned_abs-mul}
 use Rattle.std.proofs.Math.Nat.{mul-le-mul_left}
-use Rattle.st_linear.specs.Linear.{is_within, are_within, joined, joined_with, with_entry, scaled_entries, entries_within}
+use Rattle.st_linear.specs.Linear.{is_within, are_within, joined, with_entry, scaled_entries, entries_within}
 use Rattle.st_linear.proofs.Joined.{joined-ind}
 use Rattle.elimination_laws.specs.Mixing.{Tracked, mixed_entries}
 use Rattle.lean_elimination.specs.declared.row.Row.{Row}

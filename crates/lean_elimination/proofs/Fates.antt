@@ -1,10 +1,9 @@
 -- What becomes of a row, by its entries, its constant and its kind.
-use Rattle.std.proofs.Common.{◌≡◌, ◌≢◌, ℕ, zero, suc, ◌<◌, Bool, true, false, List, [], ◌∷◌, length, refl, arith, ℤ, pos, negsuc}
+use Rattle.std.proofs.Common.{◌≡◌, ◌≢◌, ℕ, zero, suc, Bool, true, false, List, [], ◌∷◌, length, refl, arith, ℤ, pos, negsuc}
 use lib.Signed.{lt_z}
 use Rattle.std.proofs.lemmas.Bool.Decides.{nat_tests}
-use Rattle.st_linear.specs.Linear.{Linear}
 use Rattle.elimination_laws.specs.Mixing.{Tracked}
-use Rattle.elimination_laws.specs.Stages.{stays, goes, clashes, judged, turned}
+use Rattle.elimination_laws.specs.Stages.{stays, goes, judged, turned}
 use Rattle.lean_elimination.specs.Placings.{Clashing}
 
 -- a row as the definition's line

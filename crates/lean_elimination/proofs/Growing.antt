@@ -1,8 +1,8 @@
 -- Arenas with more rows: what a place stands for stays.
-use Rattle.std.proofs.Common.{◌≡◌, ℕ, zero, suc, ◌+◌, ◌<◌, ◌≤◌, List, [], ◌∷◌, ◌++◌, length, get_or, take, drop, refl, ap, sym, subst, ◌∙◌, arith, append_assoc, append-nil, take-append-drop, length-append, Some}
+use Rattle.std.proofs.Common.{◌≡◌, ℕ, zero, suc, ◌+◌, ◌<◌, ◌≤◌, List, [], ◌∷◌, ◌++◌, length, get_or, take, drop, refl, ap, sym, ◌∙◌, arith, append_assoc, append-nil, take-append-drop, length-append, Some}
 use Rattle.elimination_laws.specs.Mixing.{Tracked}
 use Rattle.lean_elimination.specs.declared.row.Row.{Row}
-use Rattle.lean_elimination.specs.Arenas.{blank, row_at, listed, tracked_row, tracks_from, tracks, AllUnder, IsGrown, IsMade}
+use Rattle.lean_elimination.specs.Arenas.{row_at, listed, tracked_row, tracks_from, tracks, AllUnder, IsGrown, IsMade}
 
 tracks_from-append : (done : List Tracked) (xs ys : List Row) → tracks_from done (xs ++ ys) ≡ tracks_from (tracks_from done xs) ys
 tracks_from-append done [] ys = refl

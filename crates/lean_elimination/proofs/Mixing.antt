@@ -1,10 +1,10 @@
 -- A row that is made of two rows stands for the definition's line.
-use Rattle.std.proofs.Common.{◌≡◌, ℕ, ◌^◌, ◌+◌, Bool, List, ◌∷◌, refl, ap, sym, subst, ◌∙◌, arith, ℤ, Some}
+use Rattle.std.proofs.Common.{◌≡◌, ℕ, ◌^◌, ◌+◌, Bool, List, refl, subst, arith, ℤ, Some}
 use Rattle.std.specs.Prelude.{IsTrue}
-use Rattle.st_linear.specs.Linear.{Linear, is_within, are_within}
+use Rattle.st_linear.specs.Linear.{is_within, are_within}
 use Rattle.elimination_laws.specs.Mixing.{Tracked, mixed, mixed_number, mixed_entries}
 use Rattle.row_elimination.proofs.Merges.{mixed_number-some}
-use Rattle.lean_elimination.specs.Arenas.{row_at, if_mixed}
+use Rattle.lean_elimination.specs.Arenas.{if_mixed}
 use Rattle.lean_elimination.proofs.Bounds.{IsBoundedMix}
 use Rattle.lean_elimination.proofs.Narrowing.{mixed_number-more, mixed_entries-more}
 

@@ -1,6 +1,6 @@
 -- Numbers of 64 bits; and what is within a narrow limit is within a wide one.
-use Rattle.std.proofs.Common.{◌≡◌, ℕ, ◌<◌, ◌≤◌, ◌^◌, Bool, true, false, cond, Option, Some, None, List, [], ◌∷◌, ◌++◌, refl, sym, ap, ◌∙◌, rules, arith, ℤ, pos, ◌+ℤ◌, ◌*ℤ◌}
-use Rattle.std.specs.Prelude.{IsTrue, option_and_then}
+use Rattle.std.proofs.Common.{◌≡◌, ℕ, ◌<◌, ◌≤◌, ◌^◌, Some, List, [], ◌∷◌, ◌++◌, refl, sym, ap, ◌∙◌, rules, arith, ℤ, pos, ◌+ℤ◌, ◌*ℤ◌}
+use Rattle.std.specs.Prelude.{IsTrue}
 use mir.Syntax.{w64}
 use mir.Val.{to_z, of_z}
 use lib.Signed.{mag}

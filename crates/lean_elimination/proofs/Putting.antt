@@ -1,11 +1,9 @@
 -- One more line that is made: it is put into the new list, or it clashes.
-use Rattle.std.proofs.Common.{◌≡◌, ℕ, ◌+◌, ◌<◌, Option, Some, None, List, [], ◌∷◌, ◌++◌, length, get_or, drop, take, map, refl, ap, sym, subst, ◌∙◌, arith, true, false, Bool, ℤ, pos, negsuc, zero, suc}
-use Rattle.std.specs.Prelude.{Result, Ok, Err}
+use Rattle.std.proofs.Common.{◌≡◌, ℕ, ◌+◌, ◌<◌, Option, Some, List, [], ◌∷◌, ◌++◌, length, get_or, drop, refl, ap, sym, subst, ◌∙◌, true, false, Bool, ℤ, negsuc}
 use Rattle.std.proofs.lemmas.List.{drop_more}
-use Rattle.st_linear.specs.Linear.{Linear, is_zero}
-use Rattle.elimination_laws.specs.Mixing.{Tracked, part_of, is_up, is_down}
-use Rattle.elimination_laws.specs.Stages.{Judgement, stays, goes, clashes, judged, Sifted, list, clash, wide, freed, paired, pairs, kept_by, bounds_below, bounds_above, is_free, made_with, solver, others, made}
-use Rattle.row_elimination.specs.Places.{placed_by, placed_on, placed_next, then_sifted, sift_from}
+use Rattle.elimination_laws.specs.Mixing.{Tracked}
+use Rattle.elimination_laws.specs.Stages.{stays, goes, clashes, judged, Sifted, list, clash, kept_by, made}
+use Rattle.row_elimination.specs.Places.{placed_on, then_sifted, sift_from}
 use Rattle.row_elimination.proofs.Sifting.{sift_from-append}
 use Rattle.lean_elimination.specs.declared.row.Row.{Row}
 use Rattle.lean_elimination.specs.declared.stop.Stop.{Stop}
@@ -14,8 +12,8 @@ use Rattle.lean_elimination.specs.declared.stop.Refusal.{Refusal}
 use Rattle.lean_elimination.specs.declared.stop.Refusal.TheVariants as refusal
 use Rattle.lean_elimination.specs.Refusals.{stop_of}
 use Rattle.lean_elimination.specs.Arenas.{row_at, listed, tracks, AllUnder, IsGrown, IsMade}
-use Rattle.lean_elimination.specs.Placings.{ClashesAt, StopsBy, Clashing, IsFate, IsPut}
-use Rattle.lean_elimination.proofs.Growing.{at-grown, listed-grown, listed-push}
+use Rattle.lean_elimination.specs.Placings.{StopsBy}
+use Rattle.lean_elimination.proofs.Growing.{at-grown, listed-grown}
 
 -- the rest follows the new list, or the clash is that of the whole
 pub step-ok : (ts us : List Tracked) (t : Tracked) (o : Option Tracked) (ms : List (Option Tracked)) (whole : Sifted) → o ≡ Some t → sift_from ts (o ∷ ms) ≡ whole → placed_on ts t ≡ list us → sift_from us ms ≡ whole

@@ -1,16 +1,16 @@
 -- The stages: one that goes on, one that stops, and one of a variable that no line has, which changes nothing.
-use Rattle.std.proofs.Common.{◌≡◌, ℕ, zero, suc, ◌+◌, ◌-◌, ◌<◌, ◌≤◌, Bool, true, false, Option, Some, None, List, [], ◌∷◌, ◌++◌, length, map, refl, ap, sym, subst, ◌∙◌, arith, ℤ, append-nil}
+use Rattle.std.proofs.Common.{◌≡◌, ℕ, zero, suc, ◌+◌, ◌-◌, ◌<◌, ◌≤◌, Bool, true, false, Option, Some, None, List, [], ◌∷◌, length, map, refl, ap, sym, subst, ◌∙◌, arith, ℤ, append-nil}
 use Rattle.std.specs.Prelude.{◌&&◌, not, nat_lt}
 use Rattle.std.proofs.lemmas.Bool.Decides.{nat_tests}
 use Rattle.st_linear.specs.Linear.{is_zero}
 use Rattle.st_linear.specs.declared.rows.Line.{Line}
 use Rattle.elimination_laws.specs.Mixing.{Tracked, part_of}
-use Rattle.elimination_laws.specs.Stages.{Judgement, stays, goes, clashes, judged, Sifted, list, clash, wide, onto, placed, placed_one, sifted, solves, solver, kept_by, is_free, bounds_below, bounds_above, pairs, made_with, made, use_of, Ending, contradiction, with_use, then_stages, stages, at_variable, at_rows, tracked, ending}
+use Rattle.elimination_laws.specs.Stages.{Judgement, stays, goes, clashes, judged, Sifted, list, clash, wide, onto, placed, sifted, solver, kept_by, is_free, bounds_below, made, use_of, Ending, contradiction, with_use, then_stages, stages, at_rows, tracked, ending}
 use Rattle.row_elimination.specs.Places.{sift_from}
 use Rattle.row_elimination.proofs.Sifting.{sift-all, zero-others}
 use Rattle.lean_elimination.specs.declared.stop.Stop.{Stop}
 use Rattle.lean_elimination.specs.declared.stop.Stop.TheVariants.{Clash, Unfit, Memory}
-use Rattle.lean_elimination.specs.Arenas.{row_at, listed}
+use Rattle.lean_elimination.specs.Arenas.{listed}
 use Rattle.lean_elimination.specs.Placings.{StopsBy, EndsBy, AreFree, AllStay}
 
 solves-free : (b z : Bool) → z ≡ true → b && not z ≡ false

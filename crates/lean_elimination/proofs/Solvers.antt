@@ -1,17 +1,14 @@
 -- The first equation with a variable, and the stage that it solves.
-use Rattle.std.proofs.Common.{◌≡◌, ℕ, zero, suc, ◌+◌, ◌<◌, ◌≤◌, Bool, true, false, Option, Some, None, List, [], ◌∷◌, ◌++◌, length, get_or, drop, take, map, refl, ap, sym, subst, ◌∙◌, arith, append_assoc}
-use Rattle.std.specs.Prelude.{Result, Vec, ◌&&◌, not}
-use Rattle.std.specs.Global.{Global}
+use Rattle.std.proofs.Common.{◌≡◌, ℕ, zero, suc, ◌+◌, ◌<◌, Bool, true, false, Some, None, List, [], ◌∷◌, ◌++◌, length, get_or, drop, take, refl, ap, sym, ◌∙◌, arith, append_assoc}
+use Rattle.std.specs.Prelude.{◌&&◌, not}
 use Rattle.std.proofs.lemmas.List.{drop_more, take_more}
 use Rattle.elimination_laws.specs.Mixing.{Tracked, part_of}
 use Rattle.st_linear.specs.Linear.{is_zero}
-use Rattle.elimination_laws.specs.Stages.{Sifted, solves, solver, others, made, made_with, sifted, is_free}
+use Rattle.elimination_laws.specs.Stages.{solves, solver, others, made, made_with, sifted, is_free}
 use Rattle.row_elimination.specs.Places.{sift_from}
 use Rattle.row_elimination.proofs.Sifting.{sift-all}
-use Rattle.lean_elimination.specs.declared.row.Row.{Row}
-use Rattle.lean_elimination.specs.declared.stop.Stop.{Stop}
 use Rattle.lean_elimination.specs.Arenas.{row_at, listed}
-use Rattle.lean_elimination.specs.Placings.{IsSolver, GivesList, AreFree}
+use Rattle.lean_elimination.specs.Placings.{IsSolver, AreFree}
 use Rattle.lean_elimination.proofs.Growing.{listed-push}
 
 default-free : (ks : List ℕ) (i a b : ℕ) → i < length ks → get_or ks i a ≡ get_or ks i b

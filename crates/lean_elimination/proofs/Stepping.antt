@@ -1,22 +1,21 @@
 -- One line more in the loops of a stage.
-use Rattle.std.proofs.Common.{◌≡◌, ℕ, zero, suc, ◌+◌, ◌<◌, ◌≤◌, ◌^◌, Bool, true, false, Option, Some, None, List, [], ◌∷◌, ◌++◌, length, get_or, drop, take, map, refl, ap, sym, subst, ◌∙◌, arith, ℤ, pos, negsuc}
+use Rattle.std.proofs.Common.{◌≡◌, ℕ, zero, suc, ◌<◌, ◌^◌, Bool, true, false, Option, Some, List, ◌∷◌, length, map, refl, ap, sym, ◌∙◌, arith, ℤ, pos, negsuc}
 use Rattle.std.specs.Prelude.{IsTrue}
 use lib.Signed.{lt_z}
 use mir.Syntax.{w64}
 use mir.Val.{to_z, of_z}
 use Rattle.std.proofs.lemmas.Bool.Decides.{nat_tests}
-use Rattle.std.proofs.lemmas.List.{drop_more}
-use Rattle.st_linear.specs.Linear.{is_zero, is_within}
+use Rattle.st_linear.specs.Linear.{is_within}
 use Rattle.elimination_laws.specs.Mixing.{Tracked, part_of, is_up, is_down}
-use Rattle.elimination_laws.specs.Stages.{list, Sifted, freed, paired, pairs, kept_by, bounds_below, bounds_above, is_free}
+use Rattle.elimination_laws.specs.Stages.{list, Sifted, freed, paired, pairs, kept_by, bounds_above}
 use Rattle.row_elimination.specs.Places.{placed_on, sift_from}
 use Rattle.lean_elimination.specs.declared.row.Row.{Row}
 use Rattle.lean_elimination.specs.declared.stop.Stop.{Stop}
 use Rattle.lean_elimination.specs.Arenas.{row_at, listed, tracks, AllUnder, IsGrown, IsMade}
-use Rattle.lean_elimination.specs.Placings.{StopsBy, IsPut}
-use Rattle.lean_elimination.proofs.Growing.{at-grown, listed-grown, grown-same, under-at}
-use Rattle.lean_elimination.proofs.Putting.{put-ok, put-stops, listed-more, stops-same, stops-append, list-append}
-use Rattle.lean_elimination.proofs.Narrowing.{to_z-narrow, narrow-zero}
+use Rattle.lean_elimination.specs.Placings.{StopsBy}
+use Rattle.lean_elimination.proofs.Growing.{at-grown, listed-grown, grown-same}
+use Rattle.lean_elimination.proofs.Putting.{put-ok, put-stops, stops-same, stops-append, list-append}
+use Rattle.lean_elimination.proofs.Narrowing.{to_z-narrow}
 
 -- the first of the lines that are left is made and put
 pub turn-ok : (now new : List Row) (m : ℕ) (f : Tracked → Option Tracked) (t : Tracked) (all rest : List Tracked) (next after : List ℕ) (whole : Sifted) → all ≡ t ∷ rest → IsMade now new m (f t) → AllUnder (length now) next → sift_from (listed (tracks now) next) (map f all) ≡ whole → placed_on (listed (tracks new) next) (row_at (tracks new) m) ≡ list (listed (tracks new) after) → sift_from (listed (tracks new) after) (map f rest) ≡ whole

@@ -1,9 +1,8 @@
-use Rattle.std.proofs.Common.{arith, ap, sym, subst, ◌∙◌, ◌^◌, ◌≡◌, IfOk, Some}
+use Rattle.std.proofs.Common.{arith, ap, sym, subst, ◌∙◌, ◌^◌, IfOk}
 use mir.Syntax.{w64}
-use mir.Val.{to_z, of_z}
-use Rattle.elimination_laws.specs.Stages.{freed, paired}
-use Rattle.row_elimination.proofs.Factors.{freed-is, paired-is, first-is, second-is, not-zero}
-use Rattle.lean_elimination.specs.Arenas.{tracks, row_at, tracked_row, IsMade}
+use mir.Val.{of_z}
+use Rattle.row_elimination.proofs.Factors.{freed-is, first-is, not-zero}
+use Rattle.lean_elimination.specs.Arenas.{tracks, row_at, IsMade}
 use Rattle.lean_elimination.proofs.Growing.{row-is}
 use Rattle.lean_elimination.proofs.Narrowing.{to_z-narrow, to_z-whole}
 use Rattle.lean_elimination.proofs.making.freed.Goals as goal

@@ -1,12 +1,9 @@
-use Rattle.std.proofs.Common.{arith, refl, sym, ap, ◌≡◌, ◌^◌, ◌∙◌, length}
+use Rattle.std.proofs.Common.{arith, ap, ◌^◌}
 use mir.Syntax.{w64}
-use mir.Val.{to_z, of_z}
-use Rattle.std.specs.Prelude.{IsTrue}
 use Rattle.std.proofs.lemmas.Int.{to_z-of_z}
 use Rattle.elimination_laws.proofs.Mixes.{mixed_entries-is}
-use Rattle.row_elimination.proofs.Merges.{mixed_number-some}
 use Rattle.lean_elimination.specs.Arenas.{tracks, row_at}
-use Rattle.lean_elimination.proofs.Bounds.{IsBoundedMix, bounded-mix, bounded-at}
+use Rattle.lean_elimination.proofs.Bounds.{bounded-mix, bounded-at}
 use Rattle.lean_elimination.proofs.Growing.{row-is}
 use Rattle.lean_elimination.proofs.Mixing.{mixed-row, bounded-row, constant-is}
 use Rattle.lean_elimination.proofs.Narrowing.{to_z-narrow}

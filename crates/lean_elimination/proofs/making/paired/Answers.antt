@@ -1,10 +1,6 @@
-use Rattle.std.proofs.Common.{arith, ap, sym, subst, ◌∙◌, ◌^◌, ◌≡◌, IfOk, Some}
-use mir.Syntax.{w64}
-use mir.Val.{to_z, of_z}
-use Rattle.elimination_laws.specs.Stages.{freed, paired}
-use Rattle.row_elimination.proofs.Factors.{freed-is, paired-is, first-is, second-is, not-zero}
-use Rattle.lean_elimination.specs.Arenas.{tracks, row_at, tracked_row, IsMade}
-use Rattle.lean_elimination.proofs.Growing.{row-is}
+use Rattle.std.proofs.Common.{arith, sym, subst, ◌∙◌, ◌^◌, IfOk}
+use Rattle.row_elimination.proofs.Factors.{paired-is, first-is, second-is}
+use Rattle.lean_elimination.specs.Arenas.{tracks, row_at, IsMade}
 use Rattle.lean_elimination.proofs.Narrowing.{to_z-narrow, to_z-whole}
 use Rattle.lean_elimination.proofs.making.paired.Goals as goal
 

@@ -1,6 +1,5 @@
-use Rattle.std.proofs.Common.{sym, ap, ◌∙◌, take, arith, ◌^◌}
+use Rattle.std.proofs.Common.{sym, ap, ◌∙◌, arith, ◌^◌}
 use Rattle.elimination_laws.specs.Mixing.{part, part_of}
-use Rattle.lean_elimination.specs.Arenas.{tracks, row_at}
 use Rattle.lean_elimination.proofs.Growing.{row-is}
 use Rattle.lean_elimination.proofs.Narrowing.{to_z-narrow}
 use Rattle.lean_elimination.proofs.making.part_at.Goals as goal

@@ -1,11 +1,9 @@
-use Rattle.std.proofs.Common.{◌≤◌, ◌⊎◌, inl, inr, length, ap, arith, rules, Some, ◌^◌}
+use Rattle.std.proofs.Common.{◌≤◌, ◌⊎◌, inl, inr, length, ap, arith, rules}
 use mir.Syntax.{w64}
 use mir.Val.{of_z}
 use Rattle.row_elimination.proofs.Merges.{merges-first, merges-second, merges-second_none, merges-both, mixed_number-some}
 use Rattle.lean_elimination.proofs.Narrowing.{to_z-narrow, pushed-is}
 use Rattle.row_elimination.proofs.Ends.{merged}
-use Rattle.std.proofs.Common.{get_or}
-use Rattle.st_linear.proofs.Joins.{none}
 use Rattle.lean_elimination.proofs.merging.mix_entries.Goals as goal
 use Rattle.lean_elimination.proofs.merging.mix_entries.Goals.{then-loop-i-test+else-j-ys, else-loop-i-test}
 

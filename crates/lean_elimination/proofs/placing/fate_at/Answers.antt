@@ -1,4 +1,4 @@
-use Rattle.std.proofs.Common.{arith, sym, ap, ◌^◌, ◌≡◌, ◌≢◌, length, get_or}
+use Rattle.std.proofs.Common.{arith, ap, ◌^◌}
 use mir.Syntax.{w64}
 use mir.Val.{of_z}
 use Rattle.std.proofs.lemmas.Bool.Decides.{nat_tests}

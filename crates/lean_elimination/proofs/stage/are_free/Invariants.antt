@@ -1,8 +1,6 @@
-use Rattle.std.proofs.Common.{◌≡◌, ◌≤◌, ◌+◌, ◌-◌, ◌++◌, ℕ, [], map, Some, length, drop, take, true, List, ℤ}
-use Rattle.elimination_laws.specs.Stages.{freed, paired, pairs, kept_by, is_free, bounds_above, bounds_below, solver, others, tracked, stages, contradiction}
-use Rattle.row_elimination.specs.Places.{sift_from}
-use Rattle.lean_elimination.specs.Arenas.{tracks, row_at, listed, AllUnder, IsGrown}
-use Rattle.lean_elimination.specs.Placings.{AreFree, AllStay}
+use Rattle.std.proofs.Common.{drop}
+use Rattle.lean_elimination.specs.Arenas.{tracks, listed}
+use Rattle.lean_elimination.specs.Placings.{AreFree}
 use Rattle.lean_elimination.proofs.stage.are_free.Given as goal
 
 abbrev pub invariant-loop-k : goal.invariant-loop-k

@@ -1,20 +1,17 @@
-use Rattle.std.proofs.Common.{arith, ap, sym, subst, refl, ◌∙◌, ◌≡◌, ◌≢◌, ◌^◌, ◌+◌, length, get_or, drop, take, map, [], Some, None, true, false}
+use Rattle.std.proofs.Common.{arith, ap, sym, ◌∙◌, ◌^◌, ◌+◌, length, get_or, drop, map, Some}
 use mir.Syntax.{w64}
-use mir.Val.{to_z, of_z}
+use mir.Val.{of_z}
 use Rattle.std.proofs.lemmas.Result.{err_from_is_err_and}
 use Rattle.st_linear.specs.Linear.{is_zero}
-use Rattle.elimination_laws.specs.Mixing.{part_of, is_up, is_down}
-use Rattle.elimination_laws.specs.Stages.{freed, paired, pairs, kept_by, bounds_above, bounds_below, is_free, made_with, made, solver, others, sifted}
+use Rattle.elimination_laws.specs.Stages.{kept_by, is_free}
 use Rattle.row_elimination.specs.Places.{sift_from}
 use Rattle.row_elimination.proofs.Factors.{not-zero}
-use Rattle.row_elimination.proofs.Sifting.{up-others, down-others, zero-others, solver-has, made-solved}
 use Rattle.lean_elimination.specs.Arenas.{tracks, row_at, listed}
-use Rattle.lean_elimination.specs.Placings.{GivesList, StopsBy}
-use Rattle.lean_elimination.proofs.Growing.{at-grown, listed-grown, under-at, under-more, under-without, grown-then, row-is}
-use Rattle.lean_elimination.proofs.Narrowing.{to_z-narrow, narrow-zero}
-use Rattle.lean_elimination.proofs.Solvers.{listed-at, solver-next, solver-found, stage-none, free-more, solves-not, solves-zero, solves-yes}
-use Rattle.lean_elimination.proofs.Putting.{refused, kept-yes, kept-no, stops-same, stops-append, list-append}
-use Rattle.lean_elimination.proofs.Stepping.{turn-ok, turn-stops, freed-old, paired-old, made-self, side-of, is-below-zero, is-above-zero, pairs-ok, pairs-stops, pairs-old}
+use Rattle.lean_elimination.proofs.Growing.{under-at}
+use Rattle.lean_elimination.proofs.Narrowing.{narrow-zero}
+use Rattle.lean_elimination.proofs.Solvers.{listed-at}
+use Rattle.lean_elimination.proofs.Putting.{kept-yes, kept-no}
+use Rattle.lean_elimination.proofs.Stepping.{turn-ok, turn-stops, made-self}
 use Rattle.lean_elimination.proofs.stage.free.Goals as goal
 use Rattle.lean_elimination.proofs.stage.free.Goals.{then-part_at-eq0+in_ok-place, else-part_at-eq0}
 

@@ -1,8 +1,7 @@
-use Rattle.std.proofs.Common.{◌≡◌, ◌≤◌, ◌+◌, ◌-◌, ◌++◌, ℕ, [], map, Some, length, drop, take, true, List, ℤ}
-use Rattle.elimination_laws.specs.Stages.{freed, paired, pairs, kept_by, is_free, bounds_above, bounds_below, solver, others, tracked, stages, contradiction}
+use Rattle.std.proofs.Common.{◌≡◌, length, drop}
+use Rattle.elimination_laws.specs.Stages.{pairs, kept_by, bounds_above, bounds_below}
 use Rattle.row_elimination.specs.Places.{sift_from}
-use Rattle.lean_elimination.specs.Arenas.{tracks, row_at, listed, AllUnder, IsGrown}
-use Rattle.lean_elimination.specs.Placings.{AreFree, AllStay}
+use Rattle.lean_elimination.specs.Arenas.{tracks, listed, AllUnder, IsGrown}
 use Rattle.lean_elimination.proofs.stage.pair_all.Given as goal
 
 abbrev pub invariant-loop-lower : goal.invariant-loop-lower

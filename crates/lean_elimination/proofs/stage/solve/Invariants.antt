@@ -1,8 +1,7 @@
-use Rattle.std.proofs.Common.{◌≡◌, ◌≤◌, ◌+◌, ◌-◌, ◌++◌, ℕ, [], map, Some, length, drop, take, true, List, ℤ}
-use Rattle.elimination_laws.specs.Stages.{freed, paired, pairs, kept_by, is_free, bounds_above, bounds_below, solver, others, tracked, stages, contradiction}
+use Rattle.std.proofs.Common.{◌≡◌, [], map, length, drop}
+use Rattle.elimination_laws.specs.Stages.{freed}
 use Rattle.row_elimination.specs.Places.{sift_from}
 use Rattle.lean_elimination.specs.Arenas.{tracks, row_at, listed, AllUnder, IsGrown}
-use Rattle.lean_elimination.specs.Placings.{AreFree, AllStay}
 use Rattle.lean_elimination.proofs.stage.solve.Given as goal
 
 abbrev pub invariant-loop-k : goal.invariant-loop-k

@@ -1,8 +1,7 @@
-use Rattle.std.proofs.Common.{◌≡◌, ◌≤◌, ◌+◌, ◌-◌, ◌++◌, ℕ, [], map, Some, length, drop, take, true, List, ℤ}
-use Rattle.elimination_laws.specs.Stages.{freed, paired, pairs, kept_by, is_free, bounds_above, bounds_below, solver, others, tracked, stages, contradiction}
-use Rattle.row_elimination.specs.Places.{sift_from}
-use Rattle.lean_elimination.specs.Arenas.{tracks, row_at, listed, AllUnder, IsGrown}
-use Rattle.lean_elimination.specs.Placings.{AreFree, AllStay}
+use Rattle.std.proofs.Common.{◌≡◌, ◌≤◌, ◌-◌, ℕ, length, List, ℤ}
+use Rattle.elimination_laws.specs.Stages.{stages, contradiction}
+use Rattle.lean_elimination.specs.Arenas.{tracks, listed, AllUnder}
+use Rattle.lean_elimination.specs.Placings.{AllStay}
 use Rattle.lean_elimination.proofs.top.all_stages.Given as goal
 
 abbrev pub invariant-loop-v : goal.invariant-loop-v

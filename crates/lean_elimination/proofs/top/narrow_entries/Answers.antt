@@ -1,4 +1,4 @@
-use Rattle.std.proofs.Common.{refl, sym, ap, arith, ◌^◌, ℕ}
+use Rattle.std.proofs.Common.{refl, arith, ◌^◌}
 use Rattle.std.proofs.lemmas.List.{take_more}
 use Rattle.st_linear.proofs.Joins.{none}
 use Rattle.st_linear.proofs.Withins.{are_within-push}

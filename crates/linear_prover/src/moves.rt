@@ -12,6 +12,8 @@ ghost use Rattle.farkas_check.specs.PlainProblem.{setting};
 ghost use Rattle.search_laws.specs.Moves.{or_else, if_undecided, outermost, component_for, first_place_of, first_truth_of, by_component, by_variable, by_disjunction, by_lines, by_place, divided};
 ghost use Rattle.st_certificate.specs.Tree.{by_split, by_truth};
 ghost use Rattle.linear_prover.specs.Divisions.{plain_move, MoveApplies};
+ghost use Rattle.row_elimination.specs.Runs.{AllWithin};
+ghost use Rattle.row_elimination.specs.Eliminations.{AreBelow};
 ghost use Rattle.linear_prover.specs.Ready.{AreReady};
 
 use crate::conjuncts::{first_disjunction, first_place_among, first_truth_among, lines_of};
@@ -21,8 +23,10 @@ use crate::shown::{case_at, state};
 use crate::verdict::Failure;
 use control_states::{Alternative, Component, Components, around_at};
 use farkas_check::decisions::{has_truth, may_case, truth_free};
+use lean_elimination::refute;
 use row_elimination::{Elimination, eliminate};
 use st_form::Variable;
+use st_linear::Line;
 use st_memory::Memory;
 use std::alloc::Global;
 
@@ -119,7 +123,32 @@ fn by_truth<'a>(variables: &[Variable], node: &Node, var: u32) -> Move<'a>
     }
 }
 
-/// The lines are eliminated.
+/// The lines are eliminated, by rows that carry their picks.
+fn by_elimination<'a>(
+    alloc: Global,
+    components: &Components,
+    variables: &[Variable],
+    node: &Node,
+    lines: &[Line],
+) -> Result<Move<'a>, Memory>
+    requires within { AllWithin lines.now }
+    requires below { AreBelow (length variables.now) lines.now }
+    requires few { length variables.now < 2 ^ 32 }
+    ensures exact { (fs : List Conjunct) → IfOk result (λ m. plain_move components.now (plain_node node.now) fs m ≡ by_lines (setting components.now variables.now) (plain_node node.now) lines.now) }
+    ensures applies { (fs : List Conjunct) → IfOk result (λ m. MoveApplies (plain_node node.now) fs m) }
+{
+    match eliminate(alloc, lines, variables.len() as u32)? {
+        Elimination::Contradiction(picks) => Ok(Move::Closes(picks)),
+        Elimination::NoContradiction(None) => Ok(Move::Fails(Failure::Open(None))),
+        Elimination::NoContradiction(Some(point)) => {
+            let shown = state(alloc, components, variables, node, point.as_slice())?;
+            Ok(Move::Fails(Failure::Open(Some(shown))))
+        }
+        Elimination::Wide(stage) => Ok(Move::Fails(Failure::Wide(stage))),
+    }
+}
+
+/// The lines are eliminated: first in few bits, where only a contradiction is an answer.
 fn by_lines<'a>(
     alloc: Global,
     components: &Components,
@@ -134,14 +163,9 @@ fn by_lines<'a>(
     ensures applies { IfOk result (λ m. MoveApplies (plain_node node.now) fs.now m) }
 {
     let lines = lines_of(alloc, fs)?;
-    match eliminate(alloc, lines.as_slice(), variables.len() as u32)? {
-        Elimination::Contradiction(picks) => Ok(Move::Closes(picks)),
-        Elimination::NoContradiction(None) => Ok(Move::Fails(Failure::Open(None))),
-        Elimination::NoContradiction(Some(point)) => {
-            let shown = state(alloc, components, variables, node, point.as_slice())?;
-            Ok(Move::Fails(Failure::Open(Some(shown))))
-        }
-        Elimination::Wide(stage) => Ok(Move::Fails(Failure::Wide(stage))),
+    match refute(alloc, lines.as_slice(), variables.len() as u32)? {
+        Some(picks) => Ok(Move::Closes(picks)),
+        None => by_elimination(alloc, components, variables, node, lines.as_slice()),
     }
 }
 

@@ -1,0 +1,10 @@
+pub mod Growing
+pub mod Bounds
+pub mod Narrowing
+pub mod Putting
+pub mod Skipping
+pub mod Fates
+pub mod Mixing
+pub mod Stepping
+pub mod Answering
+pub mod Solvers

@@ -15,6 +15,7 @@ mod values;
 
 pub use counting::rounds;
 pub use faults::PlayFault;
+pub use fronts::control;
 pub use judgement::judge;
 pub use playing::play;
 pub use runs::Played;

@@ -1,2 +1,4 @@
+pub mod Dealing
 pub mod Halves
 pub mod Numbers
+pub mod Marking

@@ -1,3 +1,5 @@
+pub mod Dealt
 pub mod First
 pub mod Pieces
+pub mod Searched
 pub mod Verdicts

@@ -2,20 +2,24 @@
 //! workers, with the answer of one.
 //!
 //! A range of conditions is cut into halves that run by a fork and a join (Blumofe and others, *Cilk: an efficient
-//! multithreaded runtime system*, 1995), until each piece has one worker or one condition.
+//! multithreaded runtime system*, 1995), until each piece has one worker or one condition. Each half gets every second
+//! condition, so that heavy ones that stand together are shared out.
 #![tactic(auto)]
 
 mod checking;
+mod deciding;
 mod gates;
 mod guards;
 pub mod laws;
 mod searching;
+mod shares;
 
 pub use cert_text::Block;
 pub use checking::check_all;
 pub use control_states::Components;
+pub use deciding::decide_all;
 pub use guards::{are_checkable, are_searchable};
 pub use linear_prover::Verdict;
-pub use searching::decide_all;
+pub use searching::verify_all;
 pub use st_form::{Condition, Variable};
 pub use st_outside::Gate;

@@ -1,14 +1,15 @@
-//! The verdicts on conditions, in order.
+//! The first condition that isn't valid by the search. No certificate is kept.
 
-ghost use Rattle.std.specs.Prelude.{◌≡◌, ◌<◌, ◌+◌, ◌-◌, ◌/◌, ◌^◌, ◌++◌, IfOk, IsTrue, List, length};
-ghost use Rattle.farkas_check.specs.Problem.{Setting};
-ghost use Rattle.linear_prover.specs.declared.verdict.Verdict.{Verdict};
+ghost use Rattle.std.specs.Prelude.{◌≡◌, ◌<◌, ◌≤◌, ◌+◌, ◌-◌, ◌*◌, ◌/◌, ◌^◌, IfOk, IsTrue, length, drop};
 ghost use Rattle.std.specs.Thread.{IsSync};
 ghost use Rattle.farkas_check.specs.PlainProblem.{setting};
+ghost use Rattle.discharge.specs.Dealt.{dealt, left_half, right_half};
 ghost use Rattle.discharge.specs.Pieces.{EachPiece};
-ghost use Rattle.discharge.specs.Verdicts.{AreSearchable, AreAnswers};
+ghost use Rattle.discharge.specs.Verdicts.{IsSearchable, AreSearchable};
+ghost use Rattle.discharge.specs.Searched.{mark, marks, first_false, IsFirstOpen};
 
 use crate::gates::at_gate;
+use crate::shares::{Share, behind, halves, weave};
 use control_states::Components;
 use linear_prover::{Verdict, decide};
 use st_form::{Condition, Variable};
@@ -17,62 +18,75 @@ use st_outside::Gate;
 use std::alloc::Global;
 use std::thread::{Threads, join};
 
-/// The verdicts on the conditions of one piece.
-fn decide_piece(
+/// Whether a condition is decided valid.
+fn is_decided_valid(
+    alloc: Global,
+    components: &Components,
+    variables: &[Variable],
+    condition: &Condition,
+) -> Result<bool, Memory>
+    requires few { length variables.now < 2 ^ 32 }
+    requires searchable { IsSearchable (length variables.now) condition.now }
+    ensures { IfOk result (λ yes. yes ≡ mark (setting components.now variables.now) condition.now) }
+{
+    match decide(alloc, components, variables, condition)? {
+        Verdict::Valid(_) => Ok(true),
+        Verdict::Open(_, _) => Ok(false),
+        Verdict::Wide(_, _) => Ok(false),
+    }
+}
+
+/// Which conditions of one piece are decided valid.
+fn search_piece(
     alloc: Global,
     components: &Components,
     variables: &[Variable],
     conditions: &[Condition],
-) -> Result<Vec<Verdict>, Memory>
+    share: Share,
+) -> Result<Vec<bool>, Memory>
     requires few { length variables.now < 2 ^ 32 }
     requires searchable { AreSearchable (length variables.now) conditions.now }
-    ensures { IfOk result (λ v. AreAnswers (setting components.now variables.now) conditions.now v.items) }
+    ensures { IfOk result (λ v. v.items ≡ marks (setting components.now variables.now) (dealt share conditions.now)) }
 {
-    let mut verdicts = Vec::with_capacity(alloc, conditions.len())?;
-    for condition in conditions {
-        verdicts.push(decide(alloc, components, variables, condition)?)?;
+    let mut found = Vec::with_capacity(alloc, share.count)?;
+    let mut rest = conditions;
+    let mut left = share.count;
+    while left > 0 {
+        let Some((condition, _)) = rest.split_first() else {
+            return Ok(found);
+        };
+        found.push(is_decided_valid(alloc, components, variables, condition)?)?;
+        rest = behind(rest, share.stride);
+        left -= 1;
     }
-    Ok(verdicts)
+    Ok(found)
 }
 
 /// The same, between the gate's begin and end of this piece.
-fn decide_at_gate<G: Gate>(
+fn search_at_gate<G: Gate>(
     alloc: Global,
     gate: &G,
     place: usize,
     components: &Components,
     variables: &[Variable],
     conditions: &[Condition],
-) -> Result<Vec<Verdict>, Memory>
+    share: Share,
+) -> Result<Vec<bool>, Memory>
     requires few { length variables.now < 2 ^ 32 }
     requires searchable { AreSearchable (length variables.now) conditions.now }
-    ensures answers { IfOk result (λ v. AreAnswers (setting components.now variables.now) conditions.now v.items) }
+    ensures marks { IfOk result (λ v. v.items ≡ marks (setting components.now variables.now) (dealt share conditions.now)) }
     ensures ended { IsTrue (G.ended gate.now place) }
 {
     at_gate(
         gate,
         place,
-        || decide_piece(alloc, components, variables, conditions),
+        || search_piece(alloc, components, variables, conditions, share),
     )
 }
 
-/// The first half of the conditions, and the rest.
-fn halves<'a>(
-    variables: &[Variable],
-    conditions: &'a [Condition],
-) -> (&'a [Condition], &'a [Condition])
-    requires { AreSearchable (length variables.now) conditions.now }
-    ensures left { AreSearchable (length variables.now) result.0.now }
-    ensures right { AreSearchable (length variables.now) result.1.now }
-    ensures sizes { (length result.0.now ≡ length conditions.now / 2) × (length result.1.now ≡ length conditions.now - length conditions.now / 2) }
-    ensures whole { (k : Setting) (vs ws : List Verdict) → AreAnswers k result.0.now vs → AreAnswers k result.1.now ws → AreAnswers k conditions.now (vs ++ ws) }
-{
-    conditions.split_at(conditions.len() / 2)
-}
-
-/// The verdicts on a range, whose leftmost piece has the number `first`.
-#[cycle(decide_range)]
-fn decide_range<R: Threads + Sync, G: Gate + Sync>(
+/// Which conditions of a share are decided valid. Its leftmost piece has the number `first`.
+#[cycle(search_range)]
+fn search_range<R: Threads + Sync, G: Gate + Sync>(
     rt: &R,
     alloc: Global,
     gate: &G,
@@ -81,71 +95,90 @@ fn decide_range<R: Threads + Sync, G: Gate + Sync>(
     components: &Components,
     variables: &[Variable],
     conditions: &[Condition],
-) -> Result<Vec<Verdict>, Memory>
+    share: Share,
+) -> Result<Vec<bool>, Memory>
     requires pieces { first + workers < 2 ^ 32 }
+    requires strides { share.stride * (workers - 1) < 2 ^ 32 }
     requires few { length variables.now < 2 ^ 32 }
     requires searchable { AreSearchable (length variables.now) conditions.now }
-    ensures answers { IfOk result (λ v. AreAnswers (setting components.now variables.now) conditions.now v.items) }
-    ensures ended { EachPiece first workers (length conditions.now) (G.ended gate.now) }
+    ensures marks { IfOk result (λ v. v.items ≡ marks (setting components.now variables.now) (dealt share conditions.now)) }
+    ensures ended { EachPiece first workers share.count (G.ended gate.now) }
 {
-    if workers < 2 || conditions.len() < 2 {
-        return decide_at_gate(alloc, gate, first, components, variables, conditions);
+    if workers < 2 || share.count < 2 {
+        return search_at_gate(alloc, gate, first, components, variables, conditions, share);
     }
-    let half = workers / 2;
-    let rest = workers - half;
-    let (left, right) = halves(variables, conditions);
-    let (before, behind) = decide_both(
-        rt, alloc, gate, first, half, rest, components, variables, left, right,
+    let (left, right) = search_both(
+        rt, alloc, gate, first, workers, components, variables, conditions, share,
     );
-    let mut verdicts = before?;
-    let mut more = behind?;
-    verdicts.append(&mut more)?;
-    Ok(verdicts)
+    weave(alloc, right?, left?)
 }
 
-/// The verdicts on both halves of a range, which have so many workers.
-#[cycle(decide_range)]
-fn decide_both<R: Threads + Sync, G: Gate + Sync>(
+/// The same of both halves of a share, each with half of the workers.
+#[cycle(search_range)]
+fn search_both<R: Threads + Sync, G: Gate + Sync>(
     rt: &R,
     alloc: Global,
     gate: &G,
     first: usize,
-    half: u32,
-    rest: u32,
+    workers: u32,
     components: &Components,
     variables: &[Variable],
-    left: &[Condition],
-    right: &[Condition],
-) -> (Result<Vec<Verdict>, Memory>, Result<Vec<Verdict>, Memory>)
-    requires some { (0 < half) × (0 < rest) }
-    requires pieces { first + half + rest < 2 ^ 32 }
+    conditions: &[Condition],
+    share: Share,
+) -> (Result<Vec<bool>, Memory>, Result<Vec<bool>, Memory>)
+    requires some { 2 ≤ workers }
+    requires pieces { first + workers < 2 ^ 32 }
+    requires strides { share.stride * (workers - 1) < 2 ^ 32 }
     requires few { length variables.now < 2 ^ 32 }
-    requires left { AreSearchable (length variables.now) left.now }
-    requires right { AreSearchable (length variables.now) right.now }
-    ensures before { IfOk result.0 (λ v. AreAnswers (setting components.now variables.now) left.now v.items) }
-    ensures behind { IfOk result.1 (λ v. AreAnswers (setting components.now variables.now) right.now v.items) }
-    ensures left_ended { EachPiece first half (length left.now) (G.ended gate.now) }
-    ensures right_ended { EachPiece (first + half) rest (length right.now) (G.ended gate.now) }
+    requires searchable { AreSearchable (length variables.now) conditions.now }
+    ensures left { IfOk result.0 (λ v. v.items ≡ marks (setting components.now variables.now) (dealt (left_half share) (drop share.stride conditions.now))) }
+    ensures right { IfOk result.1 (λ v. v.items ≡ marks (setting components.now variables.now) (dealt (right_half share) conditions.now)) }
+    ensures left_ended { EachPiece first (workers / 2) (share.count / 2) (G.ended gate.now) }
+    ensures right_ended { EachPiece (first + workers / 2) (workers - workers / 2) (share.count - share.count / 2) (G.ended gate.now) }
 {
+    let half = workers / 2;
+    let rest = workers - half;
     let up = first + half as usize;
+    let (left, right) = halves(share, workers);
+    let between = behind(conditions, share.stride);
     join(
         rt,
-        || -> Result<Vec<Verdict>, Memory>
-            requires { IsSync R.row × IsSync G.row × (first + half < 2 ^ 32) × (length variables.now < 2 ^ 32) × AreSearchable (length variables.now) left.now }
-            ensures answers { IfOk result (λ v. AreAnswers (setting components.entry.now variables.entry.now) left.entry.now v.items) }
-            ensures ended { EachPiece first half (length left.entry.now) (G.ended gate.entry.now) }
-        { decide_range(rt, alloc, gate, first, half, components, variables, left) },
-        || -> Result<Vec<Verdict>, Memory>
-            requires { IsSync R.row × IsSync G.row × (up + rest < 2 ^ 32) × (length variables.now < 2 ^ 32) × AreSearchable (length variables.now) right.now }
-            ensures answers { IfOk result (λ v. AreAnswers (setting components.entry.now variables.entry.now) right.entry.now v.items) }
-            ensures ended { EachPiece up rest (length right.entry.now) (G.ended gate.entry.now) }
-        { decide_range(rt, alloc, gate, up, rest, components, variables, right) },
+        || -> Result<Vec<bool>, Memory>
+            requires { IsSync R.row × IsSync G.row × (first + half < 2 ^ 32) × (left.stride * (half - 1) < 2 ^ 32) × (length variables.now < 2 ^ 32) × AreSearchable (length variables.now) between.now }
+            ensures marks { IfOk result (λ v. v.items ≡ marks (setting components.entry.now variables.entry.now) (dealt left between.entry.now)) }
+            ensures ended { EachPiece first half left.count (G.ended gate.entry.now) }
+        {
+            search_range(
+                rt, alloc, gate, first, half, components, variables, between, left,
+            )
+        },
+        || -> Result<Vec<bool>, Memory>
+            requires { IsSync R.row × IsSync G.row × (up + rest < 2 ^ 32) × (right.stride * (rest - 1) < 2 ^ 32) × (length variables.now < 2 ^ 32) × AreSearchable (length variables.now) conditions.now }
+            ensures marks { IfOk result (λ v. v.items ≡ marks (setting components.entry.now variables.entry.now) (dealt right conditions.entry.now)) }
+            ensures ended { EachPiece up rest right.count (G.ended gate.entry.now) }
+        {
+            search_range(
+                rt, alloc, gate, up, rest, components, variables, conditions, right,
+            )
+        },
     )
 }
 
-/// The verdicts on all conditions, in their order. Each piece of the work stands between the gate's `begin` and `end` of
-/// its number.
-pub fn decide_all<R: Threads + Sync, G: Gate + Sync>(
+/// The first place that isn't marked.
+fn first_open(found: &[bool]) -> Option<usize>
+    ensures { result ≡ first_false found.now }
+{
+    for (place, valid) in found.iter().enumerate() {
+        if !*valid {
+            return Some(place);
+        }
+    }
+    None
+}
+
+/// The first condition that isn't decided valid; `None` exactly where all are. Each piece of the work stands between the
+/// gate's `begin` and `end` of its number.
+pub fn verify_all<R: Threads + Sync, G: Gate + Sync>(
     rt: &R,
     alloc: Global,
     gate: &G,
@@ -153,14 +186,19 @@ pub fn decide_all<R: Threads + Sync, G: Gate + Sync>(
     components: &Components,
     variables: &[Variable],
     conditions: &[Condition],
-) -> Result<Vec<Verdict>, Memory>
+) -> Result<Option<usize>, Memory>
     requires workers { 0 < workers }
     requires few { length variables.now < 2 ^ 32 }
     requires searchable { AreSearchable (length variables.now) conditions.now }
-    ensures answers { IfOk result (λ v. AreAnswers (setting components.now variables.now) conditions.now v.items) }
+    ensures first_open { IfOk result (λ o. IsFirstOpen (setting components.now variables.now) conditions.now o) }
     ensures ended { EachPiece 0 workers (length conditions.now) (G.ended gate.now) }
 {
-    decide_range(
-        rt, alloc, gate, 0, workers, components, variables, conditions,
-    )
+    let share = Share {
+        stride: 1,
+        count: conditions.len(),
+    };
+    let found = search_range(
+        rt, alloc, gate, 0, workers, components, variables, conditions, share,
+    )?;
+    Ok(first_open(&found))
 }

@@ -19,3 +19,4 @@ pub mod ReportedRuns
 pub mod Found
 pub mod Growing
 pub mod Accepting
+pub mod Passing

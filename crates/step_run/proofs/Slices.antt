@@ -40,10 +40,10 @@ before_ended x all [] found = refl
 before_ended x all (t ∷ ts) found = first_ended x all t (all_before ts found) ∙ before_ended x (λ us. all (t ∷ us)) ts found
 
 -- from one place to another
-found_on : (x : Posed) (from mid to : ℕ) (ts us : List Tree) → FoundTo x from mid ts → FoundTo x mid to us → FoundTo x from to (ts ++ us)
+pub found_on : (x : Posed) (from mid to : ℕ) (ts us : List Tree) → FoundTo x from mid ts → FoundTo x mid to us → FoundTo x from to (ts ++ us)
 found_on x from mid to ts us first more = first ∙ ap (all_before ts) more ∙ sym (before_append ts us (found_from x to))
 
-ends_on : (x : Posed) (from place : ℕ) (ts : List Tree) (o : Outcome) → FoundTo x from place ts → EndsFrom x place o → EndsFrom x from o
+pub ends_on : (x : Posed) (from place : ℕ) (ts : List Tree) (o : Outcome) → FoundTo x from place ts → EndsFrom x place o → EndsFrom x from o
 ends_on x from place ts o found ends = λ all. ends (λ us. all (ts ++ us)) ∙ sym (before_ended x all ts (found_from x place)) ∙ ap (search_ended x all) (sym found)
 
 -- the condition at a place comes first
@@ -53,7 +53,7 @@ rest_at (c ∷ cs) zero any lt = refl
 rest_at (c ∷ cs) (suc place) any lt = rest_at cs place any (omega (arith, lt))
 
 module _ (x : Posed) (cs : List Condition) (are : x.conditions ≡ plains cs) where
-  found_step : (place : ℕ) (any : Condition) → place < length cs
+  pub found_step : (place : ℕ) (any : Condition) → place < length cs
       → found_from x place ≡ by_verdict (place + 1) (plain_condition (get_or cs place any)) (found_from x (place + 1)) (verdict_on (setting_of x.program) (plain_condition (get_or cs place any)))
   unfolding found_from
   found_step place any lt =
@@ -76,13 +76,13 @@ module _ (x : Posed) (cs : List Condition) (are : x.conditions ≡ plains cs) wh
   one_ends place any v ended lt answer ends = λ all. ends.0 (found_from x (place + 1)) all ∙ ap (search_ended x all) (sym (found_at place any v lt answer))
 
 -- the verdict on the condition at a place of a slice
-in_front : (cs : List Condition) (n i : ℕ) (any : Condition) → i < n → get_or (take n cs) i any ≡ get_or cs i any
+pub in_front : (cs : List Condition) (n i : ℕ) (any : Condition) → i < n → get_or (take n cs) i any ≡ get_or cs i any
 in_front cs zero i any lt = absurd (omega (arith, lt))
 in_front [] (suc n) i any lt = refl
 in_front (c ∷ cs) (suc n) zero any lt = refl
 in_front (c ∷ cs) (suc n) (suc i) any lt = in_front cs n i any (omega (arith, lt))
 
-behind_front : (cs : List Condition) (m i : ℕ) (any : Condition) → get_or (drop m cs) i any ≡ get_or cs (m + i) any
+pub behind_front : (cs : List Condition) (m i : ℕ) (any : Condition) → get_or (drop m cs) i any ≡ get_or cs (m + i) any
 behind_front cs zero i any = ap (λ (j : ℕ). get_or cs j any) (let e : i ≡ 0 + i = omega arith in e)
 behind_front [] (suc m) i any = refl
 behind_front (c ∷ cs) (suc m) i any = behind_front cs m i any ∙ ap (λ (j : ℕ). get_or (c ∷ cs) j any) (let e : suc (m + i) ≡ suc m + i = omega arith in e)
@@ -109,7 +109,7 @@ valid_more [] i v lt is valid all = absurd (omega (arith, lt))
 valid_more (w ∷ vs) zero v lt is valid all = (ap is_valid (sym is) ∙ valid, tt)
 valid_more (w ∷ vs) (suc i) v lt is valid all = (all.0, valid_more vs i v (omega (arith, lt)) is valid all.1)
 
-some_of : (cs : List Condition) → 0 < length cs → Condition
+pub some_of : (cs : List Condition) → 0 < length cs → Condition
 some_of [] some = absurd (omega (arith, some))
 some_of (c ∷ cs) some = c
 
@@ -176,7 +176,7 @@ pub record Come (x : Posed) (place : ℕ) (Kept : List Tree → Type 0) : Type 0
   pub found : FoundTo x 0 place trees
   pub kept : Kept trees
 
-trees_length : (vs : List Verdict) → length (trees_in vs) ≡ length vs
+pub trees_length : (vs : List Verdict) → length (trees_in vs) ≡ length vs
 trees_length [] = refl
 trees_length (v ∷ vs) = ap suc (trees_length vs)
 

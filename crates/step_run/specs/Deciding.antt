@@ -74,6 +74,19 @@ pub record AreNext (x : Posed) (place : ℕ) (vs : List Verdict) : Type 0 where
   pub modest : AreModest vs
   pub found : FoundTo x place (place + length vs) (trees_in vs)
 
+-- the conditions from one place up to another are valid, whatever their certificates
+pub record Pass (x : Posed) (from to : ℕ) : Type 0 where
+  pub further : from < to
+  pub within : to ≤ length x.conditions
+  pub trees : List Tree
+  pub as_many : from + length trees ≡ to
+  pub found : FoundTo x from to trees
+
+-- the run goes on at a place, up to which the conditions pass, or it ends
+abbrev pub PassesFrom : Posed → ℕ → Stage ℕ → Type 0
+PassesFrom x place (On to) = Pass x place to
+PassesFrom x place (Over ended) = EndsFrom x place (ended_view ended)
+
 -- the run goes on behind these, or it ends
 abbrev pub GoesFrom : Posed → ℕ → Stage (Vec Verdict Global) → Type 0
 GoesFrom x place (On verdicts) = AreNext x place verdicts.items

@@ -2,7 +2,6 @@
 
 ghost use Rattle.std.specs.Prelude.{◌≡◌, ◌<◌, ◌≤◌, ◌+◌, ◌-◌, ◌^◌, ◌++◌, length, take, drop, get_or, IfOk, IsTrue};
 ghost use Rattle.std.specs.Option.{option_map};
-ghost use Rattle.std.specs.Thread.{IsSync};
 ghost use Rattle.st_form.specs.Plain.{plain_condition};
 ghost use Rattle.st_form.specs.declared.conditions.Condition.{Condition};
 ghost use Rattle.control_facts.specs.Alternatives.{control_of};
@@ -17,15 +16,12 @@ ghost use Rattle.step_run.specs.Deciding.{EndsAt, Settled, GoesFrom};
 ghost use Rattle.step_run.specs.Views.{source_view, posed_view};
 ghost use Rattle.step_run.specs.Ready.{IsReady};
 
-use crate::crew::crew;
 use crate::posed::Posed;
 use crate::reports::{not_proved_text, variable_count, variables_of};
 use discharge::{Components, decide_all};
 use linear_prover::{PathStep, Shown, Verdict, WideStage};
 use st_memory::Memory;
-use st_outside::Gate;
 use std::alloc::Global;
-use std::thread::Threads;
 use step_plan::{Ended, Stage, Status};
 use step_report::Reason;
 
@@ -41,17 +37,13 @@ fn slice_end(place: usize, size: usize) -> usize
 }
 
 /// The verdicts on the conditions from one place to before another, in their order.
-fn decided<R: Threads + Sync, G: Gate + Sync>(
-    rt: &R,
+fn decided(
     alloc: Global,
-    gate: &G,
-    workers: u32,
     components: &Components,
     posed: &Posed,
     from: usize,
     to: usize,
 ) -> Result<Vec<Verdict>, Memory>
-    requires workers { 0 < workers }
     requires ready { IsReady posed.now }
     requires components { components.now ≡ control_of (source_view posed.now.source).processes }
     requires places { (from ≤ to) × (to ≤ length posed.now.conditions.items) }
@@ -59,15 +51,7 @@ fn decided<R: Threads + Sync, G: Gate + Sync>(
 {
     let slice = &posed.conditions[from..to];
     let variables = variables_of(&posed.source.program);
-    decide_all(
-        rt,
-        alloc,
-        gate,
-        crew(workers, slice),
-        components,
-        variables,
-        slice,
-    )
+    decide_all(alloc, components, variables, slice)
 }
 
 /// The end of a run in which the condition at a place is left open.
@@ -169,27 +153,40 @@ fn all_valid(
     Ok(Stage::On(()))
 }
 
+/// The certificates of the conditions from one place to before another, where these are valid. Else the run's end at the
+/// first that isn't.
+pub fn valid_to(
+    alloc: Global,
+    components: &Components,
+    posed: &Posed,
+    from: usize,
+    to: usize,
+) -> Result<Stage<Vec<Verdict>>, Memory>
+    requires ready { IsReady posed.now }
+    requires components { components.now ≡ control_of (source_view posed.now.source).processes }
+    requires places { (from < to) × (to ≤ length posed.now.conditions.items) }
+    ensures { IfOk result (λ s. GoesFrom (posed_view posed.now) from s) }
+{
+    let verdicts = decided(alloc, components, posed, from, to)?;
+    match all_valid(alloc, posed, from, &verdicts)? {
+        Stage::On(_) => Ok(Stage::On(verdicts)),
+        Stage::Over(ended) => Ok(Stage::Over(ended)),
+    }
+}
+
 /// The certificates of the next conditions, from a place on, where these are valid. Else the run's end at the first that
 /// isn't.
-pub fn next_valid<R: Threads + Sync, G: Gate + Sync>(
-    rt: &R,
+pub fn next_valid(
     alloc: Global,
-    gate: &G,
-    workers: u32,
     components: &Components,
     posed: &Posed,
     place: usize,
 ) -> Result<Stage<Vec<Verdict>>, Memory>
-    requires workers { 0 < workers }
     requires ready { IsReady posed.now }
     requires components { components.now ≡ control_of (source_view posed.now.source).processes }
     requires place { place < length posed.now.conditions.items }
     ensures { IfOk result (λ s. GoesFrom (posed_view posed.now) place s) }
 {
     let end = slice_end(place, posed.conditions.len());
-    let verdicts = decided(rt, alloc, gate, workers, components, posed, place, end)?;
-    match all_valid(alloc, posed, place, &verdicts)? {
-        Stage::On(_) => Ok(Stage::On(verdicts)),
-        Stage::Over(ended) => Ok(Stage::Over(ended)),
-    }
+    valid_to(alloc, components, posed, place, end)
 }

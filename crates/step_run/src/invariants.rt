@@ -5,7 +5,6 @@
 //! but of the conditions only those of the new step are decided, since the others are the same.
 
 ghost use Rattle.std.specs.Prelude.{◌≡◌, ◌≤◌, ◌++◌, drop, length, map, IfOk, OnOk};
-ghost use Rattle.std.specs.Thread.{IsSync};
 ghost use Rattle.std.specs.Option.{option_map};
 ghost use Rattle.st_outside.specs.Faults.{NoneFell};
 ghost use Rattle.st_form.specs.Plain.{plain_condition};
@@ -40,9 +39,8 @@ use script_bounds::laws::over_is_written;
 use spl_translation::translate;
 use st_form::Condition;
 use st_memory::Memory;
-use st_outside::{Files, Gate};
+use st_outside::Files;
 use std::alloc::Global;
-use std::thread::Threads;
 use step_plan::{Ended, Stage, Status};
 use step_report::push_text;
 use temporal_goals::Script;
@@ -115,10 +113,8 @@ fn are_valid(verdicts: &[Verdict]) -> bool
 }
 
 /// Whether conditions are all decided valid.
-fn are_decided<R: Threads + Sync, G: Gate + Sync>(
-    rt: &R,
+fn are_decided(
     alloc: Global,
-    gate: &G,
     subject: &Subject,
     conditions: &[Condition],
 ) -> Result<bool, Memory>
@@ -127,15 +123,7 @@ fn are_decided<R: Threads + Sync, G: Gate + Sync>(
     ensures { IfOk result (λ yes. yes ≡ are_decided (setting_of (source_view subject.now.source)) (map plain_condition conditions.now)) }
 {
     let variables = variables_of(&subject.source.program);
-    let verdicts = decide_all(
-        rt,
-        alloc,
-        gate,
-        1,
-        &subject.components,
-        variables,
-        conditions,
-    )?;
+    let verdicts = decide_all(alloc, &subject.components, variables, conditions)?;
     Ok(are_valid(&verdicts))
 }
 
@@ -159,10 +147,8 @@ fn behind(conditions: &[Condition], count: usize) -> &[Condition]
 
 /// How many conditions the script of a text has, if the text is accepted. The first `before` of them are known to be valid: they are
 /// those of the text so far, with which it begins.
-fn judged<R: Threads + Sync, G: Gate + Sync>(
-    rt: &R,
+fn judged(
     alloc: Global,
-    gate: &G,
     subject: &Subject,
     kept: &Kept,
     sentence: &[u8],
@@ -179,17 +165,15 @@ fn judged<R: Threads + Sync, G: Gate + Sync>(
         return Ok(None);
     };
     let fresh = behind(&conditions, kept.conditions);
-    if !are_decided(rt, alloc, gate, subject, fresh)? {
+    if !are_decided(alloc, subject, fresh)? {
         return Ok(None);
     }
     Ok(Some(conditions.len()))
 }
 
 /// Appends the sentence of an equation where the text with it is accepted, and else a comment in its place.
-fn enter<R: Threads + Sync, G: Gate + Sync>(
-    rt: &R,
+fn enter(
     alloc: Global,
-    gate: &G,
     subject: &Subject,
     number: u64,
     sentence: Option<Vec<u8>>,
@@ -201,7 +185,7 @@ fn enter<R: Threads + Sync, G: Gate + Sync>(
     ensures accepted { OnOk result (IsAccepted (source_view subject.now.source) kept.new.text.items kept.new.conditions) }
 {
     if let Some(sentence) = sentence {
-        if let Some(conditions) = judged(rt, alloc, gate, subject, kept, &sentence)? {
+        if let Some(conditions) = judged(alloc, subject, kept, &sentence)? {
             push_text(&mut kept.text, &sentence)?;
             kept.conditions = conditions;
             return push_text(&mut kept.text, b"\n");
@@ -212,10 +196,8 @@ fn enter<R: Threads + Sync, G: Gate + Sync>(
 }
 
 /// The text of all equations.
-fn entered<R: Threads + Sync, G: Gate + Sync>(
-    rt: &R,
+fn entered(
     alloc: Global,
-    gate: &G,
     subject: &Subject,
     equations: &[Equation],
 ) -> Result<Vec<u8>, Memory>
@@ -240,7 +222,7 @@ fn entered<R: Threads + Sync, G: Gate + Sync>(
             number,
             equation,
         )?;
-        enter(rt, alloc, gate, subject, number, sentence, &mut kept)?;
+        enter(alloc, subject, number, sentence, &mut kept)?;
     }
     Ok(kept.text)
 }
@@ -258,10 +240,8 @@ fn wide(alloc: Global) -> Result<Ended, Memory>
 }
 
 /// The invariances that are found for a program.
-fn invariants<R: Threads + Sync, G: Gate + Sync>(
-    rt: &R,
+fn invariants(
     alloc: Global,
-    gate: &G,
     source: Source,
 ) -> Result<Ended, Memory>
     requires { IsSpelled (source_view source) }
@@ -279,7 +259,7 @@ fn invariants<R: Threads + Sync, G: Gate + Sync>(
         fts,
         components,
     };
-    let text = entered(rt, alloc, gate, &subject, &equations)?;
+    let text = entered(alloc, &subject, &equations)?;
     Ok(Ended {
         status: Status::Proved,
         text,
@@ -287,11 +267,9 @@ fn invariants<R: Threads + Sync, G: Gate + Sync>(
 }
 
 /// Reads the program's file, and looks for invariants.
-pub fn find_in<R: Threads + Sync, F: Files, G: Gate + Sync>(
-    rt: &R,
+pub fn find_in<F: Files>(
     alloc: Global,
     files: &mut F,
-    gate: &G,
     program: &str,
 ) -> Result<Ended, Memory>
     ensures follows { IfOk result (Follows (F.told files.old) (F.faults files.old) (F.faults files.new) (then_plan (source_plan program.now) find_in)) }
@@ -299,7 +277,7 @@ pub fn find_in<R: Threads + Sync, F: Files, G: Gate + Sync>(
     ensures later { NoneFell (F.faults files.old) (F.faults files.new) }
 {
     match ask_source(alloc, files, program)? {
-        Stage::On(source) => invariants(rt, alloc, gate, source),
+        Stage::On(source) => invariants(alloc, source),
         Stage::Over(ended) => Ok(ended),
     }
 }

@@ -17,6 +17,7 @@ mod scripted;
 mod source;
 mod top;
 mod tracing;
+mod verifying;
 mod work;
 mod workload;
 

@@ -1,55 +1,27 @@
-//! What comes of a search for the certificates of all conditions: the report of `verify`, the certificates of `prove`, the
-//! numbers of a workload. Of each slice of conditions nothing is kept but what these need.
+//! What comes of a search for the certificates of all conditions: the certificates of `prove`, the numbers of a workload. Of each slice of conditions nothing is kept but what these need.
 
 ghost use Rattle.std.specs.Prelude.{◌≡◌, ◌<◌, ◌≤◌, ◌+◌, ◌*◌, ◌++◌, List, ℕ, true, length, IfOk, OnOk};
-ghost use Rattle.std.specs.Thread.{IsSync};
 ghost use Rattle.st_certificate.specs.Tree.{Tree};
 ghost use Rattle.cert_text.specs.Spelling.{block_text};
 ghost use Rattle.search_laws.specs.Sizes.{nodes};
 ghost use Rattle.step_report.specs.Goals.{blocks_text, certificates_text};
 ghost use Rattle.step_plan.specs.Outcome.{ended_view};
-ghost use Rattle.step_run.specs.Verified.{certificates, goals_counted, nodes_in, verified, written, counted};
+ghost use Rattle.step_run.specs.Verified.{certificates, goals_counted, nodes_in, written, counted};
 ghost use Rattle.step_run.specs.Deciding.{is_valid, tree_in, trees_in, AreValid, AreModest, IsWritten};
 ghost use Rattle.step_run.specs.Views.{posed_view};
 ghost use Rattle.step_run.specs.Ready.{IsReady};
 
 use crate::deciding::next_valid;
 use crate::posed::Posed;
-use crate::reports::goals_proved;
 use cert_lengths::room_behind_block;
 use cert_text::{Block, write_block, write_header};
 use control_facts::components;
 use linear_prover::Verdict;
 use st_memory::Memory;
-use st_outside::Gate;
 use st_tokens::LimitKind;
 use std::alloc::Global;
-use std::thread::Threads;
 use step_plan::{Ended, Stage, Status, limited};
 use step_report::node_count;
-
-/// Decides all conditions, and names each goal where all are valid.
-pub fn verified<R: Threads + Sync, G: Gate + Sync>(
-    rt: &R,
-    alloc: Global,
-    gate: &G,
-    workers: u32,
-    posed: &Posed,
-) -> Result<Ended, Memory>
-    requires workers { 0 < workers }
-    requires ready { IsReady posed.now }
-    ensures { IfOk result (λ e. ended_view e ≡ verified (posed_view posed.now)) }
-{
-    let components = components(alloc, &posed.source.program)?;
-    let mut place = 0;
-    while place < posed.conditions.len() {
-        match next_valid(rt, alloc, gate, workers, &components, posed, place)? {
-            Stage::On(verdicts) => place += verdicts.len(),
-            Stage::Over(ended) => return Ok(ended),
-        }
-    }
-    goals_proved(alloc, posed)
-}
 
 /// The most bytes of a text of certificates.
 const MOST: usize = 268_435_456;
@@ -120,12 +92,7 @@ fn certificates(alloc: Global, text: Vec<u8>, fits: bool) -> Result<Ended, Memor
 }
 
 /// Decides all conditions, and writes their certificates where all are valid.
-pub fn written<R: Threads + Sync, G: Gate + Sync>(
-    rt: &R,
-    alloc: Global,
-    gate: &G,
-    posed: &Posed,
-) -> Result<Ended, Memory>
+pub fn written(alloc: Global, posed: &Posed) -> Result<Ended, Memory>
     requires ready { IsReady posed.now }
     ensures { IfOk result (λ e. ended_view e ≡ written (posed_view posed.now)) }
 {
@@ -135,7 +102,7 @@ pub fn written<R: Threads + Sync, G: Gate + Sync>(
     let mut fits = true;
     let mut place = 0;
     while place < posed.conditions.len() {
-        match next_valid(rt, alloc, gate, 1, &components, posed, place)? {
+        match next_valid(alloc, &components, posed, place)? {
             Stage::On(verdicts) => {
                 let first = place as u32 + 1;
                 place += verdicts.len();
@@ -193,12 +160,7 @@ fn goals_counted(alloc: Global, posed: &Posed, nodes: u64) -> Result<Ended, Memo
 }
 
 /// Decides all conditions, and counts where all are valid.
-pub fn counted<R: Threads + Sync, G: Gate + Sync>(
-    rt: &R,
-    alloc: Global,
-    gate: &G,
-    posed: &Posed,
-) -> Result<Ended, Memory>
+pub fn counted(alloc: Global, posed: &Posed) -> Result<Ended, Memory>
     requires ready { IsReady posed.now }
     ensures { IfOk result (λ e. ended_view e ≡ counted (posed_view posed.now)) }
 {
@@ -206,7 +168,7 @@ pub fn counted<R: Threads + Sync, G: Gate + Sync>(
     let mut nodes = 0u64;
     let mut place = 0;
     while place < posed.conditions.len() {
-        match next_valid(rt, alloc, gate, 1, &components, posed, place)? {
+        match next_valid(alloc, &components, posed, place)? {
             Stage::On(verdicts) => {
                 place += verdicts.len();
                 nodes += nodes_of(&verdicts);

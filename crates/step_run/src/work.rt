@@ -12,8 +12,9 @@ use crate::checking::checked;
 use crate::ends::words_refused;
 use crate::invariants::find_in;
 use crate::posed::ask_conditions;
-use crate::proving::{verified, written};
+use crate::proving::written;
 use crate::tracing::trace;
+use crate::verifying::verified;
 use crate::workload::workload;
 use st_memory::Memory;
 use st_outside::{Files, Gate};
@@ -70,11 +71,9 @@ fn verify<R: Threads + Sync, F: Files, G: Gate + Sync>(
 }
 
 /// Writes certificates of the conditions of a script.
-fn prove<R: Threads + Sync, F: Files, G: Gate + Sync>(
-    rt: &R,
+fn prove<F: Files>(
     alloc: Global,
     files: &mut F,
-    gate: &G,
     program: &str,
     proof: &str,
 ) -> Result<Ended, Memory>
@@ -84,7 +83,7 @@ fn prove<R: Threads + Sync, F: Files, G: Gate + Sync>(
     ensures later { NoneFell (F.faults files.old) (F.faults files.new) }
 {
     match ask_conditions(alloc, files, program, proof)? {
-        Stage::On(posed) => written(rt, alloc, gate, &posed),
+        Stage::On(posed) => written(alloc, &posed),
         Stage::Over(ended) => Ok(ended),
     }
 }
@@ -118,10 +117,10 @@ fn answer<R: Threads + Sync, F: Files, G: Gate + Sync>(
         Request::Verify(program, proof) => {
             verify(rt, alloc, files, gate, workers, program, proof)
         }
-        Request::Prove(program, proof) => prove(rt, alloc, files, gate, program, proof),
-        Request::Workload(n) => workload(rt, alloc, gate, n),
+        Request::Prove(program, proof) => prove(alloc, files, program, proof),
+        Request::Workload(n) => workload(alloc, n),
         Request::Trace(program, proof, schedule) => trace(alloc, files, program, proof, schedule),
-        Request::Invariants(program) => find_in(rt, alloc, files, gate, program),
+        Request::Invariants(program) => find_in(alloc, files, program),
     }
 }
 

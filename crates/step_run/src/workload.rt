@@ -1,7 +1,6 @@
 //! A workload: its texts are made, and then go the way of `verify`.
 
 ghost use Rattle.std.specs.Prelude.{◌≡◌, ◌≤◌, ◌++◌, IfOk};
-ghost use Rattle.std.specs.Thread.{IsSync};
 ghost use Rattle.step_plan.specs.Outcome.{ended_view, IsDecided};
 ghost use Rattle.step_plan.specs.Plan.{ends, then_plan};
 ghost use Rattle.step_plan.specs.Stage.{Settles, IfOn};
@@ -13,9 +12,7 @@ use crate::posed::{Posed, posed_of_text};
 use crate::proving::counted;
 use crate::source::source_of_text;
 use st_memory::Memory;
-use st_outside::Gate;
 use std::alloc::Global;
-use std::thread::Threads;
 use step_plan::{Ended, Stage};
 use step_workload::workload_texts;
 
@@ -46,33 +43,23 @@ fn with_number(alloc: Global, n: u32, ended: Ended) -> Result<Ended, Memory>
 }
 
 /// Decides the conditions of a workload.
-fn unnumbered<R: Threads + Sync, G: Gate + Sync>(
-    rt: &R,
-    alloc: Global,
-    gate: &G,
-    n: u32,
-) -> Result<Ended, Memory>
+fn unnumbered(alloc: Global, n: u32) -> Result<Ended, Memory>
     requires { (1 ≤ n) × (n ≤ 4) }
     ensures outcome { IfOk result (λ e. then_plan (workload_conditions n) count_posed ≡ ends (ended_view e)) }
     ensures decided { IfOk result (λ e. IsDecided e.status) }
 {
     match conditions(alloc, n)? {
-        Stage::On(posed) => counted(rt, alloc, gate, &posed),
+        Stage::On(posed) => counted(alloc, &posed),
         Stage::Over(ended) => Ok(ended),
     }
 }
 
 /// Does a workload, up to the output text.
-pub fn workload<R: Threads + Sync, G: Gate + Sync>(
-    rt: &R,
-    alloc: Global,
-    gate: &G,
-    n: u32,
-) -> Result<Ended, Memory>
+pub fn workload(alloc: Global, n: u32) -> Result<Ended, Memory>
     requires { (1 ≤ n) × (n ≤ 4) }
     ensures outcome { IfOk result (λ e. numbered n (then_plan (workload_conditions n) count_posed) ≡ ends (ended_view e)) }
     ensures decided { IfOk result (λ e. IsDecided e.status) }
 {
-    let ended = unnumbered(rt, alloc, gate, n)?;
+    let ended = unnumbered(alloc, n)?;
     with_number(alloc, n, ended)
 }

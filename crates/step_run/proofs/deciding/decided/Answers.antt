@@ -7,14 +7,14 @@ use Rattle.step_run.proofs.Filed.{setting_is}
 use Rattle.step_run.proofs.deciding.decided.Goals as goal
 
 pub decide_all-requires-clause-searchable : goal.decide_all-requires-clause-searchable
-decide_all-requires-clause-searchable g c = λ κs lives.
+decide_all-requires-clause-searchable c = λ κs lives.
     (let a = c.args in
     let cs = a.posed.now.conditions.items in
     rw (c.variables_of-variables.ensures, c.deref.ensures.value)
     (left-searchable (length a.posed.now.source.program.variables) (a.to - a.from) (drop a.from cs) (right-searchable (length a.posed.now.source.program.variables) a.from cs c.requires.ready.searchable)))
 
 pub returns : goal.returns
-returns g c =
+returns c =
     let a = c.args in
     let p = source_view a.posed.now.source in
     let same = setting_is p a.components.now c.variables_of-variables.result.now c.requires.components c.variables_of-variables.ensures in

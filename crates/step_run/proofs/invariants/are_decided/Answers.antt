@@ -9,10 +9,10 @@ use Rattle.step_run.proofs.Readied.{few_variables}
 use Rattle.step_run.proofs.invariants.are_decided.Goals as goal
 
 pub decide_all-requires-clause-few : goal.decide_all-requires-clause-few
-decide_all-requires-clause-few g c = omega (arith, ap length c.variables_of-variables.ensures, few_variables (source_view c.args.subject.now.source) c.requires.subject.spelled)
+decide_all-requires-clause-few c = omega (arith, ap length c.variables_of-variables.ensures, few_variables (source_view c.args.subject.now.source) c.requires.subject.spelled)
 
 pub returns : goal.returns
-returns g c =
+returns c =
     let p = source_view c.args.subject.now.source in
     let cs = c.args.conditions.now in
     let vs = c.in_ok-verdicts.verdicts.items in

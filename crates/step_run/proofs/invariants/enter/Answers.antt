@@ -8,7 +8,7 @@ use Rattle.step_run.proofs.Growing.{comment-accepted}
 use Rattle.step_run.proofs.invariants.enter.Goals as goal
 
 pub returns-clause-accepted : goal.returns-clause-accepted
-returns-clause-accepted g c =
+returns-clause-accepted c =
     let p = source_view c.args.subject.now.source in
     let text = c.args.kept.now.text.items in
     let count = c.args.kept.now.conditions in

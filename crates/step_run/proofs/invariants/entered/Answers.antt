@@ -9,10 +9,10 @@ use Rattle.step_run.proofs.Readied.{all_named, few_variables}
 use Rattle.step_run.proofs.invariants.entered.Goals as goal
 
 pub overflow_cast-variables : goal.overflow_cast-variables
-overflow_cast-variables g c = omega (arith, ap length c.variables_of.ensures, few_variables (source_view c.args.subject.now.source) c.requires.subject.spelled)
+overflow_cast-variables c = omega (arith, ap length c.variables_of.ensures, few_variables (source_view c.args.subject.now.source) c.requires.subject.spelled)
 
 pub loop-equation-init : goal.loop-equation-init
-loop-equation-init g c =
+loop-equation-init c =
     let p = source_view c.args.subject.now.source in
     record {
       count = refl;
@@ -22,4 +22,4 @@ loop-equation-init g c =
     }
 
 pub sentence-requires-clause-variables : goal.sentence-requires-clause-variables
-sentence-requires-clause-variables g c = ap length c.variables_of.ensures ∙ all_named (source_view c.args.subject.now.source) c.requires.subject.spelled
+sentence-requires-clause-variables c = ap length c.variables_of.ensures ∙ all_named (source_view c.args.subject.now.source) c.requires.subject.spelled

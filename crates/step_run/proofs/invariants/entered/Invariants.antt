@@ -7,7 +7,7 @@ use Rattle.step_run.specs.Growth.{IsAccepted}
 use Rattle.step_run.proofs.invariants.entered.Given as goal
 
 abbrev pub invariant-loop-equation : goal.invariant-loop-equation
-invariant-loop-equation g l = record {
+invariant-loop-equation l = record {
   count : l.number ≡ l.equation-index;
   proper : AreProper (plain_equations (drop l.equation-index l.equations));
   accepted : IsAccepted (source_view l.subject.source) l.kept.text.items l.kept.conditions;

@@ -10,7 +10,7 @@ use Rattle.step_run.proofs.Posing.{system_is}
 use Rattle.step_run.proofs.invariants.invariants.Goals as goal
 
 pub returns-in-Err-Wide : goal.returns-in-Err-Wide
-returns-in-Err-Wide g c =
+returns-in-Err-Wide c =
     let p = source_view c.args.source in
     let system = plain_system c.in_ok-fts.fts in
     let same = system_is p system c.in_ok-fts.ensures.exact in
@@ -18,21 +18,21 @@ returns-in-Err-Wide g c =
     IfOk-weaker c.wide.result _ _ (λ e h. h ∙ looked-none p system same none) c.wide.ensures
 
 pub entered-requires-clause-subject : goal.entered-requires-clause-subject
-entered-requires-clause-subject g c = λ ks within. record {
+entered-requires-clause-subject c = λ ks within. record {
   spelled = c.requires;
   system = system_is (source_view c.args.source) (plain_system c.in_ok-fts.fts) c.in_ok-fts.ensures.exact;
   control = c.in_ok-components.ensures.facts;
 }
 
 pub entered-requires-clause-proper : goal.entered-requires-clause-proper
-entered-requires-clause-proper g c = λ ks within.
+entered-requires-clause-proper c = λ ks within.
     (let p = source_view c.args.source in
     let system = plain_system c.in_ok-fts.fts in
     let same = system_is p system c.in_ok-fts.ensures.exact in
     rw c.deref.ensures.value (found_are_proper system (plain_equations c.in-Ok.equations.items) (system-whole p system c.requires same) c.in-Ok.ensures.exact))
 
 pub returns : goal.returns
-returns g c =
+returns c =
     let p = source_view c.args.source in
     let system = plain_system c.in_ok-fts.fts in
     let same = system_is p system c.in_ok-fts.ensures.exact in

@@ -10,12 +10,12 @@ use Rattle.step_run.proofs.Accepting.{no-script, refused-by-limit, there, judged
 use Rattle.step_run.proofs.invariants.judged.Goals as goal
 
 pub returns-in_default : goal.returns-in_default
-returns-in_default g c =
+returns-in_default c =
     let h = rw c.in_default.is at c.in_ok-script.ensures in
     no-script (source_view c.args.subject.now.source) _ h.0 (rw (c.deref-2.ensures.value, c.in_ok-text.ensures, c.deref.ensures.value) at h.1)
 
 pub returns-in_default-2 : goal.returns-in_default-2
-returns-in_default-2 g c =
+returns-in_default-2 c =
     let p = source_view c.args.subject.now.source in
     let text = c.args.kept.now.text.items in
     let s = c.args.sentence.now in
@@ -26,7 +26,7 @@ returns-in_default-2 g c =
     refused-by-limit p text s c.args.kept.now.conditions c.requires.accepted (plain_script c.in-Some.script) script h.0 h.1
 
 pub behind-fresh-requires : goal.behind-fresh-requires
-behind-fresh-requires g c =
+behind-fresh-requires c =
     let p = source_view c.args.subject.now.source in
     let text = c.args.kept.now.text.items in
     let s = c.args.sentence.now in
@@ -37,13 +37,13 @@ behind-fresh-requires g c =
     rw c.deref-3.ensures.value (there p text s c.args.kept.now.conditions c.requires.accepted (plain_script c.in-Some.script) script c.in-Some-2.conditions.items these)
 
 pub are_decided-requires-clause-searchable : goal.are_decided-requires-clause-searchable
-are_decided-requires-clause-searchable g c = λ ks within.
+are_decided-requires-clause-searchable c = λ ks within.
     (let p = source_view c.args.subject.now.source in
     let these : AreConditions p (plain_script c.in-Some.script) c.in-Some-2.conditions.items = rw c.in-Some-2.is at c.in_ok-conditions.ensures in
     rw (c.behind-fresh.ensures, c.deref-3.ensures.value) (right-searchable _ c.args.kept.now.conditions c.in-Some-2.conditions.items these.searchable))
 
 pub returns-then-not-branch : goal.returns-then-not-branch
-returns-then-not-branch g c =
+returns-then-not-branch c =
     let p = source_view c.args.subject.now.source in
     let text = c.args.kept.now.text.items in
     let s = c.args.sentence.now in
@@ -57,7 +57,7 @@ returns-then-not-branch g c =
     judged p text s count c.requires.accepted (plain_script c.in-Some.script) script c.in-Some-2.conditions.items these false e
 
 pub returns : goal.returns
-returns g c =
+returns c =
     let p = source_view c.args.subject.now.source in
     let text = c.args.kept.now.text.items in
     let s = c.args.sentence.now in

@@ -15,7 +15,7 @@ abbrev Counted : ℕ → ℕ → List Tree → Type 0
 Counted nodes place ts = (nodes ≡ nodes_in ts) × (nodes ≤ 100000 * place)
 
 pub loop-place-preserved : goal.loop-place-preserved
-loop-place-preserved g c =
+loop-place-preserved c =
     let x = posed_view c.args.posed.now in
     let l = c.loop-place in
     let items = c.in-On.verdicts.items in
@@ -29,13 +29,13 @@ loop-place-preserved g c =
     subst (λ n. Come x (l.place + n) (Counted now (l.place + n))) (sym sized) more
 
 pub returns-in-Over : goal.returns-in-Over
-returns-in-Over g c =
+returns-in-Over c =
     let x = posed_view c.args.posed.now in
     let l = c.loop-place in
     come_over x l.place (Counted l.nodes l.place) (goals_counted x) (ended_view c.in-Over.ended) l.invariant (rw c.in-Over.is at c.in_ok-verdicts.ensures)
 
 pub returns : goal.returns
-returns g c =
+returns c =
     let x = posed_view c.args.posed.now in
     let l = c.loop-place in
     let size = length-map c.args.posed.now.conditions.items plain_condition in

@@ -5,7 +5,7 @@ use Rattle.step_run.proofs.Slices.{Come}
 use Rattle.step_run.proofs.proving.counted.Given as goal
 
 abbrev pub invariant-loop-place : goal.invariant-loop-place
-invariant-loop-place g l = Come (posed_view l.posed) l.place (λ ts. (l.nodes ≡ nodes_in ts) × (l.nodes ≤ 100000 * l.place))
+invariant-loop-place l = Come (posed_view l.posed) l.place (λ ts. (l.nodes ≡ nodes_in ts) × (l.nodes ≤ 100000 * l.place))
 
 abbrev pub decreases-loop-place : goal.decreases-loop-place
-decreases-loop-place g l = length l.posed.conditions.items - l.place
+decreases-loop-place l = length l.posed.conditions.items - l.place

@@ -1,0 +1,15 @@
+use Rattle.std.proofs.Common.{◌≡◌, ◌++◌, length}
+use Rattle.farkas_check.specs.PlainProblem.{setting}
+use Rattle.discharge.specs.Dealt.{every, dealt}
+use Rattle.discharge.specs.Verdicts.{AreSearchable}
+use Rattle.discharge.specs.Searched.{marks}
+use Rattle.discharge.proofs.searching.search_piece.Given as goal
+
+abbrev pub invariant-loop-left : goal.invariant-loop-left
+invariant-loop-left l = record {
+  searchable : AreSearchable (length l.variables) l.rest;
+  marks : l.found.items ++ marks (setting l.components l.variables) (every l.share.stride l.left l.rest) ≡ marks (setting l.components l.variables) (dealt l.share l.conditions);
+}
+
+abbrev pub decreases-loop-left : goal.decreases-loop-left
+decreases-loop-left l = l.left

@@ -1,0 +1,138 @@
+-- A search that passes from place to place, and keeps no certificates.
+use Rattle.std.proofs.Common.{◌≡◌, ℕ, zero, suc, ◌+◌, ◌-◌, ◌<◌, ◌≤◌, List, [], ◌∷◌, ◌++◌, length, get_or, slice_get, Some, None, take, drop, length-append, length-take, length-drop, ap, ◌∙◌, sym, subst, arith, refl}
+use Rattle.std.proofs.lemmas.List.{length-map}
+use Rattle.st_form.specs.Plain.{plain, plain_condition}
+use Rattle.st_form.specs.declared.conditions.Condition.{Condition}
+use Rattle.st_certificate.specs.Tree.{Tree}
+use Rattle.farkas_check.specs.Problem.{Setting}
+use Rattle.search_laws.specs.Moves.{valid, decided}
+use Rattle.linear_prover.specs.declared.verdict.Verdict.{Verdict}
+use Rattle.discharge.specs.Searched.{Found, FoundBefore, IsFirstOpen}
+use Rattle.block_laws.specs.Plain.{plains}
+use Rattle.step_plan.specs.declared.ended.Ended.{Ended}
+use Rattle.step_plan.specs.declared.stage.Stage.{Stage}
+use Rattle.step_plan.specs.declared.stage.Stage.TheVariants.{On, Over}
+use Rattle.step_plan.specs.Outcome.{Outcome, ended_view}
+use Rattle.step_run.specs.Conditions.{Posed, setting_of}
+use Rattle.step_run.specs.Verified.{by_verdict, verdict_on}
+use Rattle.step_run.specs.Deciding.{trees_in, found_from, FoundTo, EndsFrom, AreNext, Pass, PassesFrom}
+use Rattle.step_run.proofs.Slices.{Come, found_on, ends_on, found_step, in_front, behind_front, some_of, trees_length}
+
+there : (cs : List Condition) (i : ℕ) (any : Condition) → i < length cs → slice_get cs i ≡ Some (get_or cs i any)
+there [] i any lt = absurd (omega (arith, lt))
+there (c ∷ cs) zero any lt = refl
+there (c ∷ cs) (suc i) any lt = there cs i any (omega (arith, lt))
+
+-- the condition at a place of a slice
+in_slice : (cs : List Condition) (from n i : ℕ) (any : Condition) → i < n → from + n ≤ length cs → slice_get (take n (drop from cs)) i ≡ Some (get_or cs (from + i) any)
+in_slice cs from n i any lt within =
+    let front = length-take n (drop from cs) in
+    let rest = length-drop from cs in
+    there (take n (drop from cs)) i any (omega (arith, lt, within, front, rest)) ∙ ap Some (in_front (drop from cs) n i any lt ∙ behind_front cs from i any)
+
+verdict_found : (k : Setting) (c : Condition) (t : Tree) → decided k (plain c.given) (plain c.shown) ≡ valid t → verdict_on k (plain_condition c) ≡ valid t
+unfolding verdict_on
+verdict_found k c t e = e
+
+module _ (x : Posed) (cs : List Condition) (are : x.conditions ≡ plains cs) where
+  one_passes : (place : ℕ) (any : Condition) → place < length cs → (f : Found (setting_of x.program) (get_or cs place any)) → FoundTo x place (place + 1) (f.0 ∷ [])
+  one_passes place any lt f =
+      found_step x cs are place any lt
+      ∙ ap (by_verdict (place + 1) (plain_condition (get_or cs place any)) (found_from x (place + 1))) (verdict_found (setting_of x.program) (get_or cs place any) f.0 f.1)
+
+  -- conditions before the n-th of a slice
+  passed : (from size n : ℕ) → n ≤ size → from + size ≤ length cs → FoundBefore (setting_of x.program) (take size (drop from cs)) n → (ts : List Tree) × (length ts ≡ n) × FoundTo x from (from + n) ts
+  passed from size zero le within before = ([], refl, ap (found_from x) (let e : from ≡ from + 0 = omega arith in e))
+  passed from size (suc n) le within before =
+      let any = some_of cs (omega (arith, le, within)) in
+      let less = passed from size n (omega (arith, le)) within (λ i c lt is. before i c (omega (arith, lt)) is) in
+      let f = before n (get_or cs (from + n) any) (omega arith) (in_slice cs from size n any (omega (arith, le)) within) in
+      let one = one_passes (from + n) any (omega (arith, le, within)) f in
+      let sum : from + n + 1 ≡ from + suc n = omega arith in
+      let many = length-append less.0 (f.0 ∷ []) in
+      let counted = less.1 in (
+        less.0 ++ f.0 ∷ [],
+        (omega (arith, many, counted)),
+        subst (λ (m : ℕ). FoundTo x from m (less.0 ++ f.0 ∷ [])) sum (found_on x from (from + n) (from + n + 1) less.0 (f.0 ∷ []) less.2 one),
+      )
+
+  sized : length x.conditions ≡ length cs
+  sized = ap length are ∙ length-map cs plain_condition
+
+  -- none of a slice is open
+  pub all_pass : (from to : ℕ) → from < to → to ≤ length cs → IsFirstOpen (setting_of x.program) (take (to - from) (drop from cs)) None → Pass x from to
+  all_pass from to order within before =
+      let front = length-take (to - from) (drop from cs) in
+      let rest = length-drop from cs in
+      let size : length (take (to - from) (drop from cs)) ≡ to - from = omega (arith, order, within, front, rest) in
+      let p = passed from (to - from) (to - from) (omega arith) (omega (arith, order, within)) (subst (FoundBefore (setting_of x.program) (take (to - from) (drop from cs))) size before) in
+      let sum : from + (to - from) ≡ to = omega (arith, order) in
+      let many = p.1 in
+      let whole = sized in
+      record {
+        further = order;
+        within = omega (arith, within, whole);
+        trees = p.0;
+        as_many = omega (arith, many, sum);
+        found = subst (λ (m : ℕ). FoundTo x from m p.0) sum p.2;
+      }
+
+  -- the first open one of a slice is within it
+  pub open_within : (from to open : ℕ) → from < to → to ≤ length cs → IsFirstOpen (setting_of x.program) (take (to - from) (drop from cs)) (Some open) → from + open < to
+  open_within from to open order within o =
+      let front = length-take (to - from) (drop from cs) in
+      let rest = length-drop from cs in
+      let inside = got_within (take (to - from) (drop from cs)) open o.1 o.2.0 in
+      omega (arith, order, within, front, rest, inside)
+    where
+      got_within : (ds : List Condition) (i : ℕ) (c : Condition) → slice_get ds i ≡ Some c → i < length ds
+      got_within [] i c e = absurd cc
+      got_within (d ∷ ds) zero c e = omega arith
+      got_within (d ∷ ds) (suc i) c e = let h = got_within ds i c e in omega (arith, h)
+
+  -- those before it pass, and what comes of it comes
+  pub on_from_open : (from to open : ℕ) (s : Stage ℕ) → from < to → to ≤ length cs → IsFirstOpen (setting_of x.program) (take (to - from) (drop from cs)) (Some open) → PassesFrom x (from + open) s → PassesFrom x from s
+  on_from_open from to open (On next) order within o pass =
+      let lt = open_within from to open order within o in
+      let p = passed from (to - from) open (omega (arith, lt)) (omega (arith, order, within)) o.0 in
+      let many = p.1 in
+      let more = length-append p.0 pass.trees in
+      let further = pass.further in
+      let counted = pass.as_many in
+      record {
+        further = omega (arith, further);
+        within = pass.within;
+        trees = p.0 ++ pass.trees;
+        as_many = omega (arith, many, more, counted);
+        found = found_on x from (from + open) next p.0 pass.trees p.2 pass.found;
+      }
+  on_from_open from to open (Over ended) order within o ends =
+      let lt = open_within from to open order within o in
+      let p = passed from (to - from) open (omega (arith, lt)) (omega (arith, order, within)) o.0 in
+      ends_on x from (from + open) p.0 (ended_view ended) p.2 ends
+
+-- verdicts that are valid pass
+pub next_pass : (x : Posed) (place : ℕ) (vs : List Verdict) → AreNext x place vs → Pass x place (place + length vs)
+next_pass x place vs next =
+    let many = trees_length vs in
+    let some = next.some in
+    record {
+      further = omega (arith, some);
+      within = next.within;
+      trees = trees_in vs;
+      as_many = omega (arith, many);
+      found = next.found;
+    }
+
+pub come_past : (x : Posed) (place to : ℕ) → Come x place (λ ts. Unit {0}) → Pass x place to → Come x to (λ ts. Unit {0})
+come_past x place to come pass =
+    let many = length-append come.trees pass.trees in
+    let before = come.as_many in
+    let counted = pass.as_many in
+    record {
+      within = pass.within;
+      trees = come.trees ++ pass.trees;
+      as_many = omega (arith, many, before, counted);
+      found = found_on x 0 place to come.trees pass.trees come.found pass.found;
+      kept = tt;
+    }

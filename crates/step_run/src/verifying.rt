@@ -1,0 +1,130 @@
+//! `verify`: all workers search for certificates of the conditions, and none is kept. The first condition that isn't valid
+//! is searched once more, for what is told of it.
+
+ghost use Rattle.std.specs.Prelude.{◌≡◌, ◌<◌, ◌≤◌, ◌-◌, length, take, drop, IfOk};
+ghost use Rattle.std.specs.Thread.{IsSync};
+ghost use Rattle.control_facts.specs.Alternatives.{control_of};
+ghost use Rattle.discharge.specs.Searched.{IsFirstOpen};
+ghost use Rattle.step_plan.specs.Outcome.{ended_view};
+ghost use Rattle.step_run.specs.Conditions.{setting_of};
+ghost use Rattle.step_run.specs.Verified.{verified};
+ghost use Rattle.step_run.specs.Deciding.{PassesFrom};
+ghost use Rattle.step_run.specs.Views.{source_view, posed_view};
+ghost use Rattle.step_run.specs.Ready.{IsReady};
+
+use crate::crew::crew;
+use crate::deciding::valid_to;
+use crate::posed::Posed;
+use crate::reports::{goals_proved, variables_of};
+use control_facts::components;
+use discharge::{Components, verify_all};
+use st_memory::Memory;
+use st_outside::Gate;
+use std::alloc::Global;
+use std::thread::Threads;
+use step_plan::{Ended, Stage};
+
+/// How many conditions are searched before a look whether one of them isn't valid.
+const SLICE: usize = 1024;
+
+/// The place behind the slice that begins at a place.
+fn slice_end(place: usize, size: usize) -> usize
+    requires { place < size }
+    ensures { (place < result) × (result ≤ size) }
+{
+    place + SLICE.min(size - place)
+}
+
+/// The first condition that isn't valid, from one place to before another, counted from there.
+fn first_open<R: Threads + Sync, G: Gate + Sync>(
+    rt: &R,
+    alloc: Global,
+    gate: &G,
+    workers: u32,
+    components: &Components,
+    posed: &Posed,
+    from: usize,
+    to: usize,
+) -> Result<Option<usize>, Memory>
+    requires workers { 0 < workers }
+    requires ready { IsReady posed.now }
+    requires components { components.now ≡ control_of (source_view posed.now.source).processes }
+    requires places { (from ≤ to) × (to ≤ length posed.now.conditions.items) }
+    ensures { IfOk result (λ o. IsFirstOpen (setting_of (source_view posed.now.source)) (take (to - from) (drop from posed.now.conditions.items)) o) }
+{
+    let slice = &posed.conditions[from..to];
+    let variables = variables_of(&posed.source.program);
+    verify_all(
+        rt,
+        alloc,
+        gate,
+        crew(workers, slice),
+        components,
+        variables,
+        slice,
+    )
+}
+
+/// Goes on behind the condition at a place where it is valid, and else ends there.
+fn at_open(
+    alloc: Global,
+    components: &Components,
+    posed: &Posed,
+    place: usize,
+) -> Result<Stage<usize>, Memory>
+    requires ready { IsReady posed.now }
+    requires components { components.now ≡ control_of (source_view posed.now.source).processes }
+    requires place { place < length posed.now.conditions.items }
+    ensures { IfOk result (λ s. PassesFrom (posed_view posed.now) place s) }
+{
+    match valid_to(alloc, components, posed, place, place + 1)? {
+        Stage::On(verdicts) => Ok(Stage::On(place + verdicts.len())),
+        Stage::Over(ended) => Ok(Stage::Over(ended)),
+    }
+}
+
+/// Goes on behind the next conditions where these are valid, and else ends at the first that isn't.
+fn searched<R: Threads + Sync, G: Gate + Sync>(
+    rt: &R,
+    alloc: Global,
+    gate: &G,
+    workers: u32,
+    components: &Components,
+    posed: &Posed,
+    place: usize,
+) -> Result<Stage<usize>, Memory>
+    requires workers { 0 < workers }
+    requires ready { IsReady posed.now }
+    requires components { components.now ≡ control_of (source_view posed.now.source).processes }
+    requires place { place < length posed.now.conditions.items }
+    ensures { IfOk result (λ s. PassesFrom (posed_view posed.now) place s) }
+{
+    let end = slice_end(place, posed.conditions.len());
+    match first_open(rt, alloc, gate, workers, components, posed, place, end)? {
+        None => Ok(Stage::On(end)),
+        Some(open) => at_open(alloc, components, posed, place + open),
+    }
+}
+
+/// Decides all conditions, and names each goal where all are valid.
+pub fn verified<R: Threads + Sync, G: Gate + Sync>(
+    rt: &R,
+    alloc: Global,
+    gate: &G,
+    workers: u32,
+    posed: &Posed,
+) -> Result<Ended, Memory>
+    requires workers { 0 < workers }
+    requires ready { IsReady posed.now }
+    ensures { IfOk result (λ e. ended_view e ≡ verified (posed_view posed.now)) }
+{
+    let components = components(alloc, &posed.source.program)?;
+    let mut place = 0;
+    while place < posed.conditions.len() {
+        match searched(rt, alloc, gate, workers, &components, posed, place)? {
+            Stage::On(next) => place = next,
+            Stage::Over(ended) => return Ok(ended),
+        }
+    }
+    goals_proved(alloc, posed)
+}

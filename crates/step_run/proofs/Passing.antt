@@ -1,13 +1,15 @@
 -- A search that passes from place to place, and keeps no certificates.
-use Rattle.std.proofs.Common.{◌≡◌, ℕ, zero, suc, ◌+◌, ◌-◌, ◌<◌, ◌≤◌, List, [], ◌∷◌, ◌++◌, length, get_or, slice_get, Some, None, take, drop, length-append, length-take, length-drop, ap, ◌∙◌, sym, subst, arith, refl}
+use Rattle.std.proofs.Common.{◌≡◌, ℕ, zero, suc, ◌+◌, ◌-◌, ◌<◌, ◌≤◌, true, List, [], ◌∷◌, ◌++◌, length, get_or, slice_get, Some, None, take, drop, length-append, length-take, length-drop, ap, ◌∙◌, sym, subst, arith, refl}
 use Rattle.std.proofs.lemmas.List.{length-map}
+use Rattle.std.proofs.lemmas.Option.{slice_get_within}
 use Rattle.st_form.specs.Plain.{plain, plain_condition}
 use Rattle.st_form.specs.declared.conditions.Condition.{Condition}
 use Rattle.st_certificate.specs.Tree.{Tree}
 use Rattle.farkas_check.specs.Problem.{Setting}
-use Rattle.search_laws.specs.Moves.{valid, decided}
+use Rattle.search_laws.specs.Moves.{valid, open_at, wide_at, decided}
+use Rattle.search_laws.specs.Moves as moves
 use Rattle.linear_prover.specs.declared.verdict.Verdict.{Verdict}
-use Rattle.discharge.specs.Searched.{Found, FoundBefore, IsFirstOpen}
+use Rattle.discharge.specs.Searched.{is_valid, mark, ValidBefore, IsFirstOpen}
 use Rattle.block_laws.specs.Plain.{plains}
 use Rattle.step_plan.specs.declared.ended.Ended.{Ended}
 use Rattle.step_plan.specs.declared.stage.Stage.{Stage}
@@ -30,42 +32,51 @@ in_slice cs from n i any lt within =
     let rest = length-drop from cs in
     there (take n (drop from cs)) i any (omega (arith, lt, within, front, rest)) ∙ ap Some (in_front (drop from cs) n i any lt ∙ behind_front cs from i any)
 
+found_valid : (v : moves.Verdict) → is_valid v ≡ true → (t : Tree) × (v ≡ valid t)
+found_valid (valid t) h = (t, refl)
+found_valid (open_at path state) h = absurd cc
+found_valid (wide_at path stage) h = absurd cc
+
 verdict_found : (k : Setting) (c : Condition) (t : Tree) → decided k (plain c.given) (plain c.shown) ≡ valid t → verdict_on k (plain_condition c) ≡ valid t
 unfolding verdict_on
 verdict_found k c t e = e
 
 module _ (x : Posed) (cs : List Condition) (are : x.conditions ≡ plains cs) where
-  one_passes : (place : ℕ) (any : Condition) → place < length cs → (f : Found (setting_of x.program) (get_or cs place any)) → FoundTo x place (place + 1) (f.0 ∷ [])
-  one_passes place any lt f =
-      found_step x cs are place any lt
-      ∙ ap (by_verdict (place + 1) (plain_condition (get_or cs place any)) (found_from x (place + 1))) (verdict_found (setting_of x.program) (get_or cs place any) f.0 f.1)
+  one_passes : (place : ℕ) (any : Condition) → place < length cs → mark (setting_of x.program) (get_or cs place any) ≡ true → (t : Tree) × FoundTo x place (place + 1) (t ∷ [])
+  one_passes place any lt m =
+      let k = setting_of x.program in
+      let c = get_or cs place any in
+      let f = found_valid (decided k (plain c.given) (plain c.shown)) m in (
+        f.0,
+        found_step x cs are place any lt ∙ ap (by_verdict (place + 1) (plain_condition c) (found_from x (place + 1))) (verdict_found k c f.0 f.1),
+      )
 
   -- conditions before the n-th of a slice
-  passed : (from size n : ℕ) → n ≤ size → from + size ≤ length cs → FoundBefore (setting_of x.program) (take size (drop from cs)) n → (ts : List Tree) × (length ts ≡ n) × FoundTo x from (from + n) ts
+  passed : (from size n : ℕ) → n ≤ size → from + size ≤ length cs → ValidBefore (setting_of x.program) (take size (drop from cs)) n → (ts : List Tree) × (length ts ≡ n) × FoundTo x from (from + n) ts
   passed from size zero le within before = ([], refl, ap (found_from x) (let e : from ≡ from + 0 = omega arith in e))
   passed from size (suc n) le within before =
       let any = some_of cs (omega (arith, le, within)) in
       let less = passed from size n (omega (arith, le)) within (λ i c lt is. before i c (omega (arith, lt)) is) in
-      let f = before n (get_or cs (from + n) any) (omega arith) (in_slice cs from size n any (omega (arith, le)) within) in
-      let one = one_passes (from + n) any (omega (arith, le, within)) f in
+      let m = before n (get_or cs (from + n) any) (omega arith) (in_slice cs from size n any (omega (arith, le)) within) in
+      let one = one_passes (from + n) any (omega (arith, le, within)) m in
       let sum : from + n + 1 ≡ from + suc n = omega arith in
-      let many = length-append less.0 (f.0 ∷ []) in
+      let many = length-append less.0 (one.0 ∷ []) in
       let counted = less.1 in (
-        less.0 ++ f.0 ∷ [],
+        less.0 ++ one.0 ∷ [],
         (omega (arith, many, counted)),
-        subst (λ (m : ℕ). FoundTo x from m (less.0 ++ f.0 ∷ [])) sum (found_on x from (from + n) (from + n + 1) less.0 (f.0 ∷ []) less.2 one),
+        subst (λ (m : ℕ). FoundTo x from m (less.0 ++ one.0 ∷ [])) sum (found_on x from (from + n) (from + n + 1) less.0 (one.0 ∷ []) less.2 one.1),
       )
 
   sized : length x.conditions ≡ length cs
   sized = ap length are ∙ length-map cs plain_condition
 
-  -- none of a slice is open
+  -- none of a slice is left open
   pub all_pass : (from to : ℕ) → from < to → to ≤ length cs → IsFirstOpen (setting_of x.program) (take (to - from) (drop from cs)) None → Pass x from to
   all_pass from to order within before =
       let front = length-take (to - from) (drop from cs) in
       let rest = length-drop from cs in
       let size : length (take (to - from) (drop from cs)) ≡ to - from = omega (arith, order, within, front, rest) in
-      let p = passed from (to - from) (to - from) (omega arith) (omega (arith, order, within)) (subst (FoundBefore (setting_of x.program) (take (to - from) (drop from cs))) size before) in
+      let p = passed from (to - from) (to - from) (omega arith) (omega (arith, order, within)) (subst (ValidBefore (setting_of x.program) (take (to - from) (drop from cs))) size before) in
       let sum : from + (to - from) ≡ to = omega (arith, order) in
       let many = p.1 in
       let whole = sized in
@@ -78,23 +89,18 @@ module _ (x : Posed) (cs : List Condition) (are : x.conditions ≡ plains cs) wh
       }
 
   -- the first open one of a slice is within it
-  pub open_within : (from to open : ℕ) → from < to → to ≤ length cs → IsFirstOpen (setting_of x.program) (take (to - from) (drop from cs)) (Some open) → from + open < to
-  open_within from to open order within o =
+  pub open_within : (from to opened : ℕ) → from < to → to ≤ length cs → IsFirstOpen (setting_of x.program) (take (to - from) (drop from cs)) (Some opened) → from + opened < to
+  open_within from to opened order within o =
       let front = length-take (to - from) (drop from cs) in
       let rest = length-drop from cs in
-      let inside = got_within (take (to - from) (drop from cs)) open o.1 o.2.0 in
+      let inside = slice_get_within (take (to - from) (drop from cs)) opened o.1.condition o.1.there in
       omega (arith, order, within, front, rest, inside)
-    where
-      got_within : (ds : List Condition) (i : ℕ) (c : Condition) → slice_get ds i ≡ Some c → i < length ds
-      got_within [] i c e = absurd cc
-      got_within (d ∷ ds) zero c e = omega arith
-      got_within (d ∷ ds) (suc i) c e = let h = got_within ds i c e in omega (arith, h)
 
   -- those before it pass, and what comes of it comes
-  pub on_from_open : (from to open : ℕ) (s : Stage ℕ) → from < to → to ≤ length cs → IsFirstOpen (setting_of x.program) (take (to - from) (drop from cs)) (Some open) → PassesFrom x (from + open) s → PassesFrom x from s
-  on_from_open from to open (On next) order within o pass =
-      let lt = open_within from to open order within o in
-      let p = passed from (to - from) open (omega (arith, lt)) (omega (arith, order, within)) o.0 in
+  pub on_from_open : (from to opened : ℕ) (s : Stage ℕ) → from < to → to ≤ length cs → IsFirstOpen (setting_of x.program) (take (to - from) (drop from cs)) (Some opened) → PassesFrom x (from + opened) s → PassesFrom x from s
+  on_from_open from to opened (On next) order within o pass =
+      let lt = open_within from to opened order within o in
+      let p = passed from (to - from) opened (omega (arith, lt)) (omega (arith, order, within)) o.0 in
       let many = p.1 in
       let more = length-append p.0 pass.trees in
       let further = pass.further in
@@ -104,12 +110,12 @@ module _ (x : Posed) (cs : List Condition) (are : x.conditions ≡ plains cs) wh
         within = pass.within;
         trees = p.0 ++ pass.trees;
         as_many = omega (arith, many, more, counted);
-        found = found_on x from (from + open) next p.0 pass.trees p.2 pass.found;
+        found = found_on x from (from + opened) next p.0 pass.trees p.2 pass.found;
       }
-  on_from_open from to open (Over ended) order within o ends =
-      let lt = open_within from to open order within o in
-      let p = passed from (to - from) open (omega (arith, lt)) (omega (arith, order, within)) o.0 in
-      ends_on x from (from + open) p.0 (ended_view ended) p.2 ends
+  on_from_open from to opened (Over ended) order within o ends =
+      let lt = open_within from to opened order within o in
+      let p = passed from (to - from) opened (omega (arith, lt)) (omega (arith, order, within)) o.0 in
+      ends_on x from (from + opened) p.0 (ended_view ended) p.2 ends
 
 -- verdicts that are valid pass
 pub next_pass : (x : Posed) (place : ℕ) (vs : List Verdict) → AreNext x place vs → Pass x place (place + length vs)

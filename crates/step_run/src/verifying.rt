@@ -102,7 +102,7 @@ fn searched<R: Threads + Sync, G: Gate + Sync>(
     let end = slice_end(place, posed.conditions.len());
     match first_open(rt, alloc, gate, workers, components, posed, place, end)? {
         None => Ok(Stage::On(end)),
-        Some(open) => at_open(alloc, components, posed, place + open),
+        Some(ahead) => at_open(alloc, components, posed, place + ahead),
     }
 }
 

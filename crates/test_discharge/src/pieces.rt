@@ -3,7 +3,7 @@
 use crate::gate::SideBySide;
 use control_states::{Alternative, Component};
 use discharge::{
-    Block, Components, Condition, are_checkable, are_searchable, check_all, decide_all,
+    Block, Components, Condition, are_checkable, are_searchable, check_all, verify_all,
 };
 use st_certificate::Certificate;
 use st_form::{CondName, Form, Premise};
@@ -59,8 +59,8 @@ fn searches_run_side_by_side(rt: HostRuntime) -> Result<(), Fail> {
         return Err(Fail::from("searchable"));
     }
     let gate = SideBySide::new();
-    let verdicts = decide_all(&rt, alloc, &gate, 2, &components, &[], &conditions)?;
-    assert_eq!(rt; verdicts.len(), 2);
+    let place = verify_all(&rt, alloc, &gate, 2, &components, &[], &conditions)?;
+    assert_eq!(rt; place, Some(1));
     assert_eq!(rt; gate.marks(), 0);
     Ok(())
 }

@@ -18,4 +18,4 @@ returns c =
     let a = c.args in
     let p = source_view a.posed.now.source in
     let same = setting_is p a.components.now c.variables_of-variables.result.now c.requires.components c.variables_of-variables.ensures in
-    subst (λ k. IfOk c.decide_all.result (λ v. AreAnswers k (take (a.to - a.from) (drop a.from a.posed.now.conditions.items)) v.items)) same (rw c.deref.ensures.value at c.decide_all.ensures.answers)
+    subst (λ k. IfOk c.decide_all.result (λ v. AreAnswers k (take (a.to - a.from) (drop a.from a.posed.now.conditions.items)) v.items)) same (rw c.deref.ensures.value at c.decide_all.ensures)

@@ -17,4 +17,4 @@ returns c =
     let cs = c.args.conditions.now in
     let vs = c.in_ok-verdicts.verdicts.items in
     let same = setting_is p c.args.subject.now.components c.variables_of-variables.result.now c.requires.subject.control c.variables_of-variables.ensures in
-    c.are_valid.ensures ∙ ap are_valid c.deref.ensures.value ∙ verdicts-say (setting_of p) cs vs (subst (λ k. AreAnswers k cs vs) same c.in_ok-verdicts.ensures.answers)
+    c.are_valid.ensures ∙ ap are_valid c.deref.ensures.value ∙ verdicts-say (setting_of p) cs vs (subst (λ k. AreAnswers k cs vs) same c.in_ok-verdicts.ensures)

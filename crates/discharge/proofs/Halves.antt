@@ -11,7 +11,7 @@ use Rattle.discharge.specs.declared.shares.Share.{Share}
 use Rattle.discharge.specs.Dealt.{every, dealt, left_half, right_half, woven, lesser_place}
 use Rattle.discharge.specs.First.{IsCheckable, AreCheckable, Proves, ProveBefore, Fails, IsFirstFailing}
 use Rattle.discharge.specs.Verdicts.{IsSearchable, AreSearchable, IsAnswer, AreAnswers}
-use Rattle.discharge.proofs.Dealing.{nothing-there, InTurn, dealt_in_turn, first_there, between_there, every_all, every_within}
+use Rattle.discharge.proofs.Dealing.{InTurn, dealt_in_turn, first_there, between_there, every_all, every_within}
 
 -- ---- what is asked
 pub right-checkable : (m : ℕ) (cs : List Condition) (bs : List Block) → AreCheckable cs bs → AreCheckable (drop m cs) (drop m bs)
@@ -45,22 +45,6 @@ pub head-searchable : (n : ℕ) (cs ds : List Condition) (c : Condition) → cs 
 head-searchable n cs ds c e h = (subst (AreSearchable n) e h).0
 
 -- ---- verdicts
-answers-woven : (k : Setting) (cs ds : List Condition) (vs ws : List Verdict) → AreAnswers k cs vs → AreAnswers k ds ws → AreAnswers k (woven cs ds) (woven vs ws)
-answers-woven k [] ds [] ws h g = g
-answers-woven k [] ds (v ∷ vs) ws h g = absurd h
-answers-woven k (c ∷ cs) ds [] ws h g = absurd h
-answers-woven k (c ∷ cs) [] (v ∷ vs) [] h g = h
-answers-woven k (c ∷ cs) [] (v ∷ vs) (w ∷ ws) h g = absurd g
-answers-woven k (c ∷ cs) (d ∷ ds) (v ∷ vs) [] h g = absurd g
-answers-woven k (c ∷ cs) (d ∷ ds) (v ∷ vs) (w ∷ ws) h g = (h.0, (g.0, answers-woven k cs ds vs ws h.1 g.1))
-
-pub answers-dealt : (k : Setting) (share : Share) (cs : List Condition) (vs ws : List Verdict) → AreAnswers k (dealt (right_half share) cs) vs
-    → AreAnswers k (dealt (left_half share) (drop share.stride cs)) ws → AreAnswers k (dealt share cs) (woven vs ws)
-answers-dealt k share cs vs ws h g =
-    let all = dealt_in_turn share cs in
-    subst (λ (l : List Condition). AreAnswers k l (woven vs ws)) (sym all.woven_is)
-    (answers-woven k (dealt (right_half share) cs) (dealt (left_half share) (drop share.stride cs)) vs ws h g)
-
 -- answers to conditions, with those to the conditions that are left, answer all
 abbrev pub AnswerSoFar : Setting → List Condition → List Verdict → List Condition → Type 0
 AnswerSoFar k cs vs left = (ws : List Verdict) → AreAnswers k left ws → AreAnswers k cs (vs ++ ws)

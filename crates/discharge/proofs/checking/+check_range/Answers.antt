@@ -1,4 +1,4 @@
-use Rattle.std.proofs.Common.{ℕ, ◌+◌, ◌-◌, ◌*◌, ◌/◌, ◌<◌, ◌≤◌, List, drop, sym, subst, arith, rules}
+use Rattle.std.proofs.Common.{ℕ, ◌+◌, ◌-◌, ◌*◌, ◌/◌, ◌<◌, List, drop, sym, subst, arith, rules}
 use Rattle.st_form.specs.declared.conditions.Condition.{Condition}
 use Rattle.std.specs.Prelude.{Option}
 use Rattle.farkas_check.specs.Problem.{Setting}

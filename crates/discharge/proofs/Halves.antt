@@ -8,7 +8,7 @@ use Rattle.cert_text.specs.declared.reader.Block.{Block}
 use Rattle.farkas_check.specs.Problem.{Setting}
 use Rattle.linear_prover.specs.declared.verdict.Verdict.{Verdict}
 use Rattle.discharge.specs.declared.shares.Share.{Share}
-use Rattle.discharge.specs.Dealt.{every, dealt, left_half, right_half, woven, lesser_place}
+use Rattle.discharge.specs.Dealt.{every, dealt, left_half, right_half, lesser_place}
 use Rattle.discharge.specs.First.{IsCheckable, AreCheckable, Proves, ProveBefore, Fails, IsFirstFailing}
 use Rattle.discharge.specs.Verdicts.{IsSearchable, AreSearchable, IsAnswer, AreAnswers}
 use Rattle.discharge.proofs.Dealing.{InTurn, dealt_in_turn, first_there, between_there, every_all, every_within}

@@ -1,13 +1,13 @@
 -- Which conditions are decided valid: of all as of two halves, and the first one that isn't.
-use Rattle.std.proofs.Common.{◌≡◌, ◌∙◌, ℕ, zero, suc, ◌+◌, ◌<◌, ◌≤◌, Bool, true, false, List, [], ◌∷◌, ◌++◌, length, map, take, drop, refl, ap, sym, subst, arith, append_assoc, append-nil, get_or}
-use Rattle.std.specs.Prelude.{slice_get, Option, Some, None}
+use Rattle.std.proofs.Common.{◌≡◌, ◌∙◌, ℕ, zero, suc, ◌+◌, ◌<◌, ◌≤◌, Bool, true, false, List, [], ◌∷◌, ◌++◌, length, map, drop, refl, ap, sym, arith, append_assoc, append-nil, get_or}
+use Rattle.std.specs.Prelude.{Option, Some, None}
 use Rattle.std.specs.Option.{option_map}
 use Rattle.std.proofs.lemmas.List.{drop_more, drop_all}
 use Rattle.st_form.specs.declared.conditions.Condition.{Condition}
 use Rattle.farkas_check.specs.Problem.{Setting}
 use Rattle.discharge.specs.declared.shares.Share.{Share}
 use Rattle.discharge.specs.Dealt.{every, dealt, left_half, right_half, woven}
-use Rattle.discharge.specs.Searched.{mark, marks, first_false, ValidBefore, IsOpenAt, IsFirstOpen}
+use Rattle.discharge.specs.Searched.{mark, marks, first_false, ValidBefore, IsFirstOpen}
 use Rattle.discharge.proofs.Dealing.{dealt_in_turn, every_all}
 use Rattle.discharge.proofs.Halves.{place_behind}
 

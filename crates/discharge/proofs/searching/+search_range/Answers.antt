@@ -1,4 +1,4 @@
-use Rattle.std.proofs.Common.{◌+◌, ◌-◌, ◌*◌, ◌/◌, ◌<◌, ◌≤◌, ◌∙◌, length, sym, subst, arith, inl, inr, rules}
+use Rattle.std.proofs.Common.{◌+◌, ◌-◌, ◌*◌, ◌/◌, ◌<◌, ◌∙◌, length, sym, subst, arith, inl, inr, rules}
 use Rattle.farkas_check.specs.Problem.{Setting}
 use Rattle.farkas_check.specs.PlainProblem.{setting}
 use Rattle.discharge.proofs.Numbers.{each-alone, each-both}

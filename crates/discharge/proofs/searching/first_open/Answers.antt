@@ -1,5 +1,4 @@
-use Rattle.std.proofs.Common.{arith}
-use Rattle.discharge.proofs.Marking.{false_more, false_here, false_begun, false_none}
+use Rattle.discharge.proofs.Marking.{false_begun}
 use Rattle.discharge.proofs.searching.first_open.Goals as goal
 
 pub loop-place-init : goal.loop-place-init

@@ -1,4 +1,4 @@
-use Rattle.std.proofs.Common.{◌≡◌, ◌∙◌, List, ℕ, Bool, ap, sym, subst, length}
+use Rattle.std.proofs.Common.{◌∙◌, ℕ, ap, sym, subst}
 use Rattle.std.specs.Prelude.{Option}
 use Rattle.farkas_check.specs.PlainProblem.{setting}
 use Rattle.discharge.specs.Searched.{first_false, IsFirstOpen}

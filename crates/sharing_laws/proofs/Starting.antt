@@ -11,9 +11,8 @@ use Rattle.control_states.specs.Place.{place}
 use Rattle.farkas_check.specs.Problem.{Setting, Problem, decided_by, posed, first_problem}
 use Rattle.search_laws.specs.Ends.{AllLiteralsOf}
 use Rattle.search_laws.proofs.Literals.{IfLiterals, Undecided, all-weaker, gathered-literals, simples-literals}
-use Rattle.sharing_laws.specs.Lists.{IsFlat}
 use Rattle.sharing_laws.proofs.Agreeing.{any-literals-of, any-literals-if}
-use Rattle.sharing_laws.proofs.Placing.{empty-at, place-empty}
+use Rattle.sharing_laws.proofs.Placing.{empty-at, place-nothing}
 
 abbrev pub IsFreePlace : ControlFacts → List (Option Alternative) → ℕ → Type 0
 IsFreePlace k cases l = place k cases l ≡ None
@@ -41,12 +40,12 @@ posed-fresh k cases truths fs c t =
           (all-weaker (Undecided Any d.places) (IsFreePlace k.control cases) (Undecided Any d.truths) (IsFreeTruth truths) (λ l h. h.1) (λ v h. h.1) (simples d fs true) left);
     }
 
-pub first-fresh : (k : Setting) (given shown : Formula) → IsFlat k.control → IsFresh k (first_problem k given shown)
-first-fresh k given shown flat =
+pub first-fresh : (k : Setting) (given shown : Formula) → IsFresh k (first_problem k given shown)
+first-fresh k given shown =
     let n : ℕ = length k.control.components in
     let m : ℕ = length k.variables in
     record {
       cases = length-replicate n None;
       truths = length-replicate m None;
-      free = any-literals-if (IsFreePlace k.control (replicate n None)) (IsFreeTruth (replicate m None)) (λ l. place-empty k.control flat n l) (λ v. empty-at Bool m v) (first_problem k given shown).conjuncts;
+      free = any-literals-if (IsFreePlace k.control (replicate n None)) (IsFreeTruth (replicate m None)) (λ l. place-nothing k.control (replicate n None) (λ c. empty-at Alternative n c) l) (λ v. empty-at Bool m v) (first_problem k given shown).conjuncts;
     }

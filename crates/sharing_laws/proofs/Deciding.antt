@@ -1,6 +1,6 @@
 -- The problems that a decision divides a problem into are as the lists that the decision alone divides its conjuncts into.
 use Rattle.std.proofs.Common.{◌≡◌, ℕ, ◌<◌, Bool, true, false, List, [], ◌∷◌, length, refl, ap, ◌∙◌, sym, Option, Some, None, arith}
-use Rattle.std.specs.Prelude.{◌&&◌, if◌then◌else◌, slice_get, slice_index_or, slice_set}
+use Rattle.std.specs.Prelude.{if◌then◌else◌, slice_get, slice_index_or, slice_set}
 use Rattle.std.proofs.lemmas.Bool.{and_from}
 use Rattle.std.proofs.lemmas.List.{length-set}
 use Rattle.std.proofs.lemmas.Option.{slice_get_within}
@@ -16,7 +16,7 @@ use Rattle.sharing_laws.specs.Lists.{by_case_alone, by_truth_alone, under}
 use Rattle.sharing_laws.specs.Contexts.{has_inside, InContext, in_context, case_lists_in}
 use Rattle.sharing_laws.proofs.Following.{AreLike}
 use Rattle.sharing_laws.proofs.Agreeing.{AreSame, same-simples}
-use Rattle.sharing_laws.proofs.Placing.{empty-at, same-entry, same-case, place-nothing}
+use Rattle.sharing_laws.proofs.Placing.{same-entry, same-case, place-nothing}
 use Rattle.sharing_laws.proofs.Choosing.{Keeps, kept-more, length-more, free-entry}
 use Rattle.sharing_laws.proofs.Starting.{IsFreePlace, IsFreeTruth, IsFresh, posed-fresh}
 

@@ -9,10 +9,10 @@ use Rattle.st_form.specs.Formula.{Formulas, none}
 use Rattle.control_states.specs.declared.alternative.Alternative.{Alternative}
 use Rattle.control_states.specs.Control.{component_at}
 use Rattle.control_states.specs.Place.{place}
-use Rattle.st_certificate.specs.Tree.{by_case, by_truth, by_split}
+use Rattle.st_certificate.specs.Tree.{by_case, by_truth}
 use Rattle.farkas_check.specs.Problem.{Setting, Problem, is_free, known_active, may_case, has_truth, may_truth, case_problems, truth_problem, split_from, split_problems, lines_of, first_problem}
 use Rattle.elimination_laws.specs.Stages.{Ending, through, contradiction, too_wide, ending}
-use Rattle.search_laws.specs.Walks.{left_open, closes, divides, fails}
+use Rattle.search_laws.specs.Walks.{left_open, divides, fails}
 use Rattle.search_laws.specs.Moves.{first_place_of, first_truth_of, component_for, divided, by_component, by_ending, by_disjunction, by_variable, by_place, by_conjuncts, move_of, verdict_of}
 use Rattle.search_laws.proofs.Literals.{IfLiterals, places-fact, truths-fact, EachLiterals, IfEach, split-literals}
 use Rattle.search_laws.proofs.Refuting.{less}
@@ -22,8 +22,8 @@ use Rattle.sharing_laws.specs.Contexts.{has_inside, InContext, in_context, case_
 use Rattle.sharing_laws.proofs.Following.{AreLike, IsLike, MovesAreLike, finds-follow}
 use Rattle.sharing_laws.proofs.Walking.{walk-finds}
 use Rattle.sharing_laws.proofs.Placing.{empty-at}
-use Rattle.sharing_laws.proofs.Choosing.{Keeps, kept-none, same-component, component-free, same-may}
-use Rattle.sharing_laws.proofs.Starting.{IsFreePlace, IsFreeTruth, IsFresh, first-fresh}
+use Rattle.sharing_laws.proofs.Choosing.{kept-none, same-component, component-free, same-may}
+use Rattle.sharing_laws.proofs.Starting.{IsFreePlace, IsFreeTruth, first-fresh}
 use Rattle.sharing_laws.proofs.Deciding.{IsSeen, AreFree, if-true, cases-like, truth-like, has-within, free-may}
 
 -- ---- components

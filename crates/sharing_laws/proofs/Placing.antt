@@ -1,7 +1,7 @@
 -- One more decision says of an undecided location, or of an undecided boolean variable, what it says alone: the components
 -- around that location's own, where they are decided, are inside the cooperations that lead to it.
-use Rattle.std.proofs.Common.{◌≡◌, ℕ, zero, suc, ◌<◌, Bool, true, false, List, [], ◌∷◌, length, replicate, refl, ap, ◌∙◌, sym, Option, Some, None, inl, inr, arith}
-use Rattle.std.specs.Prelude.{◌||◌, if◌then◌else◌, slice_get, slice_index_or, slice_set, option_and_then}
+use Rattle.std.proofs.Common.{◌≡◌, ℕ, zero, suc, ◌<◌, Bool, true, false, List, length, replicate, refl, ap, ◌∙◌, sym, Option, Some, None, inl, inr, arith}
+use Rattle.std.specs.Prelude.{◌||◌, slice_get, slice_index_or, slice_set, option_and_then}
 use Rattle.std.proofs.lemmas.Bool.{cases_eq}
 use Rattle.std.proofs.lemmas.List.{get_or-set_other, length-replicate}
 use Rattle.std.proofs.lemmas.Grind.{get_or-set_at}

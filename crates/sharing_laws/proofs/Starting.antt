@@ -1,6 +1,6 @@
 -- Fresh problems: the tables have all components and variables, and no literal of the conjuncts is decided. So is the
 -- problem of a condition, and so is each problem whose conjuncts are simplified under its decisions.
-use Rattle.std.proofs.Common.{◌≡◌, ℕ, List, length, replicate, Bool, true, Option, None, refl}
+use Rattle.std.proofs.Common.{◌≡◌, ℕ, List, length, replicate, Bool, true, Option, None}
 use Rattle.std.specs.Prelude.{slice_index_or}
 use Rattle.std.proofs.lemmas.List.{length-replicate}
 use Rattle.st_form.specs.Formula.{Formula, Formulas}
@@ -9,7 +9,6 @@ use Rattle.control_states.specs.declared.alternative.Alternative.{Alternative}
 use Rattle.control_states.specs.Control.{ControlFacts}
 use Rattle.control_states.specs.Place.{place}
 use Rattle.farkas_check.specs.Problem.{Setting, Problem, decided_by, posed, first_problem}
-use Rattle.search_laws.specs.Ends.{AllLiteralsOf}
 use Rattle.search_laws.proofs.Literals.{IfLiterals, Undecided, all-weaker, gathered-literals, simples-literals}
 use Rattle.sharing_laws.proofs.Agreeing.{any-literals-of, any-literals-if}
 use Rattle.sharing_laws.proofs.Placing.{empty-at, place-nothing}

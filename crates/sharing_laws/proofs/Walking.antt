@@ -1,9 +1,9 @@
 -- A tree that is found without counting is what the walk finds, where the tree is within the walk's limits.
-use Rattle.std.proofs.Common.{◌≡◌, ℕ, zero, suc, ◌+◌, ◌<◌, ◌≤◌, true, List, [], ◌∷◌, refl, ap, ◌∙◌, arith}
-use Rattle.std.specs.Prelude.{nat_lt, max}
+use Rattle.std.proofs.Common.{◌≡◌, ℕ, zero, suc, ◌+◌, ◌<◌, ◌≤◌, true, List, [], ◌∷◌, ap, ◌∙◌, arith}
+use Rattle.std.specs.Prelude.{nat_lt}
 use Rattle.std.proofs.lemmas.Bool.Decides.{nat_tests}
 use Rattle.st_certificate.specs.Tree.{Tree, Trees, impossible, branch, farkas, linear, no_tree, with_tree}
-use Rattle.search_laws.specs.Walks.{Move, closes, Found, found, all, onto_trees, then_rest, walk_all, divided_by, walk_node, walk}
+use Rattle.search_laws.specs.Walks.{Move, closes, found, all, onto_trees, then_rest, walk_all, divided_by, walk_node, walk}
 use Rattle.search_laws.specs.Sizes.{nodes, nodes_of, levels, levels_of}
 use Rattle.sharing_laws.specs.Finds.{Finds, FindsAll}
 

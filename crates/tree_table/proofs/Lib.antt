@@ -1,0 +1,4 @@
+pub mod Making
+pub mod Pushing
+pub mod Branching
+pub mod Reading

@@ -1,7 +1,7 @@
 -- A branch over numbers that were just put behind the parts of a table: its trees, and its size.
 use Rattle.std.proofs.Common.{◌≡◌, ℕ, ◌+◌, min, List, ap, ◌∙◌, sym}
 use Rattle.st_certificate.specs.Tree.{Tree, Trees, branch, Step as PlainStep}
-use Rattle.tree_table.specs.Sizes.{nodes_of, levels_of}
+use Rattle.search_laws.specs.Sizes.{nodes_of, levels_of}
 use Rattle.tree_table.specs.Table.{listed, Is}
 use Rattle.tree_table.specs.Nodes.{IsSize, parts_at}
 use Rattle.tree_table.specs.declared.nodes.Size.{Size}

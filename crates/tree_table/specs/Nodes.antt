@@ -1,7 +1,7 @@
 -- What the nodes of a table mean: its trees, made one after the other, each of those before it.
 use Rattle.std.specs.Prelude.{◌≡◌, ℕ, ℤ, ◌+◌, ◌<◌, ◌≤◌, min, List, [], ◌∷◌, ◌++◌, length, take, drop, All, slice_index_or}
 use Rattle.st_certificate.specs.Tree.{Tree, impossible, branch, linear}
-use Rattle.tree_table.specs.Sizes.{nodes, levels}
+use Rattle.search_laws.specs.Sizes.{nodes, levels}
 use Rattle.tree_table.specs.Table.{Is, tree, listed, step_of}
 use Rattle.tree_table.specs.declared.nodes.Node.{Node}
 use Rattle.tree_table.specs.declared.nodes.Size.{Size}

@@ -1,7 +1,7 @@
 //! How large a branch is, by the sizes of its parts.
 
 ghost use Rattle.std.specs.Prelude.{◌≡◌, ◌+◌, ◌≤◌, min, length};
-ghost use Rattle.tree_table.specs.Sizes.{nodes_of, levels_of};
+ghost use Rattle.search_laws.specs.Sizes.{nodes_of, levels_of};
 ghost use Rattle.tree_table.specs.Table.{AreThere, listed};
 ghost use Rattle.tree_table.specs.Nodes.{trees_in};
 

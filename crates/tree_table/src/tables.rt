@@ -2,12 +2,12 @@
 
 ghost use Rattle.std.specs.Prelude.{◌≡◌, ◌+◌, ◌<◌, ◌≤◌, ◌∷◌, [], length, IfOk, true};
 ghost use Rattle.st_certificate.specs.Tree.{impossible, branch, linear};
-ghost use Rattle.tree_table.specs.Sizes.{IsModestTree};
+ghost use Rattle.search_laws.specs.Sizes.{IsModestTree};
 ghost use Rattle.tree_table.specs.Table.{AreThere, Extends, Is, listed, step_of, tree};
 ghost use Rattle.tree_table.specs.Nodes.{trees_in, IsFormed, IsNode, IsSize, formed, parts_at, picks_at};
 
 use crate::nodes::{Kind, Node, Size, Step};
-use crate::sizes::{branch_size, LEAF, MOST_LEVELS, MOST_NODES};
+use crate::sizes::{LEAF, MOST_LEVELS, MOST_NODES, branch_size};
 use st_memory::Memory;
 use std::alloc::Global;
 use std::marker::Model;

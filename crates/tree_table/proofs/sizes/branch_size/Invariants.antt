@@ -1,5 +1,5 @@
 use Rattle.std.proofs.Common.{◌≡◌, ◌+◌, ◌≤◌, min, max, drop}
-use Rattle.tree_table.specs.Sizes.{nodes_of, levels_of}
+use Rattle.search_laws.specs.Sizes.{nodes_of, levels_of}
 use Rattle.tree_table.specs.Table.{listed}
 use Rattle.tree_table.specs.Nodes.{trees_in}
 use Rattle.tree_table.proofs.sizes.branch_size.Given as goal

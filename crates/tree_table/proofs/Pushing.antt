@@ -1,14 +1,13 @@
 -- What a push of a node, of parts and of picks does to a table.
-use Rattle.std.proofs.Common.{◌≡◌, ℕ, ℤ, ◌+◌, ◌<◌, ◌≤◌, ◌⊎◌, inl, inr, List, [], ◌∷◌, ◌++◌, length, take, drop, get_or, refl, ap, subst, ◌∙◌, sym, All, arith}
-use Rattle.std.proofs.lemmas.List.{get_or_at, get_or_append_left, length-append, append-nil, drop-append-le, take_all, drop_all}
-use Rattle.std.proofs.lemmas.List.Elements.{All-weaker}
+use Rattle.std.proofs.Common.{◌≡◌, ℕ, ℤ, ◌+◌, ◌<◌, ◌≤◌, ◌⊎◌, inl, inr, List, [], ◌∷◌, ◌++◌, length, get_or, ap, subst, ◌∙◌, sym, arith}
+use Rattle.std.proofs.lemmas.List.{get_or_at, get_or_append_left, length-append, append-nil}
 use Rattle.std.proofs.lemmas.Bool.{cases_lt}
 use Rattle.st_certificate.specs.Tree.{Tree, impossible}
-use Rattle.tree_table.specs.Table.{tree, Is, Extends, AreThere}
-use Rattle.tree_table.specs.Nodes.{formed, IsFormed, AreFormed, AreSized, IsSize, ArePartsBelow, parts_at, Kept, trees_in, IsSound, IsNode}
+use Rattle.tree_table.specs.Table.{tree, Is, Extends}
+use Rattle.tree_table.specs.Nodes.{formed, IsFormed, AreSized, IsSize, Kept, trees_in, IsSound, IsNode}
 use Rattle.tree_table.specs.declared.nodes.Node.{Node}
 use Rattle.tree_table.specs.declared.nodes.Kind.{Kind}
-use Rattle.tree_table.proofs.Making.{extends-refl, extends-append, is-later, grown-append, grown-length, are-formed-push, are-formed-wider, grown-wider, node-read, formed-read}
+use Rattle.tree_table.proofs.Making.{extends-append, is-later, grown-append, grown-length, are-formed-push, are-formed-wider, grown-wider, node-read, formed-read}
 
 pub table-length : (t : Kept) → length (trees_in t) ≡ length t.nodes
 table-length t = grown-length t.parts t.picks [] t.nodes ∙ omega arith
@@ -111,26 +110,6 @@ parted s t ks k e o a =
     let Q : List ℕ → Type 0 = λ x. Widened s (record { nodes = s.nodes; parts = x; picks = s.picks }) in
     let R : Kept → Type 0 = λ w. Widened w (record { nodes = s.nodes; parts = ks; picks = s.picks }) in
     subst R e (subst Q (sym a) (subst P (append-nil s.picks) (widen s k [] o)))
-
--- what was just put behind a list stands there
-pub put-behind : {A : Type 0} → (xs old x : List A) (from count : ℕ) → xs ≡ old ++ x → from ≡ length old → count ≡ length x → take count (drop from xs) ≡ x
-put-behind xs old x from count a m n =
-    ap (λ y. take count (drop from y)) a ∙ ap (λ i. take count (drop i (old ++ x))) m
-    ∙ ap (take count) (drop-append-le (length old) old x (omega arith) ∙ ap (λ y. y ++ x) (drop_all (length old) old (omega arith)))
-    ∙ take_all count x (omega (arith, n))
-
-pub put-within : {A : Type 0} → (xs old x : List A) (from count : ℕ) → xs ≡ old ++ x → from ≡ length old → count ≡ length x → from + count ≤ length xs
-put-within xs old x from count a m n = omega (arith, m, n, ap length a, length-append old x)
-
-pub put-below : (s t : Kept) (ks k : List ℕ) (from count : ℕ) → s ≡ t → AreThere (trees_in t) k → ks ≡ s.parts ++ k → from ≡ length s.parts → count ≡ length k
-    → ArePartsBelow ks (length s.nodes) from count
-put-below s t ks k from count e h a m n =
-    let P : List ℕ → Type 0 = λ x. All (λ i. i < length s.nodes) x in
-    let l : length s.nodes ≡ length (trees_in t) = sym (table-length s) ∙ ap (λ w. length (trees_in w)) e in
-    record {
-      within = put-within ks s.parts k from count a m n;
-      below = subst P (sym (put-behind ks s.parts k from count a m n)) (All-weaker (λ i. i < length (trees_in t)) (λ i. i < length s.nodes) (λ i g. omega (arith, g, l)) k h);
-    }
 
 pub extends-from : (ts us vs : List Tree) → us ≡ ts → Extends us vs → Extends ts vs
 extends-from ts us vs e h = let P : List Tree → Type 0 = λ x. Extends x vs in subst P e h

@@ -45,7 +45,7 @@ fn certificates(
     requires there { number < length (trees_in table.now) }
     ensures { IfOk result (λ v. plain_trees v.items ≡ listed (trees_in table.now) parts.now) }
 {
-    let mut out = Vec::new(alloc);
+    let mut out = Vec::with_capacity(alloc, parts.len())?;
     for part in parts {
         out.push(certificate(alloc, table, *part)?)?;
     }

@@ -1,9 +1,8 @@
 use Rattle.std.proofs.Common.{◌≡◌, length, arith}
 use Rattle.std.proofs.lemmas.Result.{IfOk-weaker}
-use Rattle.tree_table.specs.Table.{listed}
 use Rattle.tree_table.specs.Nodes.{Kept, trees_in, parts_at}
-use Rattle.tree_table.proofs.Pushing.{parted, put-below, put-behind, extends-from}
-use Rattle.tree_table.proofs.Branching.{listed-same, branch-sized, branch-made}
+use Rattle.tree_table.proofs.Pushing.{parted, extends-from}
+use Rattle.tree_table.proofs.Branching.{put-below, put-behind, listed-same, branch-sized, branch-made}
 use Rattle.tree_table.proofs.tables.TreeTable.branch.Goals as goal
 
 pub invariant_of-self-2 : goal.invariant_of-self-2

@@ -60,6 +60,7 @@ impl TreeTable {
     pub fn absurd(&self) -> u32
         ensures { Is (trees_in self.now) result impossible }
     {
+        // a field is read, so that the invariant is known
         let _count = self.nodes.len();
         0
     }

@@ -7,3 +7,6 @@ pub mod LeafReads
 pub mod CutReads
 pub mod TreeReads
 pub mod Digits
+pub mod Standing
+pub mod WordRuns
+pub mod NumberRuns

@@ -4,8 +4,10 @@
 mod blank;
 mod control;
 mod cuts;
+mod fronts;
 mod letters;
 mod picks;
+mod pieces;
 mod progress;
 mod reader;
 mod scan;

@@ -6,12 +6,14 @@ mod control;
 mod cuts;
 mod fronts;
 mod letters;
+mod numbers;
 mod picks;
 mod pieces;
 mod progress;
 mod reader;
 mod scan;
 mod tree;
+mod trees;
 mod words;
 mod write;
 

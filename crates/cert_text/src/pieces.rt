@@ -6,8 +6,8 @@ ghost use Rattle.cert_text.specs.Reading.{progress_view, after, is_going};
 
 use crate::blank::blank_len;
 use crate::fronts::{letter_len, number, takes_numbers};
-use crate::progress::{Pending, Progress, end_word, is_going, step, take_token};
-use crate::scan::Token;
+use crate::numbers::take_number;
+use crate::progress::{Pending, Progress, end_word, is_going, step};
 use crate::words::word_of;
 use st_memory::Memory;
 use std::alloc::Global;
@@ -60,13 +60,7 @@ fn read_token(
     if takes_numbers(progress.scan.want) {
         let (value, digits) = number(bytes);
         if 0 < digits && digits < bytes.len() {
-            take_token(
-                progress,
-                alloc,
-                place,
-                place + digits as u64,
-                Token::Number(value),
-            )?;
+            take_number(progress, alloc, place, place + digits as u64, value)?;
             return Ok(digits);
         }
     }

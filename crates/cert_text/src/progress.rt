@@ -8,8 +8,10 @@ ghost use Rattle.cert_text.specs.Reading.{progress_view, token_taken, is_whole, 
 
 use crate::control::give;
 use crate::letters::{Letters, grown, is_blank, is_digit, is_letter};
+use crate::numbers::take_number;
 use crate::scan::{Given, Scan, Token, Want, Word};
 use crate::tree::{Building, apply};
+use crate::trees::{take_sign, take_word};
 use crate::words::{fits_number, fits_word, word_of};
 use st_memory::Memory;
 use std::alloc::Global;
@@ -112,7 +114,7 @@ pub fn end_word(
         ≡ word_ended start end progress.old.scan (built_view progress.old.building) word) }
 {
     match word {
-        Some(word) => take_token(progress, alloc, start, end, Token::Word(word)),
+        Some(word) => take_word(progress, alloc, start, end, word),
         None => {
             progress.stage = Stage::Malformed(start);
             Ok(())
@@ -137,7 +139,7 @@ fn begin(progress: &mut Progress, alloc: Global, at: u64, b: u8) -> Result<(), M
         begin_number(progress, at, b);
         Ok(())
     } else {
-        take_token(progress, alloc, at, at + 1, Token::Sign(b))
+        take_sign(progress, alloc, at, b)
     }
 }
 
@@ -224,7 +226,7 @@ pub fn step(progress: &mut Progress, alloc: Global, at: u64, b: u8) -> Result<()
                 grow_number(progress, start, n, b);
                 Ok(())
             } else {
-                take_token(progress, alloc, start, at, Token::Number(n))?;
+                take_number(progress, alloc, start, at, n)?;
                 and_begin(progress, alloc, at, b)
             }
         }

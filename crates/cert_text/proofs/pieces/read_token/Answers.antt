@@ -40,7 +40,7 @@ returns-then-digits-bytes-clause-leads c =
     let k = c.number-value.result.1 in
     let value = c.number-value.result.0 in
     let old : progress_view p ≡ going p.scan (built_view p.building) idle = stands_idle p c.requires.idle c.requires.going in
-    let new : progress_view c.take_token.new.progress ≡ token_taken at (at + k) (give p.scan (tokens.Number value)) (built_view p.building) = search rules in
+    let new : progress_view c.take_number.new.progress ≡ token_taken at (at + k) (give p.scan (tokens.Number value)) (built_view p.building) = search rules in
     let fits : takes_numbers p.scan.want ≡ true = search rules in
     ap (λ s. after (at + k) s (drop k bs)) new
     ∙ number_in_front at k value p.scan (built_view p.building) bs fits c.number-value.ensures.len c.number-value.ensures.value (search rules) (search rules)

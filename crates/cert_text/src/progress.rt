@@ -202,6 +202,17 @@ fn and_begin(progress: &mut Progress, alloc: Global, at: u64, b: u8) -> Result<(
     }
 }
 
+/// A byte more, where no token is open. Where memory runs out, the progress is worthless.
+#[tactic(auto, unfolding(crate::specs::Reading::step))]
+pub fn first_step(progress: &mut Progress, alloc: Global, at: u64, b: u8) -> Result<(), Memory>
+    requires room { at < 2 ^ 64 - 1 }
+    requires is_going { IsTrue (is_going (progress_view progress.old)) }
+    requires idle { progress.old.pending ≡ Pending.Idle }
+    ensures { OnOk result (progress_view progress.new ≡ step at (progress_view progress.old) b) }
+{
+    begin(progress, alloc, at, b)
+}
+
 /// A byte more. Where memory runs out, the progress is worthless.
 #[tactic(auto, unfolding(crate::specs::Reading::step))]
 pub fn step(progress: &mut Progress, alloc: Global, at: u64, b: u8) -> Result<(), Memory>

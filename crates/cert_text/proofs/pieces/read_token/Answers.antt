@@ -5,7 +5,7 @@ use Rattle.cert_text.specs.Reading.{State, progress_view, going, idle, after, is
 use Rattle.cert_text.specs.Fronts.{takes_numbers}
 use Rattle.cert_text.specs.declared.scan.Token.TheVariants as tokens
 use Rattle.cert_text.proofs.WordRuns.{word_in_front}
-use Rattle.cert_text.proofs.NumberRuns.{blanks_in_front, number_in_front}
+use Rattle.cert_text.proofs.NumberRuns.{number_in_front}
 use Rattle.cert_text.proofs.Standing.{stands_idle}
 use Rattle.cert_text.proofs.pieces.read_token.Goals as goal
 
@@ -19,17 +19,6 @@ returns-then-letters-bytes-clause-leads c =
     let new : progress_view c.end_word.new.progress ≡ word_ended at (at + k) p.scan (built_view p.building) (word_of (take k bs)) = search rules in
     ap (λ s. after (at + k) s (drop k bs)) new
     ∙ word_in_front at k p.scan (built_view p.building) bs c.letter_len-letters.ensures.len (search rules) (search rules)
-    ∙ ap (λ s. after at s bs) (sym old)
-
-pub returns-then-blanks-gt0-clause-leads : goal.returns-then-blanks-gt0-clause-leads
-returns-then-blanks-gt0-clause-leads c =
-    let p = c.args.progress.now in
-    let bs = c.args.bytes.now in
-    let at = c.args.place in
-    let k = c.blank_len-blanks.result in
-    let old : progress_view p ≡ going p.scan (built_view p.building) idle = stands_idle p c.requires.idle c.requires.going in
-    ap (λ s. after (at + k) s (drop k bs)) old
-    ∙ blanks_in_front at k p.scan (built_view p.building) bs c.blank_len-blanks.ensures.len
     ∙ ap (λ s. after at s bs) (sym old)
 
 pub returns-then-digits-bytes-clause-leads : goal.returns-then-digits-bytes-clause-leads

@@ -6,7 +6,7 @@ use Rattle.cert_text.specs.declared.scan.Token.TheVariants as tokens
 use Rattle.cert_text.specs.declared.scan.Want.{Want}
 use Rattle.cert_text.specs.declared.scan.Want.TheVariants as wants
 use Rattle.cert_text.specs.declared.scan.Scan.{Scan}
-use Rattle.cert_text.specs.Control.{give, fits_number, fits_number_at}
+use Rattle.cert_text.specs.Control.{give, fits_number_at}
 use Rattle.cert_text.specs.Letters.{is_blank, is_letter, is_digit, grown}
 use Rattle.cert_text.specs.Fronts.{number_by, takes_numbers}
 use Rattle.cert_text.specs.Tree.{Built}

@@ -1,5 +1,5 @@
 -- Where a block is still read and no token is open.
-use Rattle.std.proofs.Common.{◌≡◌, IsTrue, refl, sym, subst, ap, ◌∙◌}
+use Rattle.std.proofs.Common.{◌≡◌, IsTrue, refl, ap, ◌∙◌}
 use Rattle.cert_text.specs.declared.scan.Scan.{Scan}
 use Rattle.cert_text.specs.declared.progress.Pending as code_pending
 use Rattle.cert_text.specs.declared.progress.Pending.TheVariants as ends
@@ -7,7 +7,7 @@ use Rattle.cert_text.specs.declared.progress.Stage.{Stage}
 use Rattle.cert_text.specs.declared.progress.Stage.TheVariants as stages
 use Rattle.cert_text.specs.declared.progress.Progress.{Progress}
 use Rattle.cert_text.specs.Tree.{Built, built_view}
-use Rattle.cert_text.specs.Reading.{State, Pending, going, idle, staged, is_going, progress_view, pending_view}
+use Rattle.cert_text.specs.Reading.{Pending, going, idle, staged, is_going, progress_view, pending_view}
 
 stands : (stage : Stage) (scan : Scan) (built : Built) (pending : Pending) → IsTrue (is_going (staged stage scan built pending)) → staged stage scan built pending ≡ going scan built pending
 stands stages.Going scan built pending h = refl

@@ -5,12 +5,11 @@ use Rattle.cert_text.specs.declared.scan.Want.TheVariants as wants
 use Rattle.cert_text.specs.declared.scan.Scan.{Scan}
 use Rattle.cert_text.specs.declared.scan.Action.{Action}
 use Rattle.cert_text.specs.declared.scan.Action.TheVariants as actions
-use Rattle.cert_text.specs.declared.scan.Given.{Given}
 use Rattle.cert_text.specs.declared.scan.Given.TheVariants as givens
 use Rattle.cert_text.specs.Control.{behind, tree_begun, is_full}
 use Rattle.cert_text.specs.Run.{want_behind}
 use Rattle.cert_text.specs.Tree.{Built, applied}
-use Rattle.cert_text.specs.Reading.{State, going, over, idle, is_whole, staged, stage_of, token_taken}
+use Rattle.cert_text.specs.Reading.{going, over, idle, is_whole, token_taken}
 
 on_if : (start end : ℕ) (scan : Scan) (depth : ℕ) (action : Action) (built : Built) (b : Bool) → token_taken start end (cond b (givens.On (record scan { want = wants.End; depth = depth }) action) (givens.On (record scan { want = wants.Tree true; depth = depth }) action)) built ≡ going (record scan { want = cond b wants.End (wants.Tree true); depth = depth }) (applied action built) idle
 on_if start end scan depth action built true = refl

@@ -17,7 +17,7 @@ use Rattle.cert_text.specs.declared.progress.Stage.TheVariants as stages
 use Rattle.cert_text.specs.Control.{give, give_at, at_block, at_tree, fits_word, fits_word_at, begins_tree, word_of, begins}
 use Rattle.cert_text.specs.Letters.{is_blank, is_letter, is_digit}
 use Rattle.cert_text.specs.Tree.{Built, applied}
-use Rattle.cert_text.specs.Reading.{State, going, malformed, idle, letters, is_whole, staged, token_taken, word_ended, word_grown, number_grown, and_begun, step, after}
+use Rattle.cert_text.specs.Reading.{going, malformed, idle, letters, is_whole, staged, token_taken, word_ended, word_grown, number_grown, and_begun, step, after}
 use Rattle.cert_text.proofs.Stopping.{stopped_after}
 
 clash : {A : Type 0} (x : Bool) → x ≡ false → x ≡ true → A

@@ -1,7 +1,7 @@
-use Rattle.std.proofs.Common.{rules, ◌≡◌, ◌+◌, ◌∙◌, ap, sym, subst, true, take, drop}
+use Rattle.std.proofs.Common.{rules, ◌≡◌, ◌+◌, ◌∙◌, ap, sym, true, take, drop}
 use Rattle.cert_text.specs.Control.{word_of, give}
 use Rattle.cert_text.specs.Tree.{built_view}
-use Rattle.cert_text.specs.Reading.{State, progress_view, going, idle, after, is_going, word_ended, token_taken}
+use Rattle.cert_text.specs.Reading.{progress_view, going, idle, after, word_ended, token_taken}
 use Rattle.cert_text.specs.Fronts.{takes_numbers}
 use Rattle.cert_text.specs.declared.scan.Token.TheVariants as tokens
 use Rattle.cert_text.proofs.WordRuns.{word_in_front}

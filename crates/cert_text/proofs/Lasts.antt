@@ -36,3 +36,14 @@ read_on_from place taken scanned s bs le within =
     let tk : take (length bs - scanned) (drop scanned bs) ≡ drop k ys = take_all (length bs - scanned) (drop scanned bs) (omega (arith, length-drop scanned bs)) ∙ sym dk in
     let cut : after place s ys ≡ after (place + length (take k ys)) (after place s (take k ys)) (drop k ys) = sym (ap (after place s) (take-append-drop k ys)) ∙ after-append place s (take k ys) (drop k ys) in
     ap (after (place + k) (after place s (take k ys))) tk ∙ ap (λ n. after (place + n) (after place s (take k ys)) (drop k ys)) (sym lk) ∙ sym cut
+
+-- what is read behind the first bytes is read behind their place
+pub read_behind : (place k n : ℕ) (s t : State) (bs : List ℕ) → k ≤ length bs → after (place + k + n) t (drop n (take (length bs - k) (drop k bs))) ≡ after (place + k) s (take (length bs - k) (drop k bs)) → after (place + (k + n)) t (drop (k + n) bs) ≡ after (place + k) s (drop k bs)
+read_behind place k n s t bs within h =
+    let tk : take (length bs - k) (drop k bs) ≡ drop k bs = take_all (length bs - k) (drop k bs) (omega (arith, length-drop k bs)) in
+    let e : place + (k + n) ≡ place + k + n = omega arith in
+    ap (λ m. after m t (drop (k + n) bs)) e
+    ∙ ap (after (place + k + n) t) (sym (dropping k n bs))
+    ∙ ap (λ xs. after (place + k + n) t (drop n xs)) (sym tk)
+    ∙ h
+    ∙ ap (after (place + k) s) tk

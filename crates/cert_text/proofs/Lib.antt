@@ -7,3 +7,7 @@ pub mod LeafReads
 pub mod CutReads
 pub mod TreeReads
 pub mod Digits
+pub mod Taken
+pub mod Standing
+pub mod WordRuns
+pub mod NumberRuns

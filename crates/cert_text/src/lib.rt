@@ -4,12 +4,16 @@
 mod blank;
 mod control;
 mod cuts;
+mod fronts;
 mod letters;
+mod numbers;
 mod picks;
+mod pieces;
 mod progress;
 mod reader;
 mod scan;
 mod tree;
+mod trees;
 mod words;
 mod write;
 

@@ -1,15 +1,17 @@
-//! A block is read a byte at a time, wherever the bytes are cut.
+//! A block is read a byte at a time, wherever the bytes are cut: the machine that says what a text is.
 
 ghost use Rattle.std.specs.Prelude.{◌≡◌, ◌+◌, ◌-◌, ◌<◌, ◌≤◌, ◌^◌, ◌++◌, ◌∷◌, [], OnOk, length, IsTrue, nat_lt};
 ghost use Rattle.cert_text.specs.Control.{give, fits_word, fits_number, word_of};
 ghost use Rattle.cert_text.specs.Tree.{built_view, nothing_built};
 ghost use Rattle.cert_text.specs.Letters.{is_blank, is_letter, is_digit, grown};
-ghost use Rattle.cert_text.specs.Reading.{progress_view, token_taken, is_whole, stage_of, word_ended, begun, and_begun, word_grown, number_grown, step, after, is_going};
+ghost use Rattle.cert_text.specs.Reading.{progress_view, token_taken, is_whole, stage_of, word_ended, begun, and_begun, word_grown, number_grown, step, is_going};
 
 use crate::control::give;
 use crate::letters::{Letters, grown, is_blank, is_digit, is_letter};
-use crate::scan::{Given, Scan, Token, Want};
+use crate::numbers::take_number;
+use crate::scan::{Given, Scan, Token, Want, Word};
 use crate::tree::{Building, apply};
+use crate::trees::{take_sign, take_word};
 use crate::words::{fits_number, fits_word, word_of};
 use st_memory::Memory;
 use std::alloc::Global;
@@ -71,7 +73,7 @@ fn stage_of(want: Want, end: u64) -> Stage
 }
 
 /// A token ends.
-fn take_token(
+pub fn take_token(
     progress: &mut Progress,
     alloc: Global,
     start: u64,
@@ -101,12 +103,18 @@ fn take_token(
 }
 
 /// A word ends.
-fn end_word(progress: &mut Progress, alloc: Global, start: u64, end: u64) -> Result<(), Memory>
+pub fn end_word(
+    progress: &mut Progress,
+    alloc: Global,
+    start: u64,
+    end: u64,
+    word: Option<Word>,
+) -> Result<(), Memory>
     ensures { OnOk result (progress_view progress.new
-        ≡ word_ended start end progress.old.scan (built_view progress.old.building) (word_of progress.old.letters)) }
+        ≡ word_ended start end progress.old.scan (built_view progress.old.building) word) }
 {
-    match word_of(progress.letters.as_slice()) {
-        Some(word) => take_token(progress, alloc, start, end, Token::Word(word)),
+    match word {
+        Some(word) => take_word(progress, alloc, start, end, word),
         None => {
             progress.stage = Stage::Malformed(start);
             Ok(())
@@ -131,7 +139,7 @@ fn begin(progress: &mut Progress, alloc: Global, at: u64, b: u8) -> Result<(), M
         begin_number(progress, at, b);
         Ok(())
     } else {
-        take_token(progress, alloc, at, at + 1, Token::Sign(b))
+        take_sign(progress, alloc, at, b)
     }
 }
 
@@ -194,9 +202,20 @@ fn and_begin(progress: &mut Progress, alloc: Global, at: u64, b: u8) -> Result<(
     }
 }
 
+/// A byte more, where no token is open. Where memory runs out, the progress is worthless.
 #[tactic(auto, unfolding(crate::specs::Reading::step))]
+pub fn first_step(progress: &mut Progress, alloc: Global, at: u64, b: u8) -> Result<(), Memory>
+    requires room { at < 2 ^ 64 - 1 }
+    requires is_going { IsTrue (is_going (progress_view progress.old)) }
+    requires idle { progress.old.pending ≡ Pending.Idle }
+    ensures { OnOk result (progress_view progress.new ≡ step at (progress_view progress.old) b) }
+{
+    begin(progress, alloc, at, b)
+}
+
 /// A byte more. Where memory runs out, the progress is worthless.
-fn step(progress: &mut Progress, alloc: Global, at: u64, b: u8) -> Result<(), Memory>
+#[tactic(auto, unfolding(crate::specs::Reading::step))]
+pub fn step(progress: &mut Progress, alloc: Global, at: u64, b: u8) -> Result<(), Memory>
     requires room { at < 2 ^ 64 - 1 }
     requires is_going { IsTrue (is_going (progress_view progress.old)) }
     ensures { OnOk result (progress_view progress.new ≡ step at (progress_view progress.old) b) }
@@ -208,7 +227,8 @@ fn step(progress: &mut Progress, alloc: Global, at: u64, b: u8) -> Result<(), Me
                 grow_word(progress, start, b);
                 Ok(())
             } else {
-                end_word(progress, alloc, start, at)?;
+                let word = word_of(progress.letters.as_slice());
+                end_word(progress, alloc, start, at, word)?;
                 and_begin(progress, alloc, at, b)
             }
         }
@@ -217,25 +237,9 @@ fn step(progress: &mut Progress, alloc: Global, at: u64, b: u8) -> Result<(), Me
                 grow_number(progress, start, n, b);
                 Ok(())
             } else {
-                take_token(progress, alloc, start, at, Token::Number(n))?;
+                take_number(progress, alloc, start, at, n)?;
                 and_begin(progress, alloc, at, b)
             }
         }
     }
-}
-
-/// The bytes from a place on, as far as the block goes. Where memory runs out, the progress is worthless.
-pub fn run(progress: &mut Progress, alloc: Global, place: u64, bytes: &[u8]) -> Result<(), Memory>
-    requires { place + length bytes.now < 2 ^ 64 }
-    ensures { OnOk result (progress_view progress.new ≡ after place (progress_view progress.old) bytes.now) }
-{
-    let mut at = place;
-    for b in bytes {
-        if !is_going(progress) {
-            return Ok(());
-        }
-        step(progress, alloc, at, *b)?;
-        at += 1;
-    }
-    Ok(())
 }

@@ -3,6 +3,7 @@
 ghost use Rattle.std.specs.Prelude.{◌≡◌, ◌+◌, ◌<◌, ◌≤◌, ◌^◌, ◌++◌, ◌∷◌, [], IsOk, IfOk, OnOk, length, map};
 ghost use Rattle.st_linear.specs.Linear.{of_entries};
 ghost use Rattle.st_certificate.specs.Plain.{plain};
+ghost use Rattle.cert_text.specs.Control.{picks_closed};
 ghost use Rattle.cert_text.specs.Tree.{signed_of, built_view, nothing_built, tree_added, entered_by, left_to, closed, cut_entered, applied, IsModest};
 ghost use Rattle.st_certificate.specs.Tree.{trees as trees_of};
 
@@ -65,14 +66,14 @@ impl Building {
     }
 }
 
-fn add_tree(building: &mut Building, tree: Certificate) -> Result<(), Memory>
+pub fn add_tree(building: &mut Building, tree: Certificate) -> Result<(), Memory>
     ensures { OnOk result (built_view building.new ≡ tree_added (built_view building.old) (plain tree)) }
 {
     building.trees.push(tree)?;
     Ok(())
 }
 
-fn enter(alloc: Global, building: &mut Building, head: Head) -> Result<(), Memory>
+pub fn enter(alloc: Global, building: &mut Building, head: Head) -> Result<(), Memory>
     ensures { OnOk result (built_view building.new ≡ entered_by head (built_view building.old)) }
 {
     let before = mem::replace(&mut building.trees, Vec::new(alloc));
@@ -91,7 +92,7 @@ fn closed(head: Head, trees: Vec<Certificate>) -> Certificate
     }
 }
 
-fn leave(alloc: Global, building: &mut Building) -> Result<(), Memory>
+pub fn leave(alloc: Global, building: &mut Building) -> Result<(), Memory>
     ensures { OnOk result (built_view building.new ≡ left_to (built_view building.old).outer (built_view building.old)) }
 {
     match building.outer.pop() {
@@ -115,7 +116,7 @@ fn enter_cut(alloc: Global, building: &mut Building, constant: i128) -> Result<(
     }
 }
 
-fn add_pick(
+pub fn add_pick(
     building: &mut Building,
     signed: bool,
     row: u32,
@@ -133,6 +134,19 @@ fn add_pick(
         building.picks.push((row.saturating_sub(1), size))?;
     }
     Ok(())
+}
+
+/// Adds a leaf of the picks so far.
+pub fn add_picks(alloc: Global, building: &mut Building, signed: bool) -> Result<(), Memory>
+    ensures { OnOk result (built_view building.new ≡ applied (picks_closed signed) (built_view building.old)) }
+{
+    if signed {
+        let lines = mem::replace(&mut building.lines, Vec::new(alloc));
+        add_tree(building, Certificate::Linear(lines))
+    } else {
+        let picks = mem::replace(&mut building.picks, Vec::new(alloc));
+        add_tree(building, Certificate::Farkas(picks))
+    }
 }
 
 /// Adds what a token adds. Where memory runs out, what is built is worthless.
@@ -153,14 +167,8 @@ pub fn apply(alloc: Global, building: &mut Building, action: Action) -> Result<(
             negative,
             size,
         } => add_pick(building, signed, row, negative, size),
-        Action::Farkas => {
-            let picks = mem::replace(&mut building.picks, Vec::new(alloc));
-            add_tree(building, Certificate::Farkas(picks))
-        }
-        Action::Linear => {
-            let lines = mem::replace(&mut building.lines, Vec::new(alloc));
-            add_tree(building, Certificate::Linear(lines))
-        }
+        Action::Farkas => add_picks(alloc, building, false),
+        Action::Linear => add_picks(alloc, building, true),
         Action::Term {
             variable,
             negative,

@@ -4,12 +4,8 @@ use Rattle.std.specs.Option.{option_map}
 use Rattle.st_form.specs.Plain.{plain}
 use Rattle.st_form.specs.declared.conditions.Condition.{Condition}
 use Rattle.farkas_check.specs.Problem.{Setting}
-use Rattle.search_laws.specs.Moves.{Verdict, valid, open_at, wide_at, decided}
-
-abbrev pub is_valid : Verdict → Bool
-is_valid (valid t) = true
-is_valid (open_at path state) = false
-is_valid (wide_at path stage) = false
+use Rattle.search_laws.specs.Moves.{decided}
+use Rattle.linear_prover.specs.Verdicts.{is_valid}
 
 -- whether the verdict on a condition is that it is valid
 abbrev pub mark : Setting → Condition → Bool

@@ -7,7 +7,7 @@ ghost use Rattle.discharge.specs.Verdicts.{AreSearchable, AreAnswers};
 
 use crate::shares::{Share, behind};
 use control_states::Components;
-use linear_prover::{Verdict, decide};
+use linear_prover::{Book, Verdict, decide};
 use st_form::{Condition, Variable};
 use st_memory::Memory;
 use std::alloc::Global;
@@ -24,6 +24,7 @@ fn decide_share(
     requires searchable { AreSearchable (length variables.now) conditions.now }
     ensures { IfOk result (λ v. AreAnswers (setting components.now variables.now) (dealt share conditions.now) v.items) }
 {
+    let mut book = Book::new(alloc, components, variables)?;
     let mut verdicts = Vec::with_capacity(alloc, share.count)?;
     let mut rest = conditions;
     let mut left = share.count;
@@ -31,7 +32,7 @@ fn decide_share(
         let Some((condition, _)) = rest.split_first() else {
             return Ok(verdicts);
         };
-        verdicts.push(decide(alloc, components, variables, condition)?)?;
+        verdicts.push(decide(alloc, &mut book, components, variables, condition)?)?;
         rest = behind(rest, share.stride);
         left -= 1;
     }

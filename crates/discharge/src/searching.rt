@@ -5,36 +5,18 @@ ghost use Rattle.std.specs.Thread.{IsSync};
 ghost use Rattle.farkas_check.specs.PlainProblem.{setting};
 ghost use Rattle.discharge.specs.Dealt.{dealt, left_half, right_half};
 ghost use Rattle.discharge.specs.Pieces.{EachPiece};
-ghost use Rattle.discharge.specs.Verdicts.{IsSearchable, AreSearchable};
-ghost use Rattle.discharge.specs.Searched.{mark, marks, first_false, IsFirstOpen};
+ghost use Rattle.discharge.specs.Verdicts.{AreSearchable};
+ghost use Rattle.discharge.specs.Searched.{marks, first_false, IsFirstOpen};
 
 use crate::gates::at_gate;
 use crate::shares::{Share, behind, halves, weave};
 use control_states::Components;
-use linear_prover::{Verdict, decide};
+use linear_prover::{Book, is_decided_valid};
 use st_form::{Condition, Variable};
 use st_memory::Memory;
 use st_outside::Gate;
 use std::alloc::Global;
 use std::thread::{Threads, join};
-
-/// Whether a condition is decided valid.
-fn is_decided_valid(
-    alloc: Global,
-    components: &Components,
-    variables: &[Variable],
-    condition: &Condition,
-) -> Result<bool, Memory>
-    requires few { length variables.now < 2 ^ 32 }
-    requires searchable { IsSearchable (length variables.now) condition.now }
-    ensures { IfOk result (λ yes. yes ≡ mark (setting components.now variables.now) condition.now) }
-{
-    match decide(alloc, components, variables, condition)? {
-        Verdict::Valid(_) => Ok(true),
-        Verdict::Open(_, _) => Ok(false),
-        Verdict::Wide(_, _) => Ok(false),
-    }
-}
 
 /// Which conditions of one piece are decided valid.
 fn search_piece(
@@ -48,6 +30,7 @@ fn search_piece(
     requires searchable { AreSearchable (length variables.now) conditions.now }
     ensures { IfOk result (λ v. v.items ≡ marks (setting components.now variables.now) (dealt share conditions.now)) }
 {
+    let mut book = Book::new(alloc, components, variables)?;
     let mut found = Vec::with_capacity(alloc, share.count)?;
     let mut rest = conditions;
     let mut left = share.count;
@@ -55,7 +38,9 @@ fn search_piece(
         let Some((condition, _)) = rest.split_first() else {
             return Ok(found);
         };
-        found.push(is_decided_valid(alloc, components, variables, condition)?)?;
+        found.push(is_decided_valid(
+            alloc, &mut book, components, variables, condition,
+        )?)?;
         rest = behind(rest, share.stride);
         left -= 1;
     }

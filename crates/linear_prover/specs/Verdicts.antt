@@ -1,9 +1,10 @@
 -- What a verdict means.
-use Rattle.std.specs.Prelude.{Some, None}
+use Rattle.std.specs.Prelude.{Bool, true, false, Some, None}
 use Rattle.st_form.specs.Formula.{Formula}
 use Rattle.st_certificate.specs.Plain.{plain as tree_of}
 use Rattle.farkas_check.specs.Problem.{Setting}
 use Rattle.search_laws.specs.Forms.{IsInOrder}
+use Rattle.search_laws.specs.Moves as moves
 use Rattle.search_laws.specs.Laws.{IsProved, IsCounterexample}
 use Rattle.search_laws.specs.Sizes.{IsShort}
 use Rattle.linear_prover.specs.declared.verdict.Verdict.{Verdict}
@@ -17,3 +18,9 @@ IsRight k given shown (Valid c) = IsProved k given shown (tree_of c)
 IsRight k given shown (Open path None) = IsShort (plain_path path.items)
 IsRight k given shown (Open path (Some s)) = IsShort (plain_path path.items) × (IsInOrder k.control → IsCounterexample k given shown (plain_shown s))
 IsRight k given shown (Wide path w) = IsShort (plain_path path.items)
+
+-- a verdict says that the condition is valid
+abbrev pub is_valid : moves.Verdict → Bool
+is_valid (moves.valid t) = true
+is_valid (moves.open_at path state) = false
+is_valid (moves.wide_at path stage) = false

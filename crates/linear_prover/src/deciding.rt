@@ -8,7 +8,8 @@ ghost use Rattle.search_laws.specs.Forms.{AllForms};
 ghost use Rattle.search_laws.specs.Moves.{decided, verdict_of};
 ghost use Rattle.linear_prover.specs.Plain.{plain_verdict, plain_outcome};
 ghost use Rattle.linear_prover.specs.Ready.{IsBelow};
-ghost use Rattle.linear_prover.specs.Verdicts.{IsRight};
+ghost use Rattle.linear_prover.specs.Verdicts.{IsRight, is_valid};
+ghost use Rattle.shared_search.specs.Books.{Knows};
 
 use crate::entries::look_at;
 use crate::problems::node_of;
@@ -16,11 +17,15 @@ use crate::verdict::{Failure, Verdict};
 use crate::walk::{Outcome, walk};
 use control_states::Components;
 use farkas_check::problems::first_problem;
+use shared_search::{Book, certificate, find};
 use st_form::{Condition, Variable};
 use st_memory::Memory;
 use std::alloc::Global;
 
 const MOST_LEVELS: u32 = 400;
+
+/// At most so many lists of conjuncts are searched before the problems are.
+const MOST_LISTS: u32 = 100000;
 
 /// What the walk says; its path is kept from the last step to the first.
 fn verdict_of(outcome: Outcome) -> Verdict
@@ -38,9 +43,8 @@ fn verdict_of(outcome: Outcome) -> Verdict
     }
 }
 
-/// Searches for a certificate of a condition. There are fewer than 2^32 variables, the condition's variables are among
-/// them, and its numbers are below 2^69 in size, as the check of certificates asks.
-pub fn decide(
+/// Searches for a certificate of a condition over problems, which tells the path to one that is left open.
+fn over_problems(
     alloc: Global,
     components: &Components,
     variables: &[Variable],
@@ -67,4 +71,60 @@ pub fn decide(
     let node = node_of(alloc, &problem)?;
     let outcome = walk(alloc, &*components, variables, &node, MOST_LEVELS, 0)?;
     Ok(verdict_of(outcome))
+}
+
+/// Searches for a certificate of a condition: first over lists of conjuncts, as far as the book goes, and where that gives
+/// none, over problems. There are fewer than 2^32 variables, the condition's variables are among them, and its numbers are
+/// below 2^69 in size, as the check of certificates asks.
+pub fn decide(
+    alloc: Global,
+    book: &mut Book,
+    components: &Components,
+    variables: &[Variable],
+    condition: &Condition,
+) -> Result<Verdict, Memory>
+    requires few { length variables.now < 2 ^ 32 }
+    requires given { IsNarrow (plain condition.now.given) }
+    requires shown { IsNarrow (plain condition.now.shown) }
+    requires given_below { AllForms (IsBelow (length variables.now)) (plain condition.now.given) }
+    requires shown_below { AllForms (IsBelow (length variables.now)) (plain condition.now.shown) }
+    requires knows { Knows (setting components.now variables.now) book.old }
+    ensures knows { Knows (setting components.now variables.now) book.new }
+    ensures exact { IfOk result (λ v. plain_verdict v
+        ≡ decided (setting components.now variables.now) (plain condition.now.given) (plain condition.now.shown)) }
+    ensures right { IfOk result (λ v. IsRight (setting components.now variables.now) (plain condition.now.given) (plain condition.now.shown) v) }
+{
+    look_at(&condition.given);
+    look_at(&condition.shown);
+    if let Some(number) = find(alloc, book, components, variables, condition, MOST_LISTS)? {
+        return Ok(Verdict::Valid(certificate(alloc, book, number)?));
+    }
+    over_problems(alloc, components, variables, condition)
+}
+
+/// Whether the verdict on a condition is that it is valid. No certificate is made where lists of conjuncts tell it.
+pub fn is_decided_valid(
+    alloc: Global,
+    book: &mut Book,
+    components: &Components,
+    variables: &[Variable],
+    condition: &Condition,
+) -> Result<bool, Memory>
+    requires few { length variables.now < 2 ^ 32 }
+    requires given { IsNarrow (plain condition.now.given) }
+    requires shown { IsNarrow (plain condition.now.shown) }
+    requires given_below { AllForms (IsBelow (length variables.now)) (plain condition.now.given) }
+    requires shown_below { AllForms (IsBelow (length variables.now)) (plain condition.now.shown) }
+    requires knows { Knows (setting components.now variables.now) book.old }
+    ensures knows { Knows (setting components.now variables.now) book.new }
+    ensures exact { IfOk result (λ yes. yes ≡ is_valid (decided (setting components.now variables.now) (plain condition.now.given) (plain condition.now.shown))) }
+{
+    if let Some(_) = find(alloc, book, components, variables, condition, MOST_LISTS)? {
+        return Ok(true);
+    }
+    match over_problems(alloc, components, variables, condition)? {
+        Verdict::Valid(_) => Ok(true),
+        Verdict::Open(_, _) => Ok(false),
+        Verdict::Wide(_, _) => Ok(false),
+    }
 }

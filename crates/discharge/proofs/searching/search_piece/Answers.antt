@@ -23,11 +23,12 @@ loop-left-preserved c =
     let some : 0 < n = omega (arith, c.loop-left-test.true) in
     let whole : List Bool = marks k (dealt c.args.share c.args.conditions.now) in
     record {
+      knows = c.in_ok-is_decided_valid.ensures.knows;
       searchable = subst (AreSearchable (length c.args.variables.now)) (sym c.behind-rest.ensures) (right-searchable (length c.args.variables.now) s c.loop-left.rest.now c.loop-left.invariant.searchable);
       marks = subst (λ (l : List Condition). c.push.new.self.items ++ marks k (every s (n - 1) l) ≡ whole) (sym c.behind-rest.ensures)
           (marks_more k whole c.loop-left.found.items c.push.new.self.items _ _ c.in-Some.condition.now c.in_ok-is_decided_valid.field-0
           (every_next s n c.loop-left.rest.now c.in-Some.field-0-1.now c.in-Some.condition.now some c.in-Some.ensures.cases.0) c.in_ok-push.ensures.items
-          c.in_ok-is_decided_valid.ensures c.loop-left.invariant.marks);
+          c.in_ok-is_decided_valid.ensures.exact c.loop-left.invariant.marks);
     }
 
 pub returns : goal.returns

@@ -1,5 +1,6 @@
 use Rattle.std.proofs.Common.{◌≡◌, ◌++◌, length}
 use Rattle.farkas_check.specs.PlainProblem.{setting}
+use Rattle.shared_search.specs.Books.{Knows}
 use Rattle.discharge.specs.Dealt.{every, dealt}
 use Rattle.discharge.specs.Verdicts.{AreSearchable}
 use Rattle.discharge.specs.Searched.{marks}
@@ -7,6 +8,7 @@ use Rattle.discharge.proofs.searching.search_piece.Given as goal
 
 abbrev pub invariant-loop-left : goal.invariant-loop-left
 invariant-loop-left l = record {
+  knows : Knows (setting l.components l.variables) l.book;
   searchable : AreSearchable (length l.variables) l.rest;
   marks : l.found.items ++ marks (setting l.components l.variables) (every l.share.stride l.left l.rest) ≡ marks (setting l.components l.variables) (dealt l.share l.conditions);
 }

@@ -38,9 +38,7 @@ fn search_piece(
         let Some((condition, _)) = rest.split_first() else {
             return Ok(found);
         };
-        found.push(is_decided_valid(
-            alloc, &mut book, components, variables, condition,
-        )?)?;
+        found.push(is_decided_valid(alloc, &mut book, components, variables, condition)?)?;
         rest = behind(rest, share.stride);
         left -= 1;
     }

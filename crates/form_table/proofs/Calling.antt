@@ -1,5 +1,5 @@
 -- What callers of a table cite.
-use Rattle.std.proofs.Common.{◌≡◌, ℕ, ◌<◌, ◌≤◌, List, length, refl, ap, subst, ◌∙◌, sym, arith}
+use Rattle.std.proofs.Common.{◌≡◌, ℕ, List, refl, ap, subst, ◌∙◌, sym, arith}
 use Rattle.st_form.specs.Formula.{Formula, Formulas, every}
 use Rattle.st_form.specs.Simple.{opened}
 use Rattle.form_table.specs.Table.{formula, Is, Extends}

@@ -1,7 +1,7 @@
 -- The first disjunction among conjuncts, and the parts of a disjunct.
-use Rattle.std.proofs.Common.{◌≡◌, ℕ, ◌+◌, ◌-◌, ◌<◌, ◌≤◌, Bool, true, false, List, [], ◌∷◌, ◌++◌, length, take, drop, get_or, refl, ap, ◌∙◌, sym, Option, Some, None, arith}
+use Rattle.std.proofs.Common.{◌≡◌, ℕ, ◌+◌, ◌<◌, ◌≤◌, Bool, true, false, List, [], ◌∷◌, length, take, drop, get_or, refl, ap, ◌∙◌, sym, Option, Some, None, arith}
 use Rattle.std.proofs.lemmas.List.{drop_more, drop_all, take_more}
-use Rattle.st_form.specs.Formula.{Formula, Formulas, truth_value, row, equal, bool_var, at, every, some, none, more}
+use Rattle.st_form.specs.Formula.{Formula, Formulas, truth_value, row, equal, bool_var, at, some, none, more}
 use Rattle.st_form.specs.Simple.{append, opened, signed}
 use Rattle.farkas_check.specs.Problem.{disjuncts_of, in_place, split_by, split_from}
 use Rattle.form_table.specs.Table.{formula, listed, AreThere}

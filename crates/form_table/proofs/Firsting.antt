@@ -1,11 +1,11 @@
 -- The first location and the first boolean variable of nodes and of parts.
 use Rattle.std.proofs.Common.{◌≡◌, ℕ, ◌+◌, ◌<◌, ◌≤◌, Bool, true, false, List, length, drop, get_or, refl, ap, ◌∙◌, sym, Option, Some, None}
 use Rattle.std.proofs.lemmas.List.{drop_all, drop_more}
-use Rattle.st_form.specs.Formula.{Formula, truth_value, row, equal, bool_var, at, every, some, more}
+use Rattle.st_form.specs.Formula.{Formula, bool_var, at}
 use Rattle.st_form.specs.Simple.{signed}
 use Rattle.search_laws.specs.Moves.{or_else, first_place, first_place_of, first_truth, first_truth_of}
 use Rattle.form_table.specs.Table.{formula, listed}
-use Rattle.form_table.specs.Nodes.{IsNode, Kept, formulas_in, parts_at, line}
+use Rattle.form_table.specs.Nodes.{IsNode, Kept, formulas_in, parts_at}
 use Rattle.form_table.specs.declared.nodes.Node.TheVariants.{Truth, Row, Equal, BoolVar, At, And, Or}
 
 place-signed-bool : (plus : Bool) (v : ℕ) → first_place (signed plus (bool_var v)) ≡ None

@@ -10,3 +10,4 @@ pub mod Listing
 pub mod Dividing
 pub mod Placing
 pub mod Calling
+pub mod Pushing

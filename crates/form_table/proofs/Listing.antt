@@ -3,10 +3,10 @@ use Rattle.std.proofs.Common.{◌≡◌, ℕ, ◌+◌, ◌<◌, ◌≤◌, Bool,
 use Rattle.std.proofs.lemmas.List.{append-nil, drop_all, drop_more}
 use Rattle.st_linear.specs.Linear.{Linear}
 use Rattle.st_linear.specs.declared.rows.Line.{Line}
-use Rattle.st_form.specs.Formula.{Formula, Formulas, truth_value, row, equal, bool_var, at, negation, every, some, none, more}
+use Rattle.st_form.specs.Formula.{Formula, Formulas, truth_value, row, equal, bool_var, at, negation, every, some, none}
 use Rattle.st_form.specs.Simple.{opened, signed}
 use Rattle.farkas_check.specs.Problem.{lines_with, lines_of}
-use Rattle.form_table.specs.Table.{formula, listed, Is}
+use Rattle.form_table.specs.Table.{formula, listed}
 use Rattle.form_table.specs.Nodes.{IsNode, Kept, formulas_in, parts_at, line}
 use Rattle.form_table.specs.Lists.{IsList, conjuncts_of}
 use Rattle.form_table.specs.declared.nodes.Node.TheVariants.{Truth, Row, Equal, BoolVar, At, And, Or}

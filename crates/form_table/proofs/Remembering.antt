@@ -1,5 +1,5 @@
 -- What is remembered stays right while a table grows.
-use Rattle.std.proofs.Common.{◌≡◌, ℕ, ◌<◌, true, List, [], length, get_or, ap, subst, ◌∙◌, sym, All, Option, Some, None, arith}
+use Rattle.std.proofs.Common.{◌≡◌, ℕ, ◌<◌, true, List, [], length, get_or, ap, subst, ◌∙◌, sym, Option, Some, None, arith}
 use Rattle.std.specs.Prelude.{replicate, slice_set}
 use Rattle.std.proofs.lemmas.List.Elements.{All-weaker, All-set, All-replicate, All-nil}
 use Rattle.st_form.specs.Formula.{Formula}

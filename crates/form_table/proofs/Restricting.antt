@@ -1,16 +1,13 @@
 -- Conjunctions and disjunctions under decisions.
-use Rattle.std.proofs.Common.{◌≡◌, ℕ, ◌+◌, ◌<◌, ◌≤◌, Bool, true, false, not, List, [], ◌∷◌, length, drop, get_or, refl, ap, ◌∙◌, sym, All, Option, Some, None, arith}
+use Rattle.std.proofs.Common.{◌≡◌, ℕ, ◌+◌, ◌<◌, ◌≤◌, Bool, true, false, List, [], ◌∷◌, length, drop, get_or, refl, ap, ◌∙◌, sym, All, Option, Some, None, arith}
 use Rattle.std.specs.Option.{option_map}
-use Rattle.std.specs.declared.vec.Vec.{Vec}
-use Rattle.std.specs.declared.alloc.Global.{Global}
 use Rattle.std.proofs.lemmas.List.{drop_all, drop_more}
 use Rattle.st_form.specs.Formula.{Formula, Formulas, none, more}
-use Rattle.st_form.specs.Simple.{append, parts, gathered, closed, joined_parts, simple, simples, TakesPart, Decided}
+use Rattle.st_form.specs.Simple.{append, parts, gathered, joined_parts, simple, simples, TakesPart, Decided}
 use Rattle.st_form.proofs.Simples.{gathered-goes, gathered-stops, append-none}
 use Rattle.form_table.specs.Table.{formula, listed, joined, Is, Extends, AreThere}
 use Rattle.form_table.specs.Nodes.{IsNode, Kept, formulas_in, parts_at}
 use Rattle.form_table.specs.Contents.{Choice, decision_at}
-use Rattle.form_table.specs.Lists.{listed_in}
 use Rattle.form_table.specs.Memory.{IsEntry}
 use Rattle.form_table.specs.declared.memos.Entry.{Entry}
 use Rattle.form_table.specs.declared.nodes.Node.TheVariants.{And, Or}

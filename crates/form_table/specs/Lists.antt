@@ -1,9 +1,8 @@
 -- Lists of conjuncts by number: the number of a list is that of the conjunction of its conjuncts, also where there are none
 -- or one.
-use Rattle.std.specs.Prelude.{ℕ, true, List, [], ◌∷◌, length, Option, Some, None}
+use Rattle.std.specs.Prelude.{ℕ, true, List, [], ◌∷◌, Option, Some, None}
 use Rattle.std.specs.declared.vec.Vec.{Vec}
 use Rattle.std.specs.declared.alloc.Global.{Global}
-use Rattle.std.specs.Prelude.{◌≡◌}
 use Rattle.st_form.specs.Formula.{Formula, Formulas, negation, every, none, more}
 use Rattle.st_form.specs.Simple.{opened, parts, simple, nothing}
 use Rattle.form_table.specs.Table.{formula, listed, AreThere, Is}

@@ -1,5 +1,5 @@
 -- What is remembered of formulas under decisions.
-use Rattle.std.specs.Prelude.{ℕ, ◌<◌, true, All, List, length, map, Option, Some, None}
+use Rattle.std.specs.Prelude.{◌<◌, true, All, List, length, map, Option, Some, None}
 use Rattle.st_form.specs.Formula.{Formula}
 use Rattle.st_form.specs.Simple.{simple}
 use Rattle.form_table.specs.Table.{Is, formula}

@@ -1,6 +1,7 @@
 //! Formulas by number. Each formula that was made has a number, and its parts have smaller ones.
 #![tactic(auto)]
 
+mod adding;
 mod beginnings;
 mod choices;
 mod conjuncts;
@@ -9,6 +10,7 @@ mod firsts;
 mod hashes;
 mod lists;
 mod literals;
+mod lookups;
 mod matching;
 mod memos;
 mod nodes;

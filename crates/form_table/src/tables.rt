@@ -5,22 +5,19 @@ ghost use Rattle.std.specs.Prelude.{◌≡◌, ◌<◌, ◌∷◌, ◌++◌, [],
 ghost use Rattle.st_form.specs.Formula.{none};
 ghost use Rattle.st_form.specs.Plain.{plain};
 ghost use Rattle.st_form.specs.Simple.{IsModest, gathered, simples};
-ghost use Rattle.farkas_check.specs.Problem.{lines_of, split_from};
-ghost use Rattle.search_laws.specs.Moves.{first_place_of, first_truth_of};
-ghost use Rattle.form_table.specs.Table.{Extends, listed};
+ghost use Rattle.farkas_check.specs.Problem.{split_from};
+ghost use Rattle.form_table.specs.Table.{Extends};
 ghost use Rattle.form_table.specs.Contents.{Grows, decision_at, formulas_of};
 ghost use Rattle.form_table.specs.Lists.{AreSplit, IsList, IsListed, conjuncts_of, first_conjuncts};
 
 use crate::beginnings::first_list;
 use crate::choices::Decision;
-use crate::conjuncts::{conjuncts, lines_of};
-use crate::firsts::{first_place_of, first_truth_of};
 use crate::lists::under_list;
 use crate::memos::{Memo, forget, no_memo};
 use crate::pools::{Pool, new_pool};
 use crate::splitting::split;
 use crate::stores::number_of;
-use st_form::{Form, Line};
+use st_form::Form;
 use st_memory::Memory;
 use std::alloc::Global;
 use std::marker::Model;
@@ -28,9 +25,9 @@ use std::marker::Model;
 /// Formulas by number, the decisions under which they may be asked for, and what was found of formulas under decisions.
 #[derive(Drop)]
 pub struct Table {
-    pool: Pool,
-    memo: Memo,
-    decisions: Vec<Decision>,
+    pub(crate) pool: Pool,
+    pub(crate) memo: Memo,
+    pub(crate) decisions: Vec<Decision>,
 }
 
 impl Model for Table {
@@ -55,18 +52,6 @@ impl Table {
             memo: no_memo(alloc),
             decisions: Vec::new(alloc),
         })
-    }
-
-    /// How many formulas there are.
-    pub fn size(&self) -> usize
-        ensures { result ≡ length (formulas_of self.now) }
-    {
-        self.pool.store.size()
-    }
-
-    /// How many parts of conjunctions and disjunctions are kept.
-    pub fn part_count(&self) -> usize {
-        self.pool.store.part_count()
     }
 
     /// Adds a decision, and gives its number.
@@ -100,14 +85,6 @@ impl Table {
         first_list(alloc, &mut self.pool, given, shown)
     }
 
-    /// The conjuncts of a list.
-    pub fn conjuncts(&self, list: u32) -> &[u32]
-        requires { IsList (formulas_of self.now) list }
-        ensures { listed (formulas_of self.now) result.now ≡ conjuncts_of (formulas_of self.now) list }
-    {
-        conjuncts(&self.pool.store, list)
-    }
-
     /// The list under a decision, or None where one of its conjuncts is false.
     pub fn under(&mut self, alloc: Global, list: u32, decision: u32) -> Result<Option<u32>, Memory>
         requires list { IsList (formulas_of self.old) list }
@@ -126,24 +103,6 @@ impl Table {
         )
     }
 
-    /// The first location among the conjuncts, from left to right.
-    pub fn first_place(&self, list: u32) -> Option<u32>
-        requires { IsList (formulas_of self.now) list }
-        ensures { result ≡ first_place_of (conjuncts_of (formulas_of self.now) list) }
-    {
-        let parts = conjuncts(&self.pool.store, list);
-        first_place_of(&self.pool.store, list, parts)
-    }
-
-    /// The first boolean variable among the conjuncts, from left to right.
-    pub fn first_truth(&self, list: u32) -> Option<u32>
-        requires { IsList (formulas_of self.now) list }
-        ensures { result ≡ first_truth_of (conjuncts_of (formulas_of self.now) list) }
-    {
-        let parts = conjuncts(&self.pool.store, list);
-        first_truth_of(&self.pool.store, list, parts)
-    }
-
     /// The lists that the first disjunction splits a list into, or None where no conjunct is a disjunction.
     pub fn split(&mut self, alloc: Global, list: u32) -> Result<Option<Vec<u32>>, Memory>
         requires { IsList (formulas_of self.old) list }
@@ -151,13 +110,5 @@ impl Table {
         ensures made { IfOk result (λ o. AreSplit (formulas_of self.new) o (split_from none 0 (conjuncts_of (formulas_of self.old) list))) }
     {
         split(alloc, &mut self.pool, list)
-    }
-
-    /// The lines among the conjuncts.
-    pub fn lines(&self, alloc: Global, list: u32) -> Result<Vec<Line>, Memory>
-        requires { IsList (formulas_of self.now) list }
-        ensures { IfOk result (λ v. v.items ≡ lines_of (conjuncts_of (formulas_of self.now) list)) }
-    {
-        lines_of(alloc, &self.pool.store, conjuncts(&self.pool.store, list))
     }
 }

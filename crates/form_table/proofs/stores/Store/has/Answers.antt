@@ -1,5 +1,5 @@
 use Rattle.std.proofs.Common.{◌<◌, length, arith}
-use Rattle.form_table.proofs.Making.{number-there}
+use Rattle.form_table.proofs.Pushing.{number-there}
 use Rattle.form_table.proofs.stores.Store.has.Goals as goal
 
 pub returns-then-number-len : goal.returns-then-number-len

@@ -1,7 +1,7 @@
 use Rattle.std.proofs.Common.{◌≡◌, length, arith}
 use Rattle.std.proofs.lemmas.Result.{IfOk-weaker}
 use Rattle.form_table.specs.Nodes.{Kept, formulas_in}
-use Rattle.form_table.proofs.Making.{parted, put-below, put-parts, extends-from, joined-and, joined-or}
+use Rattle.form_table.proofs.Pushing.{parted, put-below, put-parts, extends-from, joined-and, joined-or}
 use Rattle.form_table.proofs.stores.Store.join.Goals as goal
 
 pub invariant_of-self-then-all : goal.invariant_of-self-then-all

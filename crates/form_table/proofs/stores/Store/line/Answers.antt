@@ -1,5 +1,5 @@
 use Rattle.std.proofs.Common.{arith}
-use Rattle.form_table.proofs.Making.{line-within, line-is}
+use Rattle.form_table.proofs.Pushing.{line-within, line-is}
 use Rattle.form_table.proofs.stores.Store.line.Goals as goal
 
 pub index-requires : goal.index-requires

@@ -1,5 +1,5 @@
 use Rattle.std.proofs.Common.{arith}
-use Rattle.form_table.proofs.Making.{number-within, node-is}
+use Rattle.form_table.proofs.Pushing.{number-within, node-is}
 use Rattle.form_table.proofs.stores.Store.node.Goals as goal
 
 pub index-requires : goal.index-requires

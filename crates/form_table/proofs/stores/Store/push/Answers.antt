@@ -1,5 +1,5 @@
 use Rattle.std.proofs.Common.{◌≡◌, length, arith}
-use Rattle.form_table.proofs.Making.{pushed}
+use Rattle.form_table.proofs.Pushing.{pushed}
 use Rattle.form_table.proofs.stores.Store.push.Goals as goal
 
 pub invariant_of-self-2 : goal.invariant_of-self-2

@@ -1,4 +1,4 @@
-use Rattle.form_table.proofs.Making.{lined, extends-from}
+use Rattle.form_table.proofs.Pushing.{lined, extends-from}
 use Rattle.form_table.proofs.stores.Store.row.Goals as goal
 
 pub invariant_of-self-2 : goal.invariant_of-self-2

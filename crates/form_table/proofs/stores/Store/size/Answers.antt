@@ -1,5 +1,5 @@
 use Rattle.std.proofs.Common.{arith}
-use Rattle.form_table.proofs.Making.{size-is}
+use Rattle.form_table.proofs.Pushing.{size-is}
 use Rattle.form_table.proofs.stores.Store.size.Goals as goal
 
 pub returns : goal.returns

@@ -1,4 +1,4 @@
-use Rattle.form_table.proofs.Making.{one-is, zero-is}
+use Rattle.form_table.proofs.Pushing.{one-is, zero-is}
 use Rattle.form_table.proofs.stores.Store.truth.Goals as goal
 
 pub returns-then-value : goal.returns-then-value

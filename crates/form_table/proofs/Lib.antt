@@ -1,0 +1,13 @@
+pub mod Making
+pub mod Taking
+pub mod Reading
+pub mod Deciding
+pub mod Hinting
+pub mod Remembering
+pub mod Restricting
+pub mod Firsting
+pub mod Listing
+pub mod Dividing
+pub mod Placing
+pub mod Calling
+pub mod Pushing

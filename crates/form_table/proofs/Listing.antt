@@ -1,0 +1,108 @@
+-- The conjuncts of a list, and their lines.
+use Rattle.std.proofs.Common.{◌≡◌, ℕ, ◌+◌, ◌<◌, ◌≤◌, Bool, true, false, List, [], ◌∷◌, ◌++◌, length, drop, get_or, refl, ap, ◌∙◌, sym, append_assoc, All}
+use Rattle.std.proofs.lemmas.List.{append-nil, drop_all, drop_more}
+use Rattle.st_linear.specs.Linear.{Linear}
+use Rattle.st_linear.specs.declared.rows.Line.{Line}
+use Rattle.st_form.specs.Formula.{Formula, Formulas, truth_value, row, equal, bool_var, at, negation, every, some, none}
+use Rattle.st_form.specs.Simple.{opened, signed}
+use Rattle.farkas_check.specs.Problem.{lines_with, lines_of}
+use Rattle.form_table.specs.Table.{formula, listed}
+use Rattle.form_table.specs.Nodes.{IsNode, Kept, formulas_in, parts_at, line}
+use Rattle.form_table.specs.Lists.{IsList, conjuncts_of}
+use Rattle.form_table.specs.declared.nodes.Node.TheVariants.{Truth, Row, Equal, BoolVar, At, And, Or}
+
+-- a list is a conjunction and nothing else
+clash-signed-bool : (plus : Bool) (v : ℕ) (gs : Formulas) → signed plus (bool_var v) ≡ every gs → ⊥
+clash-signed-bool true v gs e = absurd (cc)
+clash-signed-bool false v gs e = absurd (cc)
+
+clash-signed-at : (plus : Bool) (l : ℕ) (gs : Formulas) → signed plus (at l) ≡ every gs → ⊥
+clash-signed-at true l gs e = absurd (cc)
+clash-signed-at false l gs e = absurd (cc)
+
+pub list-truth : (t : Kept) (n : ℕ) (b : Bool) → IsNode t n (Truth b) → IsList (formulas_in t) n → none ≡ conjuncts_of (formulas_in t) n
+list-truth t n b h k = let e : truth_value b ≡ every (conjuncts_of (formulas_in t) n) = sym h.same ∙ k.1 in absurd (cc)
+
+pub list-row : (t : Kept) (n l : ℕ) → IsNode t n (Row l) → IsList (formulas_in t) n → none ≡ conjuncts_of (formulas_in t) n
+list-row t n l h k = let e : row (line t.lines l) ≡ every (conjuncts_of (formulas_in t) n) = sym h.same ∙ k.1 in absurd (cc)
+
+pub list-equal : (t : Kept) (n l : ℕ) → IsNode t n (Equal l) → IsList (formulas_in t) n → none ≡ conjuncts_of (formulas_in t) n
+list-equal t n l h k = let e : equal (line t.lines l) ≡ every (conjuncts_of (formulas_in t) n) = sym h.same ∙ k.1 in absurd (cc)
+
+pub list-bool : (t : Kept) (n v : ℕ) (plus : Bool) → IsNode t n (BoolVar v plus) → IsList (formulas_in t) n → none ≡ conjuncts_of (formulas_in t) n
+list-bool t n v plus h k = absurd (clash-signed-bool plus v _ (sym h.same ∙ k.1))
+
+pub list-at : (t : Kept) (n l : ℕ) (plus : Bool) → IsNode t n (At l plus) → IsList (formulas_in t) n → none ≡ conjuncts_of (formulas_in t) n
+list-at t n l plus h k = absurd (clash-signed-at plus l _ (sym h.same ∙ k.1))
+
+pub list-or : (t : Kept) (n a b : ℕ) → IsNode t n (Or a b) → IsList (formulas_in t) n → none ≡ conjuncts_of (formulas_in t) n
+list-or t n a b h k = let e : some (listed (formulas_in t) (parts_at t.parts a b)) ≡ every (conjuncts_of (formulas_in t) n) = sym h.same ∙ k.1 in absurd (cc)
+
+pub list-and : (t : Kept) (n a b : ℕ) → IsNode t n (And a b) → listed (formulas_in t) (parts_at t.parts a b) ≡ conjuncts_of (formulas_in t) n
+list-and t n a b h = sym (ap opened h.same)
+
+pub list-below : (t : Kept) (n a b : ℕ) → IsNode t n (And a b) → All (λ k. k < n) (parts_at t.parts a b)
+list-below t n a b h = h.formed.below
+
+pub list-within : (t : Kept) (n a b : ℕ) → IsNode t n (And a b) → a + b ≤ length t.parts
+list-within t n a b h = h.formed.within
+
+pub ruleset listing = (list-truth, list-row, list-equal, list-bool, list-at, list-or, list-and, list-below, list-within)
+
+-- ---- lines
+no-line : (out : List Line) (f g : Formula) → f ≡ g → lines_with g [] ≡ [] → out ≡ out ++ lines_with f []
+no-line out f g e h = sym (append-nil out) ∙ ap (λ l. out ++ l) (sym h) ∙ ap (λ x. out ++ lines_with x []) (sym e)
+
+signed-bool-line : (plus : Bool) (v : ℕ) → lines_with (signed plus (bool_var v)) [] ≡ []
+signed-bool-line true v = refl
+signed-bool-line false v = refl
+
+signed-at-line : (plus : Bool) (l : ℕ) → lines_with (signed plus (at l)) [] ≡ []
+signed-at-line true l = refl
+signed-at-line false l = refl
+
+pub line-truth : (t : Kept) (n : ℕ) (b : Bool) (out : List Line) → IsNode t n (Truth b) → out ≡ out ++ lines_with (formula (formulas_in t) n) []
+line-truth t n b out h = no-line out _ (truth_value b) h.same refl
+
+pub line-bool : (t : Kept) (n v : ℕ) (plus : Bool) (out : List Line) → IsNode t n (BoolVar v plus) → out ≡ out ++ lines_with (formula (formulas_in t) n) []
+line-bool t n v plus out h = no-line out _ (signed plus (bool_var v)) h.same (signed-bool-line plus v)
+
+pub line-at : (t : Kept) (n l : ℕ) (plus : Bool) (out : List Line) → IsNode t n (At l plus) → out ≡ out ++ lines_with (formula (formulas_in t) n) []
+line-at t n l plus out h = no-line out _ (signed plus (at l)) h.same (signed-at-line plus l)
+
+pub line-and : (t : Kept) (n a b : ℕ) (out : List Line) → IsNode t n (And a b) → out ≡ out ++ lines_with (formula (formulas_in t) n) []
+line-and t n a b out h = no-line out _ (every (listed (formulas_in t) (parts_at t.parts a b))) h.same refl
+
+pub line-or : (t : Kept) (n a b : ℕ) (out : List Line) → IsNode t n (Or a b) → out ≡ out ++ lines_with (formula (formulas_in t) n) []
+line-or t n a b out h = no-line out _ (some (listed (formulas_in t) (parts_at t.parts a b))) h.same refl
+
+pub line-row : (t : Kept) (n l : ℕ) (out new : List Line) (f : Linear) → IsNode t n (Row l) → f ≡ line t.lines l → new ≡ out ++ record { form = f; equal = false } ∷ []
+    → new ≡ out ++ lines_with (formula (formulas_in t) n) []
+line-row t n l out new f h e k = k ∙ ap (λ g. out ++ lines_with (row g) []) e ∙ ap (λ x. out ++ lines_with x []) (sym h.same)
+
+pub line-equal : (t : Kept) (n l : ℕ) (out new : List Line) (f : Linear) → IsNode t n (Equal l) → f ≡ line t.lines l → new ≡ out ++ record { form = f; equal = true } ∷ []
+    → new ≡ out ++ lines_with (formula (formulas_in t) n) []
+line-equal t n l out new f h e k = k ∙ ap (λ g. out ++ lines_with (equal g) []) e ∙ ap (λ x. out ++ lines_with x []) (sym h.same)
+
+pub ruleset lining = (line-truth, line-bool, line-at, line-and, line-or, line-row, line-equal)
+
+lines_with-front : (f : Formula) (rest : List Line) → lines_with f rest ≡ lines_with f [] ++ rest
+lines_with-front (row f) rest = refl
+lines_with-front (equal f) rest = refl
+lines_with-front (truth_value b) rest = refl
+lines_with-front (bool_var v) rest = refl
+lines_with-front (at l) rest = refl
+lines_with-front (negation f) rest = refl
+lines_with-front (every fs) rest = refl
+lines_with-front (some fs) rest = refl
+
+pub lines-next : (ts : List Formula) (ns : List ℕ) (i : ℕ) (out m whole : List Line) → i < length ns → m ≡ out ++ lines_with (formula ts (get_or ns i 0)) []
+    → out ++ lines_of (listed ts (drop i ns)) ≡ whole → m ++ lines_of (listed ts (drop (i + 1) ns)) ≡ whole
+lines-next ts ns i out m whole l e h =
+    ap (λ x. x ++ lines_of (listed ts (drop (i + 1) ns))) e
+    ∙ append_assoc out (lines_with (formula ts (get_or ns i 0)) []) (lines_of (listed ts (drop (i + 1) ns)))
+    ∙ ap (λ x. out ++ x) (sym (lines_with-front (formula ts (get_or ns i 0)) (lines_of (listed ts (drop (i + 1) ns)))))
+    ∙ sym (ap (λ x. out ++ lines_of (listed ts x)) (drop_more ns i 0 l)) ∙ h
+
+pub lines-end : (ts : List Formula) (ns : List ℕ) (i : ℕ) (out whole : List Line) → length ns ≤ i → out ++ lines_of (listed ts (drop i ns)) ≡ whole → out ≡ whole
+lines-end ts ns i out whole l h = sym (append-nil out) ∙ sym (ap (λ x. out ++ lines_of (listed ts x)) (drop_all i ns l)) ∙ h

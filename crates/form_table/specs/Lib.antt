@@ -1,0 +1,5 @@
+pub mod Table
+pub mod Nodes
+pub mod Contents
+pub mod Lists
+pub mod Memory

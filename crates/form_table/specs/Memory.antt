@@ -1,0 +1,25 @@
+-- What is remembered of formulas under decisions.
+use Rattle.std.specs.Prelude.{◌<◌, true, All, List, length, map, Option, Some, None}
+use Rattle.st_form.specs.Formula.{Formula}
+use Rattle.st_form.specs.Simple.{simple}
+use Rattle.form_table.specs.Table.{Is, formula}
+use Rattle.form_table.specs.Contents.{Choice, decision_at}
+use Rattle.form_table.specs.declared.choices.Decision.{Decision}
+use Rattle.form_table.specs.declared.memos.Entry.{Entry}
+
+abbrev pub choice_of : Decision → Choice
+choice_of d = record { truths = d.truths.items; places = d.places.items }
+
+abbrev pub choices : List Decision → List Choice
+choices ds = map choice_of ds
+
+-- the formula under the decision has that number
+abbrev pub IsEntry : List Formula → List Choice → Entry → Type 0
+IsEntry ts cs e = (e.number < length ts) × Is ts e.simple (simple (decision_at cs e.decision) (formula ts e.number) true)
+
+abbrev pub IsFree : List Formula → List Choice → Option Entry → Type 0
+IsFree ts cs None = Unit {0}
+IsFree ts cs (Some e) = IsEntry ts cs e
+
+pub record Remembers (ts : List Formula) (cs : List Choice) (es : List (Option Entry)) : Type 0 where
+  pub each : All (λ o. IsFree ts cs o) es

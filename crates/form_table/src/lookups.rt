@@ -1,0 +1,63 @@
+//! What stands in a table.
+
+ghost use Rattle.std.specs.Prelude.{◌≡◌, IfOk, length};
+ghost use Rattle.farkas_check.specs.Problem.{lines_of};
+ghost use Rattle.search_laws.specs.Moves.{first_place_of, first_truth_of};
+ghost use Rattle.form_table.specs.Table.{listed};
+ghost use Rattle.form_table.specs.Contents.{formulas_of};
+ghost use Rattle.form_table.specs.Lists.{IsList, conjuncts_of};
+
+use crate::conjuncts::{conjuncts, lines_of};
+use crate::firsts::{first_place_of, first_truth_of};
+use crate::tables::Table;
+use st_form::Line;
+use st_memory::Memory;
+use std::alloc::Global;
+
+impl Table {
+    /// How many formulas there are.
+    pub fn size(&self) -> usize
+        ensures { result ≡ length (formulas_of self.now) }
+    {
+        self.pool.store.size()
+    }
+
+    /// How many parts of conjunctions and disjunctions are kept.
+    pub fn part_count(&self) -> usize {
+        self.pool.store.part_count()
+    }
+
+    /// The conjuncts of a list.
+    pub fn conjuncts(&self, list: u32) -> &[u32]
+        requires { IsList (formulas_of self.now) list }
+        ensures { listed (formulas_of self.now) result.now ≡ conjuncts_of (formulas_of self.now) list }
+    {
+        conjuncts(&self.pool.store, list)
+    }
+
+    /// The first location among the conjuncts, from left to right.
+    pub fn first_place(&self, list: u32) -> Option<u32>
+        requires { IsList (formulas_of self.now) list }
+        ensures { result ≡ first_place_of (conjuncts_of (formulas_of self.now) list) }
+    {
+        let parts = conjuncts(&self.pool.store, list);
+        first_place_of(&self.pool.store, list, parts)
+    }
+
+    /// The first boolean variable among the conjuncts, from left to right.
+    pub fn first_truth(&self, list: u32) -> Option<u32>
+        requires { IsList (formulas_of self.now) list }
+        ensures { result ≡ first_truth_of (conjuncts_of (formulas_of self.now) list) }
+    {
+        let parts = conjuncts(&self.pool.store, list);
+        first_truth_of(&self.pool.store, list, parts)
+    }
+
+    /// The lines among the conjuncts.
+    pub fn lines(&self, alloc: Global, list: u32) -> Result<Vec<Line>, Memory>
+        requires { IsList (formulas_of self.now) list }
+        ensures { IfOk result (λ v. v.items ≡ lines_of (conjuncts_of (formulas_of self.now) list)) }
+    {
+        lines_of(alloc, &self.pool.store, conjuncts(&self.pool.store, list))
+    }
+}

@@ -1,0 +1,114 @@
+//! Formulas and lists of conjuncts by number. Equal formulas get equal numbers as far as the index finds them, so the work for a list
+//! of conjuncts is done once.
+
+ghost use Rattle.std.specs.Prelude.{◌≡◌, ◌<◌, ◌∷◌, ◌++◌, [], IfOk, length, true};
+ghost use Rattle.st_form.specs.Formula.{none};
+ghost use Rattle.st_form.specs.Plain.{plain};
+ghost use Rattle.st_form.specs.Simple.{IsModest, gathered, simples};
+ghost use Rattle.farkas_check.specs.Problem.{split_from};
+ghost use Rattle.form_table.specs.Table.{Extends};
+ghost use Rattle.form_table.specs.Contents.{Grows, decision_at, formulas_of};
+ghost use Rattle.form_table.specs.Lists.{AreSplit, IsList, IsListed, conjuncts_of, first_conjuncts};
+
+use crate::beginnings::first_list;
+use crate::choices::Decision;
+use crate::lists::under_list;
+use crate::memos::{Memo, forget, no_memo};
+use crate::pools::{Pool, new_pool};
+use crate::splitting::split;
+use crate::stores::number_of;
+use st_form::Form;
+use st_memory::Memory;
+use std::alloc::Global;
+use std::marker::Model;
+
+/// Formulas by number, the decisions under which they may be asked for, and what was found of formulas under decisions.
+#[derive(Drop)]
+pub struct Table {
+    pub(crate) pool: Pool,
+    pub(crate) memo: Memo,
+    pub(crate) decisions: Vec<Decision>,
+}
+
+impl Model for Table {
+    ghost use Rattle.form_table.specs.Nodes.{formulas_in};
+    ghost use Rattle.form_table.specs.Contents.{Contents};
+    ghost use Rattle.form_table.specs.Memory.{Remembers, choices};
+
+    ghost Value = { Contents };
+
+    ghost view = { λ t. record { kept = t.pool.store; decisions = choices t.decisions.items } };
+
+    ghost invariant = { λ t. Remembers (formulas_in t.pool.store) (choices t.decisions.items) t.memo.entries.items };
+}
+
+impl Table {
+    /// A table of the two truth values, without decisions.
+    pub fn new(alloc: Global) -> Result<Table, Memory>
+        ensures { IfOk result (λ t. t.decisions ≡ []) }
+    {
+        Ok(Table {
+            pool: new_pool(alloc)?,
+            memo: no_memo(alloc),
+            decisions: Vec::new(alloc),
+        })
+    }
+
+    /// Adds a decision, and gives its number.
+    pub fn add(
+        &mut self,
+        truths: Vec<Option<bool>>,
+        places: Vec<Option<bool>>,
+    ) -> Result<u32, Memory>
+        ensures formulas { Extends (formulas_of self.old) (formulas_of self.new) }
+        ensures number { IfOk result (λ n. n ≡ length self.old.decisions) }
+        ensures made { IfOk result (λ _. self.new.decisions ≡ self.old.decisions ++ record { truths = truths.items; places = places.items } ∷ []) }
+    {
+        let number = number_of(self.decisions.len())?;
+        forget(&mut self.memo);
+        self.decisions.push(Decision { truths, places })?;
+        Ok(number)
+    }
+
+    /// The list of a condition's conjuncts, or None where one of them is false.
+    pub fn first_list(
+        &mut self,
+        alloc: Global,
+        given: &Form,
+        shown: &Form,
+    ) -> Result<Option<u32>, Memory>
+        requires given { IsModest (plain given.now) }
+        requires shown { IsModest (plain shown.now) }
+        ensures grows { Grows self.old self.new }
+        ensures made { IfOk result (λ o. IsListed (formulas_of self.new) o (first_conjuncts (plain given.now) (plain shown.now))) }
+    {
+        first_list(alloc, &mut self.pool, given, shown)
+    }
+
+    /// The list under a decision, or None where one of its conjuncts is false.
+    pub fn under(&mut self, alloc: Global, list: u32, decision: u32) -> Result<Option<u32>, Memory>
+        requires list { IsList (formulas_of self.old) list }
+        requires decision { decision < length self.old.decisions }
+        ensures grows { Grows self.old self.new }
+        ensures made { IfOk result (λ o. IsListed (formulas_of self.new) o
+            (gathered true (simples (decision_at self.old.decisions decision) (conjuncts_of (formulas_of self.old) list) true))) }
+    {
+        under_list(
+            alloc,
+            &mut self.pool,
+            &mut self.memo,
+            self.decisions.as_slice(),
+            decision,
+            list,
+        )
+    }
+
+    /// The lists that the first disjunction splits a list into, or None where no conjunct is a disjunction.
+    pub fn split(&mut self, alloc: Global, list: u32) -> Result<Option<Vec<u32>>, Memory>
+        requires { IsList (formulas_of self.old) list }
+        ensures grows { Grows self.old self.new }
+        ensures made { IfOk result (λ o. AreSplit (formulas_of self.new) o (split_from none 0 (conjuncts_of (formulas_of self.old) list))) }
+    {
+        split(alloc, &mut self.pool, list)
+    }
+}

@@ -1,0 +1,5 @@
+pub mod Listing
+pub mod Knowing
+pub mod Moving
+pub mod Deciding
+pub mod Certifying

@@ -1,0 +1,86 @@
+//! Finding the certificate of a condition in a book.
+
+ghost use Rattle.std.specs.Prelude.{◌≡◌, ◌<◌, ◌^◌, IfOk, length, true};
+ghost use Rattle.st_form.specs.Plain.{plain};
+ghost use Rattle.st_certificate.specs.Plain.{plain as tree_of};
+ghost use Rattle.farkas_check.specs.PlainProblem.{setting};
+ghost use Rattle.farkas_check.specs.Limits.{IsNarrow};
+ghost use Rattle.shared_search.specs.Books.{Knows, IsFound, IsThere, tree_in};
+
+use crate::book::Book;
+use crate::walk::walk;
+use control_states::Components;
+use st_certificate::Certificate;
+use st_form::{Condition, Variable};
+use st_memory::Memory;
+use std::alloc::Global;
+
+const MOST_LEVELS: u32 = 400;
+
+/// A book with more formulas is long.
+const LONG: usize = 20000;
+
+/// The number of the certificate that the search finds for a condition, where at most so many lists are searched for it.
+/// With `None` nothing is said.
+pub fn find(
+    alloc: Global,
+    book: &mut Book,
+    components: &Components,
+    variables: &[Variable],
+    condition: &Condition,
+    most: u32,
+) -> Result<Option<u32>, Memory>
+    requires given { IsNarrow (plain condition.now.given) }
+    requires shown { IsNarrow (plain condition.now.shown) }
+    requires knows { Knows (setting components.now variables.now) book.old }
+    ensures knows { Knows (setting components.now variables.now) book.new }
+    ensures found { IfOk result (λ o. IsFound (setting components.now variables.now) (plain condition.now.given) (plain condition.now.shown) book.new o) }
+{
+    if !book.flat {
+        return Ok(None);
+    }
+    book.memo.left = most;
+    let list = book
+        .memo
+        .table
+        .first_list(alloc, &condition.given, &condition.shown)?;
+    match walk(
+        alloc,
+        &mut book.memo,
+        &book.decisions,
+        components,
+        variables,
+        list,
+        MOST_LEVELS,
+    )? {
+        None => Ok(None),
+        Some(tree) => {
+            if book.memo.trees.is_modest(tree) {
+                Ok(Some(tree))
+            } else {
+                Ok(None)
+            }
+        }
+    }
+}
+
+/// The certificate with a number.
+pub fn certificate(alloc: Global, book: &Book, number: u32) -> Result<Certificate, Memory>
+    requires { IsThere book.now number }
+    ensures { IfOk result (λ c. tree_of c ≡ tree_in book.now number) }
+{
+    tree_table::certificate(alloc, &book.memo.trees, number)
+}
+
+/// Whether a certificate is the one with a number.
+pub fn is_same(book: &Book, number: u32, certificate: &Certificate) -> bool
+    requires { IsThere book.now number }
+    ensures { result ≡ true → tree_in book.now number ≡ tree_of certificate.now }
+{
+    tree_table::is_same(certificate, &book.memo.trees, number)
+}
+
+/// Whether a book has grown so long that a new one is quicker.
+pub fn is_long(book: &Book) -> bool {
+    book.memo.table.size() > LONG
+}

@@ -10,6 +10,7 @@ use Rattle.control_states.specs.Place.{place}
 use Rattle.farkas_check.specs.Problem.{decided_by}
 use Rattle.form_table.specs.Contents.{Choice, decision_at}
 use Rattle.shared_search.specs.Books.{AreDecisions, AreKept, IsDecision, IsLonger}
+use Rattle.shared_search.proofs.Listing.{map-push}
 
 pub longer-refl : (ds : List Choice) → IsLonger ds ds
 longer-refl ds = record { longer = omega arith; same = λ n h. refl }
@@ -39,10 +40,6 @@ decisions-later ds es ns xs h k = record {
   there = All-weaker (λ n. n < length ds) (λ n. n < length es) (λ n l. omega (arith, l, h.longer)) ns k.there;
   same = same-later ds es ns h k.there ∙ k.same;
 }
-
-map-push : {A B : Type 0} (f : A → B) (xs : List A) (x : A) → map f (xs ++ x ∷ []) ≡ map f xs ++ f x ∷ []
-map-push f [] x = refl
-map-push f (y ∷ ys) x = ap (λ zs. f y ∷ zs) (map-push f ys x)
 
 pub decisions-push : (ds es : List Choice) (ns : List ℕ) (xs : List Decided) (n : ℕ) (d : Decided) → IsLonger ds es → AreDecisions ds ns xs → IsDecision es n d → AreDecisions es (ns ++ n ∷ []) (xs ++ d ∷ [])
 decisions-push ds es ns xs n d h k i =

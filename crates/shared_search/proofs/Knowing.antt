@@ -19,7 +19,7 @@ use Rattle.shared_search.specs.declared.decisions.Decisions.{Decisions}
 use Rattle.shared_search.specs.declared.memo.Memo.{Memo}
 use Rattle.shared_search.specs.Lists.{conjuncts_at, IfList, HasTree, HaveTrees}
 use Rattle.shared_search.specs.Books.{AreFound, AreNumbered, GrowsTo, Remembers}
-use Rattle.shared_search.proofs.Listing.{conjuncts-later, is-list-later, at-later}
+use Rattle.shared_search.proofs.Listing.{conjuncts-later, is-list-later, at-later, map-push}
 
 pub to-refl : (m : Memo) → GrowsTo m m
 to-refl m = record { table = grows-refl m.table; trees = extends-refl (trees_in m.trees) }
@@ -78,10 +78,6 @@ have-there k us [] [] h = λ i d l. absurd (omega (arith, l))
 have-there k us [] (list ∷ rest) h = absurd h
 have-there k us (n ∷ ns) [] h = absurd h
 have-there k us (n ∷ ns) (list ∷ rest) h = All-cons (λ m. m < length us) n ns h.0.there (have-there k us ns rest h.1)
-
-map-push : {A B : Type 0} (f : A → B) (xs : List A) (x : A) → map f (xs ++ x ∷ []) ≡ map f xs ++ f x ∷ []
-map-push f [] x = refl
-map-push f (y ∷ ys) x = ap (λ zs. f y ∷ zs) (map-push f ys x)
 
 -- a tree more
 pub walk-step : (k : Setting) (old mid new : Memo) (lists : List (Option ℕ)) (i : ℕ) (parts : List ℕ) (t : ℕ) → GrowsTo old mid → GrowsTo mid new → All (IfList (formulas_of old.table)) lists → i < length lists

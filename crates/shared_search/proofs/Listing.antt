@@ -36,7 +36,7 @@ each-later ts us (o ∷ os) h k =
 pub listed-later : (ts us : List Formula) (os : List (Option ℕ)) (lists : List (Option Formulas)) → Extends ts us → AreListed ts os lists → AreListed us os lists
 listed-later ts us os lists h k = record { there = lists-later ts us os h k.there; same = each-later ts us os h k.there ∙ k.same }
 
-map-push : {A B : Type 0} (f : A → B) (xs : List A) (x : A) → map f (xs ++ x ∷ []) ≡ map f xs ++ f x ∷ []
+pub map-push : {A B : Type 0} (f : A → B) (xs : List A) (x : A) → map f (xs ++ x ∷ []) ≡ map f xs ++ f x ∷ []
 map-push f [] x = refl
 map-push f (y ∷ ys) x = ap (λ zs. f y ∷ zs) (map-push f ys x)
 

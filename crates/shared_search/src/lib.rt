@@ -6,8 +6,10 @@
 #![tactic(auto)]
 
 mod book;
+mod choices;
 mod decisions;
 mod finding;
+mod lines;
 mod lists;
 mod memo;
 mod moves;

@@ -12,12 +12,12 @@ ghost use Rattle.sharing_laws.specs.Lists.{list_move, by_owner, by_place, by_var
 ghost use Rattle.shared_search.specs.Books.{AreNumbered};
 ghost use Rattle.shared_search.specs.Moves.{IsMove};
 
+use crate::choices::{by_place, by_variable};
 use crate::decisions::Decisions;
-use crate::lists::{none_false, under_each};
+use crate::lines::refuted;
+use crate::lists::none_false;
 use control_states::Components;
-use farkas_check::decisions::has_truth;
 use form_table::Table;
-use lean_elimination::refute;
 use st_form::Variable;
 use st_memory::Memory;
 use std::alloc::Global;
@@ -33,85 +33,7 @@ pub enum Move {
     Fails,
 }
 
-/// A component is decided, if it is there.
-fn by_component(
-    alloc: Global,
-    table: &mut Table,
-    decisions: &Decisions,
-    components: &Components,
-    variables: &[Variable],
-    list: u32,
-    component: u32,
-) -> Result<Move, Memory>
-    requires list { IsList (formulas_of table.old) list }
-    requires numbered { AreNumbered (setting components.now variables.now) table.old.decisions decisions.now }
-    ensures grows { Grows table.old table.new }
-    ensures made { IfOk result (λ m. IsMove (formulas_of table.new) m
-        (by_owner (setting components.now variables.now) (conjuncts_of (formulas_of table.old) list) (Some component))) }
-{
-    if component >= components.count() {
-        return Ok(Move::Fails);
-    }
-    match decisions.cases.get(component as usize) {
-        None => Ok(Move::Fails),
-        Some(numbers) => {
-            let lists = under_each(alloc, table, list, numbers.as_slice())?;
-            Ok(Move::Divides(Step::Case(component), lists))
-        }
-    }
-}
-
-/// The component of a location is decided.
-fn by_place(
-    alloc: Global,
-    table: &mut Table,
-    decisions: &Decisions,
-    components: &Components,
-    variables: &[Variable],
-    list: u32,
-    location: u32,
-) -> Result<Move, Memory>
-    requires list { IsList (formulas_of table.old) list }
-    requires numbered { AreNumbered (setting components.now variables.now) table.old.decisions decisions.now }
-    ensures grows { Grows table.old table.new }
-    ensures made { IfOk result (λ m. IsMove (formulas_of table.new) m
-        (by_place (setting components.now variables.now) (conjuncts_of (formulas_of table.old) list) (Some location))) }
-{
-    match components.owners().get(location as usize) {
-        None => Ok(Move::Fails),
-        Some(owner) => by_component(alloc, table, decisions, components, variables, list, *owner),
-    }
-}
-
-/// A variable is decided, if it is boolean.
-fn by_variable(
-    alloc: Global,
-    table: &mut Table,
-    decisions: &Decisions,
-    components: &Components,
-    variables: &[Variable],
-    list: u32,
-    var: u32,
-) -> Result<Move, Memory>
-    requires list { IsList (formulas_of table.old) list }
-    requires numbered { AreNumbered (setting components.now variables.now) table.old.decisions decisions.now }
-    ensures grows { Grows table.old table.new }
-    ensures made { IfOk result (λ m. IsMove (formulas_of table.new) m
-        (by_variable (setting components.now variables.now) (conjuncts_of (formulas_of table.old) list) (Some var))) }
-{
-    if !has_truth(variables, var) {
-        return Ok(Move::Fails);
-    }
-    match decisions.truths.get(var as usize) {
-        None => Ok(Move::Fails),
-        Some(numbers) => {
-            let lists = under_each(alloc, table, list, numbers.as_slice())?;
-            Ok(Move::Divides(Step::Truth(var), lists))
-        }
-    }
-}
-
-/// The lines are eliminated, in few bits.
+/// The lines are eliminated.
 fn by_lines(
     alloc: Global,
     table: &Table,
@@ -127,7 +49,7 @@ fn by_lines(
     let Ok(count) = u32::try_from(variables.len()) else {
         return Ok(Move::Fails);
     };
-    match refute(alloc, lines.as_slice(), count)? {
+    match refuted(alloc, lines.as_slice(), count)? {
         Some(picks) => Ok(Move::Closes(picks)),
         None => Ok(Move::Fails),
     }

@@ -4,7 +4,7 @@ use Rattle.farkas_check.specs.PlainProblem.{setting}
 use Rattle.form_table.specs.Contents.{formulas_of}
 use Rattle.form_table.specs.Lists.{conjuncts_of}
 use Rattle.shared_search.proofs.Moving.{by-truth, kept-there}
-use Rattle.shared_search.proofs.moves.by_variable.Goals as goal
+use Rattle.shared_search.proofs.choices.by_variable.Goals as goal
 
 pub under_each-requires-clause-there : goal.under_each-requires-clause-there
 under_each-requires-clause-there c =

@@ -1,45 +1,19 @@
--- The answers of two halves are those of the whole.
-use Rattle.std.proofs.Common.{◌≡◌, ℕ, zero, suc, ◌+◌, ◌-◌, ◌<◌, ◌≤◌, List, [], ◌∷◌, ◌++◌, length, take, drop, get_or, refl, ap, ◌∙◌, sym, subst, Some, None, arith, inl, inr, ◌⊎◌}
-use Rattle.std.specs.Prelude.{slice_get, Result, Ok, IfOk}
-use Rattle.std.proofs.lemmas.List.{length-drop, take-append-drop, take_more, drop_more}
-use Rattle.std.proofs.lemmas.Option.{slice_get_within, slice_get_read}
+-- What is asked of conditions and blocks holds of those behind; the answers of two halves are those of the whole.
+use Rattle.std.proofs.Common.{◌≡◌, ◌∙◌, ℕ, zero, suc, ◌+◌, ◌-◌, ◌/◌, ◌<◌, ◌≤◌, Bool, true, false, List, [], ◌∷◌, ◌++◌, length, take, drop, refl, ap, sym, subst, arith, inl, inr, ◌⊎◌, append_assoc, append-nil}
+use Rattle.std.specs.Prelude.{slice_get, Option, Some, None, IfSome, option_map, nat_le, cond, Result, Ok, Err, IfOk}
+use Rattle.std.proofs.lemmas.Option.{slice_get_within}
+use Rattle.std.proofs.lemmas.Bool.Decides.{nat_tests}
 use Rattle.st_form.specs.declared.conditions.Condition.{Condition}
 use Rattle.cert_text.specs.declared.reader.Block.{Block}
 use Rattle.farkas_check.specs.Problem.{Setting}
 use Rattle.linear_prover.specs.declared.verdict.Verdict.{Verdict}
-use Rattle.discharge.specs.First.{IsCheckable, AreCheckable, Proves, ProveBefore, IsFirstFailing}
+use Rattle.discharge.specs.declared.shares.Share.{Share}
+use Rattle.discharge.specs.Dealt.{every, dealt, left_half, right_half, woven, lesser_place}
+use Rattle.discharge.specs.First.{IsCheckable, AreCheckable, Proves, ProveBefore, Fails, IsFirstFailing}
 use Rattle.discharge.specs.Verdicts.{IsSearchable, AreSearchable, IsAnswer, AreAnswers}
-
--- ---- elements of halves
-nothing-there : (A : Type 0) (i : ℕ) → slice_get {X = A} [] i ≡ None
-nothing-there A zero = refl
-nothing-there A (suc i) = refl
-
-get-left : {A : Type 0} (xs : List A) (m i : ℕ) (x : A) → slice_get (take m xs) i ≡ Some x → (i < m) × (slice_get xs i ≡ Some x)
-get-left {A} xs zero i x h = absurd (let n = nothing-there A i in cc)
-get-left {A} [] (suc m) i x h = absurd (let n = nothing-there A i in cc)
-get-left (y ∷ xs) (suc m) zero x h = (omega arith, h)
-get-left (y ∷ xs) (suc m) (suc i) x h = let r = get-left xs m i x h in let l = r.0 in (omega (arith, l), r.1)
-
-left-get : {A : Type 0} (xs : List A) (m i : ℕ) → i < m → slice_get (take m xs) i ≡ slice_get xs i
-left-get xs zero i h = absurd (omega (arith, h))
-left-get [] (suc m) i h = refl
-left-get (y ∷ xs) (suc m) zero h = refl
-left-get (y ∷ xs) (suc m) (suc i) h = left-get xs m i (omega (arith, h))
-
-get-right : {A : Type 0} (xs : List A) (m i : ℕ) → slice_get (drop m xs) i ≡ slice_get xs (m + i)
-get-right xs zero i = ap (slice_get xs) (let e : i ≡ 0 + i = omega arith in e)
-get-right {A} [] (suc m) i = nothing-there A i ∙ sym (nothing-there A (suc m + i))
-get-right (y ∷ xs) (suc m) i = get-right xs m i ∙ ap (slice_get (y ∷ xs)) (let e : suc (m + i) ≡ suc m + i = omega arith in e)
+use Rattle.discharge.proofs.Dealing.{InTurn, dealt_in_turn, first_there, between_there, every_all, every_within}
 
 -- ---- what is asked
-pub left-checkable : (m : ℕ) (cs : List Condition) (bs : List Block) → AreCheckable cs bs → AreCheckable (take m cs) (take m bs)
-left-checkable zero cs bs h = tt
-left-checkable (suc m) [] [] h = tt
-left-checkable (suc m) [] (b ∷ bs) h = absurd h
-left-checkable (suc m) (c ∷ cs) [] h = absurd h
-left-checkable (suc m) (c ∷ cs) (b ∷ bs) h = (h.0, left-checkable m cs bs h.1)
-
 pub right-checkable : (m : ℕ) (cs : List Condition) (bs : List Block) → AreCheckable cs bs → AreCheckable (drop m cs) (drop m bs)
 right-checkable zero cs bs h = h
 right-checkable (suc m) [] [] h = tt
@@ -47,14 +21,8 @@ right-checkable (suc m) [] (b ∷ bs) h = absurd h
 right-checkable (suc m) (c ∷ cs) [] h = absurd h
 right-checkable (suc m) (c ∷ cs) (b ∷ bs) h = right-checkable m cs bs h.1
 
-pub checkable-at : (cs : List Condition) (bs : List Block) (i : ℕ) (c : Condition) (b : Block) → AreCheckable cs bs → slice_get cs i ≡ Some c → slice_get bs i ≡ Some b → IsCheckable c b
-checkable-at [] bs i c b h e f = absurd (let n = nothing-there Condition i in cc)
-checkable-at (d ∷ cs) [] i c b h e f = absurd h
-checkable-at (d ∷ cs) (x ∷ bs) zero c b h e f =
-    let same : d ≡ c = cc in
-    let block : x ≡ b = cc in
-    subst (λ (y : Block). IsCheckable c y) block (subst (λ (y : Condition). IsCheckable y x) same h.0)
-checkable-at (d ∷ cs) (x ∷ bs) (suc i) c b h e f = checkable-at cs bs i c b h.1 e f
+pub head-checkable : (cs ds : List Condition) (bs es : List Block) (c : Condition) (b : Block) → cs ≡ c ∷ ds → bs ≡ b ∷ es → AreCheckable cs bs → IsCheckable c b
+head-checkable cs ds bs es c b e f h = (subst (AreCheckable (c ∷ ds)) f (subst (λ (l : List Condition). AreCheckable l bs) e h)).0
 
 -- as many blocks as conditions
 pub checkable-sizes : (cs : List Condition) (bs : List Block) → AreCheckable cs bs → length cs ≡ length bs
@@ -73,98 +41,184 @@ right-searchable n zero cs h = h
 right-searchable n (suc m) [] h = tt
 right-searchable n (suc m) (c ∷ cs) h = right-searchable n m cs h.1
 
--- ---- one place more
-pub before-more : (k : Setting) (cs : List Condition) (bs : List Block) (i : ℕ) (c : Condition) (b : Block) → slice_get cs i ≡ Some c → slice_get bs i ≡ Some b → Proves k c b → ProveBefore k cs bs i → ProveBefore k cs bs (i + 1)
-before-more k cs bs i c b e f p h j d x l g q = by_order (less-or-same j i (omega (arith, l)))
-  where
-    less-or-same : (m n : ℕ) → m ≤ n → (m < n) ⊎ (m ≡ n)
-    less-or-same zero zero h = inr refl
-    less-or-same zero (suc n) h = inl (omega arith)
-    less-or-same (suc m) zero h = absurd (omega (arith, h))
-    less-or-same (suc m) (suc n) h = elim (less-or-same m n (omega (arith, h))) [ inl r ↦ inl (omega (arith, r)) | inr r ↦ inr (ap suc r) ]
+pub head-searchable : (n : ℕ) (cs ds : List Condition) (c : Condition) → cs ≡ c ∷ ds → AreSearchable n cs → IsSearchable n c
+head-searchable n cs ds c e h = (subst (AreSearchable n) e h).0
 
-    some-same : {A : Type 0} (x y : A) → Some x ≡ Some y → x ≡ y
-    some-same x y e = cc
+-- ---- verdicts
+answers-woven : (k : Setting) (cs ds : List Condition) (vs ws : List Verdict) → AreAnswers k cs vs → AreAnswers k ds ws → AreAnswers k (woven cs ds) (woven vs ws)
+answers-woven k [] ds [] ws h g = g
+answers-woven k [] ds (v ∷ vs) ws h g = absurd h
+answers-woven k (c ∷ cs) ds [] ws h g = absurd h
+answers-woven k (c ∷ cs) [] (v ∷ vs) [] h g = h
+answers-woven k (c ∷ cs) [] (v ∷ vs) (w ∷ ws) h g = absurd g
+answers-woven k (c ∷ cs) (d ∷ ds) (v ∷ vs) [] h g = absurd g
+answers-woven k (c ∷ cs) (d ∷ ds) (v ∷ vs) (w ∷ ws) h g = (h.0, (g.0, answers-woven k cs ds vs ws h.1 g.1))
 
-    by_order : (j < i) ⊎ (j ≡ i) → Proves k d x
-    by_order (inl r) = h j d x r g q
-    by_order (inr r) =
-        let same : c ≡ d = some-same c d (sym e ∙ sym (ap (slice_get cs) r) ∙ g) in
-        let block : b ≡ x = some-same b x (sym f ∙ sym (ap (slice_get bs) r) ∙ q) in
-        subst (λ (y : Block). Proves k d y) block (subst (λ (y : Condition). Proves k y b) same p)
+pub answers-dealt : (k : Setting) (share : Share) (cs : List Condition) (vs ws : List Verdict) → AreAnswers k (dealt (right_half share) cs) vs
+    → AreAnswers k (dealt (left_half share) (drop share.stride cs)) ws → AreAnswers k (dealt share cs) (woven vs ws)
+answers-dealt k share cs vs ws h g =
+    let all = dealt_in_turn share cs in
+    subst (λ (l : List Condition). AreAnswers k l (woven vs ws)) (sym all.woven_is)
+    (answers-woven k (dealt (right_half share) cs) (dealt (left_half share) (drop share.stride cs)) vs ws h g)
 
--- ---- the first failing place
-pub first-left : (k : Setting) (m : ℕ) (cs : List Condition) (bs : List Block) (i : ℕ) → IsFirstFailing k (take m cs) (take m bs) (Some i) → IsFirstFailing k cs bs (Some i)
-first-left k m cs bs i h =
-    let there = get-left cs m i h.1.condition h.1.condition_there in
-    let block = get-left bs m i h.1.block h.1.block_there in
-    let less = there.0 in (
-      λ j c b l e f. h.0 j c b l (left-get cs m j (omega (arith, l, less)) ∙ e) (left-get bs m j (omega (arith, l, less)) ∙ f),
-      record { condition = h.1.condition; block = h.1.block; condition_there = there.1; block_there = block.1; refused = h.1.refused },
-    )
+-- answers to conditions, with those to the conditions that are left, answer all
+abbrev pub AnswerSoFar : Setting → List Condition → List Verdict → List Condition → Type 0
+AnswerSoFar k cs vs left = (ws : List Verdict) → AreAnswers k left ws → AreAnswers k cs (vs ++ ws)
 
-before-both : (k : Setting) (m n : ℕ) (cs : List Condition) (bs : List Block) → m ≤ length cs → ProveBefore k (take m cs) (take m bs) (length (take m cs)) → ProveBefore k (drop m cs) (drop m bs) n → ProveBefore k cs bs (m + n)
-before-both k m n cs bs s h g j c b l e f = by_order (order j m)
-  where
-    order : (x y : ℕ) → (x < y) ⊎ (y ≤ x)
-    order x zero = inr (omega arith)
-    order zero (suc y) = inl (omega arith)
-    order (suc x) (suc y) = elim (order x y) [ inl r ↦ inl (omega (arith, r)) | inr r ↦ inr (omega (arith, r)) ]
+pub answers-more : (k : Setting) (cs left more : List Condition) (vs us : List Verdict) (c : Condition) (v : Verdict) → left ≡ c ∷ more → us ≡ vs ++ v ∷ [] → IsAnswer k c v
+    → AnswerSoFar k cs vs left → AnswerSoFar k cs us more
+answers-more k cs left more vs us c v e put a h ws g =
+    subst (AreAnswers k cs) (sym (append_assoc vs (v ∷ []) ws) ∙ ap (λ (l : List Verdict). l ++ ws) (sym put))
+    (h (v ∷ ws) (subst (λ (l : List Condition). AreAnswers k l (v ∷ ws)) (sym e) (a, g)))
 
-    by_order : (j < m) ⊎ (m ≤ j) → Proves k c b
-    by_order (inl r) =
-        let there = left-get cs m j r ∙ e in
-        h j c b (slice_get_within (take m cs) j c there) there (left-get bs m j r ∙ f)
-    by_order (inr r) =
-        let place : m + (j - m) ≡ j = omega (arith, r) in
-        g (j - m) c b (omega (arith, l, r)) (get-right cs m (j - m) ∙ (ap (slice_get cs) place ∙ e)) (get-right bs m (j - m) ∙ (ap (slice_get bs) place ∙ f))
+pub answers-all : (k : Setting) (cs left : List Condition) (vs : List Verdict) → left ≡ [] → AnswerSoFar k cs vs left → AreAnswers k cs vs
+answers-all k cs left vs e h = subst (AreAnswers k cs) (append-nil vs) (h [] (subst (λ (l : List Condition). AreAnswers k l []) (sym e) tt))
 
-pub first-right : (k : Setting) (m : ℕ) (cs : List Condition) (bs : List Block) (j : ℕ) → m ≤ length cs → IsFirstFailing k (take m cs) (take m bs) None → IsFirstFailing k (drop m cs) (drop m bs) (Some j) → IsFirstFailing k cs bs (Some (m + j))
-first-right k m cs bs j s h g = (
-  before-both k m j cs bs s h g.0,
-  record {
-    condition = g.1.condition;
-    block = g.1.block;
-    condition_there = sym (get-right cs m j) ∙ g.1.condition_there;
-    block_there = sym (get-right bs m j) ∙ g.1.block_there;
-    refused = g.1.refused;
-  },
+-- ---- the first failing place of a piece
+-- a place so many places behind
+abbrev pub place_behind : ℕ → Option ℕ → Option ℕ
+place_behind i None = None
+place_behind i (Some j) = Some (i + j)
+
+-- that of what is left is that of the whole, so many places behind
+abbrev pub Ahead : Setting → List Condition → List Block → ℕ → List Condition → List Block → Type 0
+Ahead k cs bs i left left_blocks = (o : Option ℕ) → IsFirstFailing k left left_blocks o → IsFirstFailing k cs bs (place_behind i o)
+
+pub ahead-begun : (k : Setting) (cs : List Condition) (bs : List Block) → Ahead k cs bs 0 cs bs
+ahead-begun k cs bs None h = h
+ahead-begun k cs bs (Some j) h = let same : j ≡ 0 + j = omega arith in subst (λ (i : ℕ). IsFirstFailing k cs bs (Some i)) same h
+
+some-same : {A : Type 0} (x y : A) → Some x ≡ Some y → x ≡ y
+some-same x y e = cc
+
+before-next : (k : Setting) (c : Condition) (b : Block) (cs : List Condition) (bs : List Block) (n : ℕ) → Proves k c b → ProveBefore k cs bs n → ProveBefore k (c ∷ cs) (b ∷ bs) (suc n)
+before-next k c b cs bs n p h zero d x l e f =
+    subst (λ (y : Block). Proves k d y) (some-same b x f) (subst (λ (y : Condition). Proves k y b) (some-same c d e) p)
+before-next k c b cs bs n p h (suc i) d x l e f = h i d x (omega (arith, l)) e f
+
+failing-next : (k : Setting) (c : Condition) (b : Block) (cs : List Condition) (bs : List Block) (o : Option ℕ) → Proves k c b → IsFirstFailing k cs bs o
+    → IsFirstFailing k (c ∷ cs) (b ∷ bs) (option_map suc o)
+failing-next k c b cs bs None p h = before-next k c b cs bs (length cs) p h
+failing-next k c b cs bs (Some i) p h = (
+  before-next k c b cs bs i p h.0,
+  record { condition = h.1.condition; block = h.1.block; condition_there = h.1.condition_there; block_there = h.1.block_there; refused = h.1.refused },
 )
 
-pub first-none : (k : Setting) (m : ℕ) (cs : List Condition) (bs : List Block) → m ≤ length cs → IsFirstFailing k (take m cs) (take m bs) None → IsFirstFailing k (drop m cs) (drop m bs) None → IsFirstFailing k cs bs None
-first-none k m cs bs s h g =
-    let size : m + length (drop m cs) ≡ length cs = omega (arith, length-drop m cs, s) in
-    subst (ProveBefore k cs bs) size (before-both k m (length (drop m cs)) cs bs s h g)
+failing-here : (k : Setting) (c : Condition) (b : Block) (cs : List Condition) (bs : List Block) → (Proves k c b → ⊥) → IsFirstFailing k (c ∷ cs) (b ∷ bs) (Some 0)
+failing-here k c b cs bs refused = (
+  λ i d x l e f. absurd (omega (arith, l)),
+  record { condition = c; block = b; condition_there = refl; block_there = refl; refused = refused },
+)
 
+module _ (k : Setting) (cs : List Condition) (bs : List Block) (i : ℕ) (left more : List Condition) (left_blocks more_blocks : List Block) (c : Condition) (b : Block)
+    (e : left ≡ c ∷ more) (f : left_blocks ≡ b ∷ more_blocks) (h : Ahead k cs bs i left left_blocks) where
+  from : (o : Option ℕ) → IsFirstFailing k (c ∷ more) (b ∷ more_blocks) o → IsFirstFailing k cs bs (place_behind i o)
+  from o g = h o (subst (λ (l : List Block). IsFirstFailing k left l o) (sym f) (subst (λ (l : List Condition). IsFirstFailing k l (b ∷ more_blocks) o) (sym e) g))
+
+  pub ahead-next : Proves k c b → Ahead k cs bs (i + 1) more more_blocks
+  ahead-next p o g = subst (IsFirstFailing k cs bs) (moved o) (from (option_map suc o) (failing-next k c b more more_blocks o p g)) where
+    moved : (o : Option ℕ) → place_behind i (option_map suc o) ≡ place_behind (i + 1) o
+    moved None = refl
+    moved (Some j) = let sum : i + suc j ≡ i + 1 + j = omega arith in ap Some sum
+
+  pub ahead-fails : (Proves k c b → ⊥) → IsFirstFailing k cs bs (Some i)
+  ahead-fails refused = let sum : i + 0 ≡ i = omega arith in subst (λ (j : ℕ). IsFirstFailing k cs bs (Some j)) sum (from (Some 0) (failing-here k c b more more_blocks refused))
+
+pub ahead-done : (k : Setting) (cs : List Condition) (bs : List Block) (i : ℕ) (left : List Condition) (left_blocks : List Block) → left ≡ [] → Ahead k cs bs i left left_blocks → IsFirstFailing k cs bs None
+ahead-done k cs bs i left left_blocks e h = h None (subst (λ (l : List Condition). IsFirstFailing k l left_blocks None) (sym e) (λ j c b l there. absurd (omega (arith, l))))
+
+-- ---- the first failing place of two halves
 pub failing-within : (k : Setting) (cs : List Condition) (bs : List Block) (j : ℕ) → IsFirstFailing k cs bs (Some j) → j < length cs
 failing-within k cs bs j h = slice_get_within cs j h.1.condition h.1.condition_there
 
--- ---- verdicts
-pub answers-append : (k : Setting) (cs ds : List Condition) (vs ws : List Verdict) → AreAnswers k cs vs → AreAnswers k ds ws → AreAnswers k (cs ++ ds) (vs ++ ws)
-answers-append k [] ds [] ws h g = g
-answers-append k [] ds (v ∷ vs) ws h g = absurd h
-answers-append k (c ∷ cs) ds [] ws h g = absurd h
-answers-append k (c ∷ cs) ds (v ∷ vs) ws h g = (h.0, answers-append k cs ds vs ws h.1 g)
+-- a place is one of the first half's or of the second's
+abbrev Half : ℕ → Type 0
+Half i = ((j : ℕ) × (i ≡ j + j)) ⊎ ((j : ℕ) × (i ≡ j + j + 1))
 
-pub answers-both : (k : Setting) (m : ℕ) (cs : List Condition) (vs ws : List Verdict) → AreAnswers k (take m cs) vs → AreAnswers k (drop m cs) ws → AreAnswers k cs (vs ++ ws)
-answers-both k m cs vs ws h g = subst (λ (xs : List Condition). AreAnswers k xs (vs ++ ws)) (take-append-drop m cs) (answers-append k (take m cs) (drop m cs) vs ws h g)
+half : (i : ℕ) → Half i
+half zero = inl (0, refl)
+half (suc i) = next (half i) where
+  next : Half i → Half (suc i)
+  next (inl (j, e)) = inr (j, omega (arith, e))
+  next (inr (j, e)) = inl (j + 1, omega (arith, e))
 
--- one verdict more
-pub answers-more : (k : Setting) (cs : List Condition) (i : ℕ) (c : Condition) (vs : List Verdict) (v : Verdict) → i < length cs → c ≡ get_or cs i c → IsAnswer k c v → AreAnswers k (take i cs) vs → AreAnswers k (take (i + 1) cs) (vs ++ v ∷ [])
-answers-more k cs i c vs v h e a g =
-    let next : take (i + 1) cs ≡ take i cs ++ c ∷ [] = take_more cs i c h ∙ ap (λ d. take i cs ++ d ∷ []) (sym e) in
-    subst (λ (xs : List Condition). AreAnswers k xs (vs ++ v ∷ [])) (sym next) (answers-append k (take i cs) (c ∷ []) vs (v ∷ []) g (a, tt))
+module _ (k : Setting) (all firsts betweens : List Condition) (blocks first_blocks between_blocks : List Block) (t : InTurn all firsts betweens) (u : InTurn blocks first_blocks between_blocks) where
+  first-is : (j : ℕ) → slice_get all (j + j) ≡ slice_get firsts j
+  first-is j = ap (λ (l : List Condition). slice_get l (j + j)) t.woven_is ∙ first_there firsts betweens j t.no_more t.no_fewer
 
-pub searchable-next : (n : ℕ) (cs : List Condition) (i : ℕ) (c : Condition) → i < length cs → c ≡ get_or cs i c → AreSearchable n (drop i cs) → IsSearchable n c × AreSearchable n (drop (i + 1) cs)
-searchable-next n cs i c h e s = rw (drop_more cs i c h ∙ ap (λ d. d ∷ drop (i + 1) cs) (sym e)) at s
+  first-block : (j : ℕ) → slice_get blocks (j + j) ≡ slice_get first_blocks j
+  first-block j = ap (λ (l : List Block). slice_get l (j + j)) u.woven_is ∙ first_there first_blocks between_blocks j u.no_more u.no_fewer
 
--- a condition and the block at its place
-pub here-checkable : (cs : List Condition) (bs : List Block) (i : ℕ) (c : Condition) (b : Block) → i < length cs → c ≡ get_or cs i c → b ≡ get_or bs i b → AreCheckable cs bs → (slice_get cs i ≡ Some c) × (slice_get bs i ≡ Some b) × IsCheckable c b
-here-checkable cs bs i c b h e f a =
-    let x = slice_get_read cs (length cs) i c refl h e in
-    let y = slice_get_read bs (length bs) i b refl (let s = checkable-sizes cs bs a in omega (arith, s, h)) f in
-    (x, y, checkable-at cs bs i c b a x y)
+  between-is : (j : ℕ) → slice_get all (j + j + 1) ≡ slice_get betweens j
+  between-is j = ap (λ (l : List Condition). slice_get l (j + j + 1)) t.woven_is ∙ between_there firsts betweens j t.no_more t.no_fewer
+
+  between-block : (j : ℕ) → slice_get blocks (j + j + 1) ≡ slice_get between_blocks j
+  between-block j = ap (λ (l : List Block). slice_get l (j + j + 1)) u.woven_is ∙ between_there first_blocks between_blocks j u.no_more u.no_fewer
+
+  -- each half is proved as far as it reaches below a place
+  before-both : (n a b : ℕ) → ((j : ℕ) → j < length firsts → j + j < n → j < a) → ((j : ℕ) → j < length betweens → j + j + 1 < n → j < b)
+      → ProveBefore k firsts first_blocks a → ProveBefore k betweens between_blocks b → ProveBefore k all blocks n
+  before-both n a b few fewer h g i c x l e f = by (half i) where
+    by : Half i → Proves k c x
+    by (inl (j, at)) =
+        let there = sym (first-is j) ∙ ap (slice_get all) (sym at) ∙ e in
+        h j c x (few j (slice_get_within firsts j c there) (omega (arith, l, at))) there (sym (first-block j) ∙ ap (slice_get blocks) (sym at) ∙ f)
+    by (inr (j, at)) =
+        let there = sym (between-is j) ∙ ap (slice_get all) (sym at) ∙ e in
+        g j c x (fewer j (slice_get_within betweens j c there) (omega (arith, l, at))) there (sym (between-block j) ∙ ap (slice_get blocks) (sym at) ∙ f)
+
+  fails-first : (j : ℕ) → Fails k firsts first_blocks j → Fails k all blocks (j + j)
+  fails-first j h = record { condition = h.condition; block = h.block; condition_there = first-is j ∙ h.condition_there; block_there = first-block j ∙ h.block_there; refused = h.refused }
+
+  fails-between : (j : ℕ) → Fails k betweens between_blocks j → Fails k all blocks (j + j + 1)
+  fails-between j h = record { condition = h.condition; block = h.block; condition_there = between-is j ∙ h.condition_there; block_there = between-block j ∙ h.block_there; refused = h.refused }
+
+  lesser : (i j : ℕ) → IsFirstFailing k firsts first_blocks (Some i) → IsFirstFailing k betweens between_blocks (Some j) → IsFirstFailing k all blocks (lesser_place (Some i) (Some j))
+  lesser i j h g = by (nat_le i j) refl where
+    by : (c : Bool) → nat_le i j ≡ c → IsFirstFailing k all blocks (cond c (Some (i + i)) (Some (j + j + 1)))
+    by true e =
+        let less : i ≤ j = grind (arith, nat_tests) in
+        (before-both (i + i) i j (λ m s l. omega (arith, l)) (λ m s l. omega (arith, l, less)) h.0 g.0, fails-first i h.1)
+    by false e =
+        let less : j < i = grind (arith, nat_tests) in
+        (before-both (j + j + 1) i j (λ m s l. omega (arith, l, less)) (λ m s l. omega (arith, l)) h.0 g.0, fails-between j g.1)
+
+  pub failing-both : (o p : Option ℕ) → IsFirstFailing k firsts first_blocks o → IsFirstFailing k betweens between_blocks p → IsFirstFailing k all blocks (lesser_place o p)
+  failing-both None None h g = before-both (length all) (length firsts) (length betweens) (λ j s l. s) (λ j s l. s) h g
+  failing-both (Some i) None h g = (before-both (i + i) i (length betweens) (λ j s l. omega (arith, l)) (λ j s l. s) h.0 g, fails-first i h.1)
+  failing-both None (Some i) h g = (before-both (i + i + 1) (length firsts) i (λ j s l. s) (λ j s l. omega (arith, l)) h g.0, fails-between i g.1)
+  failing-both (Some i) (Some j) h g = lesser i j h g
+
+pub failing-dealt : (k : Setting) (share : Share) (cs : List Condition) (bs : List Block) (o p : Option ℕ) → IsFirstFailing k (dealt (right_half share) cs) (dealt (right_half share) bs) o
+    → IsFirstFailing k (dealt (left_half share) (drop share.stride cs)) (dealt (left_half share) (drop share.stride bs)) p → IsFirstFailing k (dealt share cs) (dealt share bs) (lesser_place o p)
+failing-dealt k share cs bs =
+    failing-both k (dealt share cs) (dealt (right_half share) cs) (dealt (left_half share) (drop share.stride cs)) (dealt share bs) (dealt (right_half share) bs)
+    (dealt (left_half share) (drop share.stride bs)) (dealt_in_turn share cs) (dealt_in_turn share bs)
+
+-- places of halves are within the whole
+pub first-fits : (k : Setting) (share : Share) (cs : List Condition) (bs : List Block) (o : Option ℕ) → IsFirstFailing k (dealt (right_half share) cs) bs o → IfSome o (λ i. i + i < share.count)
+first-fits k share cs bs None h = tt
+first-fits k share cs bs (Some i) h =
+    omega (arith, failing-within k (dealt (right_half share) cs) bs i h, every_within (share.stride + share.stride) (share.count - share.count / 2) cs)
+
+pub between-fits : (k : Setting) (share : Share) (cs : List Condition) (bs : List Block) (o : Option ℕ) → IsFirstFailing k (dealt (left_half share) cs) bs o → IfSome o (λ j. j + j + 1 < share.count)
+between-fits k share cs bs None h = tt
+between-fits k share cs bs (Some j) h =
+    omega (arith, failing-within k (dealt (left_half share) cs) bs j h, every_within (share.stride + share.stride) (share.count / 2) cs)
+
+-- ---- one share of all
+pub answers-of-all : (k : Setting) (cs : List Condition) (vs : List Verdict) → AreAnswers k (every 1 (length cs) cs) vs → AreAnswers k cs vs
+answers-of-all k cs vs h = subst (λ (l : List Condition). AreAnswers k l vs) (every_all cs) h
+
+pub first-of-all : (k : Setting) (cs : List Condition) (bs : List Block) → AreCheckable cs bs → (o : Option ℕ) → IsFirstFailing k (every 1 (length cs) cs) (every 1 (length cs) bs) o → IsFirstFailing k cs bs o
+first-of-all k cs bs asked o h =
+    let blocks : every 1 (length cs) bs ≡ bs = ap (λ (n : ℕ). every 1 n bs) (checkable-sizes cs bs asked) ∙ every_all bs in
+    subst (λ (l : List Block). IsFirstFailing k cs l o) blocks (subst (λ (l : List Condition). IsFirstFailing k l (every 1 (length cs) bs) o) (every_all cs) h)
 
 -- what is so of a result is so of its value
-pub told : {A E : Type 0} (r : Result A E) (P : A → Type 0) (x y : A) → r ≡ Ok x → x ≡ y → IfOk r P → P y
-told r P x y e f h = subst P f (rw e at h)
+pub told : {A E : Type 0} (r : Result A E) (P : A → Type 0) (x : A) → r ≡ Ok x → IfOk r P → P x
+told r P x e h = rw e at h
+
+pub if-ok : {A E : Type 0} (r : Result A E) (P Q : A → Type 0) → ((x : A) → P x → Q x) → IfOk r P → IfOk r Q
+if-ok (Ok x) P Q f h = f x h
+if-ok (Err x) P Q f h = h

@@ -1,6 +1,7 @@
 -- The numbers of pieces.
-use Rattle.std.proofs.Common.{◌≡◌, ℕ, zero, suc, ◌+◌, ◌-◌, ◌/◌, ◌<◌, ◌≤◌, arith, inl, inr, ◌⊎◌, subst}
-use Rattle.discharge.specs.Pieces.{IsPiece, whole, left, right}
+use Rattle.std.proofs.Common.{◌≡◌, ℕ, zero, suc, ◌+◌, ◌-◌, ◌/◌, ◌<◌, ◌≤◌, arith, inl, inr, ◌⊎◌, subst, Bool}
+use Rattle.std.specs.Prelude.{IsTrue}
+use Rattle.discharge.specs.Pieces.{IsPiece, EachPiece, whole, left, right}
 
 below-or-from : (m n : ℕ) → (m < n) ⊎ (n ≤ m)
 below-or-from m zero = inr (omega arith)
@@ -45,3 +46,18 @@ each-within (suc steps) first workers count piece s e from below =
 
 pub each-number : (first workers count piece : ℕ) → workers ≤ count → first ≤ piece → piece < first + workers → IsPiece first workers count piece
 each-number first workers count piece = each-within workers first workers count piece (omega arith)
+
+-- ---- what holds of each piece
+pub each-alone : (first workers count : ℕ) (test : ℕ → Bool) → (workers < 2) ⊎ (count < 2) → IsTrue (test first) → EachPiece first workers count test
+each-alone first workers count test few h piece (whole w) = h
+each-alone first workers count test (inl w) h piece (left some more p) = absurd (omega (arith, w, some))
+each-alone first workers count test (inr w) h piece (left some more p) = absurd (omega (arith, w, more))
+each-alone first workers count test (inl w) h piece (right some more p) = absurd (omega (arith, w, some))
+each-alone first workers count test (inr w) h piece (right some more p) = absurd (omega (arith, w, more))
+
+pub each-both : (first workers count : ℕ) (test : ℕ → Bool) → 2 ≤ workers → 2 ≤ count → EachPiece first (workers / 2) (count / 2) test
+    → EachPiece (first + workers / 2) (workers - workers / 2) (count - count / 2) test → EachPiece first workers count test
+each-both first workers count test some more h g piece (whole (inl w)) = absurd (omega (arith, w, some))
+each-both first workers count test some more h g piece (whole (inr w)) = absurd (omega (arith, w, more))
+each-both first workers count test some more h g piece (left w c p) = h piece p
+each-both first workers count test some more h g piece (right w c p) = g piece p

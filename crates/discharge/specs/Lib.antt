@@ -1,3 +1,4 @@
+pub mod Dealt
 pub mod First
 pub mod Pieces
 pub mod Verdicts

@@ -1,13 +1,14 @@
 //! The first place whose block isn't valid.
 
-ghost use Rattle.std.specs.Prelude.{◌≡◌, ℕ, ◌<◌, ◌+◌, ◌-◌, ◌/◌, ◌^◌, IfOk, IsTrue, Some, None, length};
-ghost use Rattle.farkas_check.specs.Problem.{Setting};
+ghost use Rattle.std.specs.Prelude.{◌≡◌, ◌<◌, ◌≤◌, ◌+◌, ◌-◌, ◌*◌, ◌/◌, ◌^◌, IfOk, IsTrue, Option, length, drop};
 ghost use Rattle.std.specs.Thread.{IsSync};
 ghost use Rattle.farkas_check.specs.PlainProblem.{setting};
+ghost use Rattle.discharge.specs.Dealt.{dealt, left_half, right_half};
 ghost use Rattle.discharge.specs.First.{AreCheckable, IsFirstFailing};
 ghost use Rattle.discharge.specs.Pieces.{EachPiece};
 
 use crate::gates::at_gate;
+use crate::shares::{Share, behind, halves, lesser_place};
 use cert_text::Block;
 use control_states::Components;
 use farkas_check::check;
@@ -24,15 +25,25 @@ fn check_piece(
     variables: &[Variable],
     conditions: &[Condition],
     blocks: &[Block],
+    share: Share,
 ) -> Result<Option<usize>, Memory>
     requires checkable { AreCheckable conditions.now blocks.now }
-    ensures { IfOk result (λ o. IsFirstFailing (setting components.now variables.now) conditions.now blocks.now o) }
+    ensures { IfOk result (λ o. IsFirstFailing (setting components.now variables.now) (dealt share conditions.now) (dealt share blocks.now) o) }
 {
-    for (i, condition) in conditions.iter().enumerate() {
-        let certificate = &blocks[i].certificate;
-        if !check(alloc, components, variables, condition, certificate)? {
+    let mut rest = conditions;
+    let mut rest_blocks = blocks;
+    for i in 0..share.count {
+        let Some((condition, _)) = rest.split_first() else {
+            return Ok(None);
+        };
+        let Some((block, _)) = rest_blocks.split_first() else {
+            return Ok(None);
+        };
+        if !check(alloc, components, variables, condition, &block.certificate)? {
             return Ok(Some(i));
         }
+        rest = behind(rest, share.stride);
+        rest_blocks = behind(rest_blocks, share.stride);
     }
     Ok(None)
 }
@@ -46,49 +57,21 @@ fn check_at_gate<G: Gate>(
     variables: &[Variable],
     conditions: &[Condition],
     blocks: &[Block],
+    share: Share,
 ) -> Result<Option<usize>, Memory>
     requires checkable { AreCheckable conditions.now blocks.now }
-    ensures first_failing { IfOk result (λ o. IsFirstFailing (setting components.now variables.now) conditions.now blocks.now o) }
+    ensures first_failing { IfOk result (λ o. IsFirstFailing (setting components.now variables.now) (dealt share conditions.now) (dealt share blocks.now) o) }
     ensures ended { IsTrue (G.ended gate.now place) }
 {
     at_gate(
         gate,
         place,
-        || check_piece(alloc, components, variables, conditions, blocks),
+        || check_piece(alloc, components, variables, conditions, blocks, share),
     )
 }
 
-/// A place of the right half as one of the whole.
-fn place_behind(middle: usize, place: usize, size: usize) -> usize
-    requires { middle + place < size }
-    ensures { result ≡ middle + place }
-{
-    middle + place
-}
-
-/// The first half of the conditions and their blocks, and the rest of both.
-fn halves<'a>(
-    conditions: &'a [Condition],
-    blocks: &'a [Block],
-) -> (&'a [Condition], &'a [Block], &'a [Condition], &'a [Block])
-    requires { AreCheckable conditions.now blocks.now }
-    ensures left { AreCheckable result.0.now result.1.now }
-    ensures right { AreCheckable result.2.now result.3.now }
-    ensures sizes { (length result.0.now ≡ length conditions.now / 2) × (length result.2.now ≡ length conditions.now - length conditions.now / 2) }
-    ensures by_left { (k : Setting) (i : ℕ) → IsFirstFailing k result.0.now result.1.now (Some i) → IsFirstFailing k conditions.now blocks.now (Some i) }
-    ensures by_right { (k : Setting) (j : ℕ) → IsFirstFailing k result.0.now result.1.now None → IsFirstFailing k result.2.now result.3.now (Some j)
-        → IsFirstFailing k conditions.now blocks.now (Some (length conditions.now / 2 + j)) × (length conditions.now / 2 + j < length conditions.now) }
-    ensures by_none { (k : Setting) → IsFirstFailing k result.0.now result.1.now None → IsFirstFailing k result.2.now result.3.now None
-        → IsFirstFailing k conditions.now blocks.now None }
-{
-    let middle = conditions.len() / 2;
-    let (left, right) = conditions.split_at(middle);
-    let (left_blocks, right_blocks) = blocks.split_at(middle);
-    (left, left_blocks, right, right_blocks)
-}
-
-/// The first failing place of a range, whose leftmost piece has the number `first`. The left half's answer is kept where
-/// there is one, whichever half ends first.
+/// The first failing place of a share, whose leftmost piece has the number `first`: the lesser of both halves' places,
+/// whichever half ends first.
 #[cycle(check_range)]
 fn check_range<R: Threads + Sync, G: Gate + Sync>(
     rt: &R,
@@ -100,75 +83,62 @@ fn check_range<R: Threads + Sync, G: Gate + Sync>(
     variables: &[Variable],
     conditions: &[Condition],
     blocks: &[Block],
+    share: Share,
 ) -> Result<Option<usize>, Memory>
     requires pieces { first + workers < 2 ^ 32 }
+    requires strides { share.stride * (workers - 1) < 2 ^ 32 }
     requires checkable { AreCheckable conditions.now blocks.now }
-    ensures first_failing { IfOk result (λ o. IsFirstFailing (setting components.now variables.now) conditions.now blocks.now o) }
-    ensures ended { EachPiece first workers (length conditions.now) (G.ended gate.now) }
+    ensures first_failing { IfOk result (λ o. IsFirstFailing (setting components.now variables.now) (dealt share conditions.now) (dealt share blocks.now) o) }
+    ensures ended { EachPiece first workers share.count (G.ended gate.now) }
 {
-    if workers < 2 || conditions.len() < 2 {
+    if workers < 2 || share.count < 2 {
         return check_at_gate(
-            alloc, gate, first, components, variables, conditions, blocks,
+            alloc, gate, first, components, variables, conditions, blocks, share,
         );
     }
-    let half = workers / 2;
-    let rest = workers - half;
-    let (left, left_blocks, right, right_blocks) = halves(conditions, blocks);
-    let (before, behind) = check_both(
-        rt,
-        alloc,
-        gate,
-        first,
-        half,
-        rest,
-        components,
-        variables,
-        left,
-        left_blocks,
-        right,
-        right_blocks,
+    let (left, right) = check_both(
+        rt, alloc, gate, first, workers, components, variables, conditions, blocks, share,
     );
-    match before? {
-        Some(i) => Ok(Some(i)),
-        None => match behind? {
-            Some(j) => Ok(Some(place_behind(conditions.len() / 2, j, conditions.len()))),
-            None => Ok(None),
-        },
-    }
+    let left = left?;
+    let right = right?;
+    Ok(lesser_place(share.count, right, left))
 }
 
-/// The first failing places of both halves of a range, which have so many workers.
+/// The first failing places of both halves of a share, each with half of the workers.
 #[cycle(check_range)]
 fn check_both<R: Threads + Sync, G: Gate + Sync>(
     rt: &R,
     alloc: Global,
     gate: &G,
     first: usize,
-    half: u32,
-    rest: u32,
+    workers: u32,
     components: &Components,
     variables: &[Variable],
-    left: &[Condition],
-    left_blocks: &[Block],
-    right: &[Condition],
-    right_blocks: &[Block],
+    conditions: &[Condition],
+    blocks: &[Block],
+    share: Share,
 ) -> (Result<Option<usize>, Memory>, Result<Option<usize>, Memory>)
-    requires some { (0 < half) × (0 < rest) }
-    requires pieces { first + half + rest < 2 ^ 32 }
-    requires left { AreCheckable left.now left_blocks.now }
-    requires right { AreCheckable right.now right_blocks.now }
-    ensures before { IfOk result.0 (λ o. IsFirstFailing (setting components.now variables.now) left.now left_blocks.now o) }
-    ensures behind { IfOk result.1 (λ o. IsFirstFailing (setting components.now variables.now) right.now right_blocks.now o) }
-    ensures left_ended { EachPiece first half (length left.now) (G.ended gate.now) }
-    ensures right_ended { EachPiece (first + half) rest (length right.now) (G.ended gate.now) }
+    requires some { 2 ≤ workers }
+    requires pieces { first + workers < 2 ^ 32 }
+    requires strides { share.stride * (workers - 1) < 2 ^ 32 }
+    requires checkable { AreCheckable conditions.now blocks.now }
+    ensures left { IfOk result.0 (λ o. IsFirstFailing (setting components.now variables.now) (dealt (left_half share) (drop share.stride conditions.now)) (dealt (left_half share) (drop share.stride blocks.now)) o) }
+    ensures right { IfOk result.1 (λ o. IsFirstFailing (setting components.now variables.now) (dealt (right_half share) conditions.now) (dealt (right_half share) blocks.now) o) }
+    ensures left_ended { EachPiece first (workers / 2) (share.count / 2) (G.ended gate.now) }
+    ensures right_ended { EachPiece (first + workers / 2) (workers - workers / 2) (share.count - share.count / 2) (G.ended gate.now) }
 {
+    let half = workers / 2;
+    let rest = workers - half;
     let up = first + half as usize;
+    let (left, right) = halves(share, workers);
+    let between = behind(conditions, share.stride);
+    let their_blocks = behind(blocks, share.stride);
     join(
         rt,
         || -> Result<Option<usize>, Memory>
-            requires { IsSync R.row × IsSync G.row × (first + half < 2 ^ 32) × AreCheckable left.now left_blocks.now }
-            ensures first_failing { IfOk result (λ o. IsFirstFailing (setting components.entry.now variables.entry.now) left.entry.now left_blocks.entry.now o) }
-            ensures ended { EachPiece first half (length left.entry.now) (G.ended gate.entry.now) }
+            requires { IsSync R.row × IsSync G.row × (first + half < 2 ^ 32) × (left.stride * (half - 1) < 2 ^ 32) × AreCheckable between.now their_blocks.now }
+            ensures first_failing { IfOk result (λ o. IsFirstFailing (setting components.entry.now variables.entry.now) (dealt left between.entry.now) (dealt left their_blocks.entry.now) o) }
+            ensures ended { EachPiece first half left.count (G.ended gate.entry.now) }
         {
             check_range(
                 rt,
@@ -178,25 +148,18 @@ fn check_both<R: Threads + Sync, G: Gate + Sync>(
                 half,
                 components,
                 variables,
+                between,
+                their_blocks,
                 left,
-                left_blocks,
             )
         },
         || -> Result<Option<usize>, Memory>
-            requires { IsSync R.row × IsSync G.row × (up + rest < 2 ^ 32) × AreCheckable right.now right_blocks.now }
-            ensures first_failing { IfOk result (λ o. IsFirstFailing (setting components.entry.now variables.entry.now) right.entry.now right_blocks.entry.now o) }
-            ensures ended { EachPiece up rest (length right.entry.now) (G.ended gate.entry.now) }
+            requires { IsSync R.row × IsSync G.row × (up + rest < 2 ^ 32) × (right.stride * (rest - 1) < 2 ^ 32) × AreCheckable conditions.now blocks.now }
+            ensures first_failing { IfOk result (λ o. IsFirstFailing (setting components.entry.now variables.entry.now) (dealt right conditions.entry.now) (dealt right blocks.entry.now) o) }
+            ensures ended { EachPiece up rest right.count (G.ended gate.entry.now) }
         {
             check_range(
-                rt,
-                alloc,
-                gate,
-                up,
-                rest,
-                components,
-                variables,
-                right,
-                right_blocks,
+                rt, alloc, gate, up, rest, components, variables, conditions, blocks, right,
             )
         },
     )
@@ -219,7 +182,11 @@ pub fn check_all<R: Threads + Sync, G: Gate + Sync>(
     ensures first_failing { IfOk result (λ o. IsFirstFailing (setting components.now variables.now) conditions.now blocks.now o) }
     ensures ended { EachPiece 0 workers (length conditions.now) (G.ended gate.now) }
 {
+    let share = Share {
+        stride: 1,
+        count: conditions.len(),
+    };
     check_range(
-        rt, alloc, gate, 0, workers, components, variables, conditions, blocks,
+        rt, alloc, gate, 0, workers, components, variables, conditions, blocks, share,
     )
 }

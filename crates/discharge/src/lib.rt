@@ -2,7 +2,8 @@
 //! workers, with the answer of one.
 //!
 //! A range of conditions is cut into halves that run by a fork and a join (Blumofe and others, *Cilk: an efficient
-//! multithreaded runtime system*, 1995), until each piece has one worker or one condition.
+//! multithreaded runtime system*, 1995), until each piece has one worker or one condition. Each half gets every second
+//! condition, so that heavy ones that stand together are shared out.
 #![tactic(auto)]
 
 mod checking;
@@ -10,6 +11,7 @@ mod gates;
 mod guards;
 pub mod laws;
 mod searching;
+mod shares;
 
 pub use cert_text::Block;
 pub use checking::check_all;

@@ -5,7 +5,7 @@ abbrev pub decreases-check_range : goal.decreases-check_range
 decreases-check_range g l = 4 * l.workers + 3
 
 abbrev pub decreases-check_both : goal.decreases-check_both
-decreases-check_both g l = 4 * (l.half + l.rest) + 2
+decreases-check_both g l = 4 * l.workers + 2
 
 abbrev pub decreases-check_both-join+arg2 : goal.decreases-check_both-join+arg2
 decreases-check_both-join+arg2 g l = 4 * l.half + 4

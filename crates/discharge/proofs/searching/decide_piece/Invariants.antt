@@ -1,10 +1,15 @@
-use Rattle.std.proofs.Common.{take, drop, length}
+use Rattle.std.proofs.Common.{length}
 use Rattle.farkas_check.specs.PlainProblem.{setting}
-use Rattle.discharge.specs.Verdicts.{AreSearchable, AreAnswers}
+use Rattle.discharge.specs.Dealt.{every, dealt}
+use Rattle.discharge.specs.Verdicts.{AreSearchable}
+use Rattle.discharge.proofs.Halves.{AnswerSoFar}
 use Rattle.discharge.proofs.searching.decide_piece.Given as goal
 
-abbrev pub invariant-loop-condition : goal.invariant-loop-condition
-invariant-loop-condition l = record {
-  searchable : AreSearchable (length l.variables) (drop l.condition-index l.conditions);
-  answers : AreAnswers (setting l.components l.variables) (take l.condition-index l.conditions) l.verdicts.items;
+abbrev pub invariant-loop-left : goal.invariant-loop-left
+invariant-loop-left l = record {
+  searchable : AreSearchable (length l.variables) l.rest;
+  answers : AnswerSoFar (setting l.components l.variables) (dealt l.share l.conditions) l.verdicts.items (every l.share.stride l.left l.rest);
 }
+
+abbrev pub decreases-loop-left : goal.decreases-loop-left
+decreases-loop-left l = l.left

@@ -1,0 +1,93 @@
+//! Work that is dealt out in turn. Conditions that stand together are often alike in weight; where each half of a share gets
+//! every second one, as cards are dealt, they go to different workers.
+
+ghost use Rattle.std.specs.Prelude.{◌≡◌, ◌+◌, ◌-◌, ◌*◌, ◌/◌, ◌<◌, ◌≤◌, ◌^◌, ◌++◌, ◌∷◌, List, drop, IfOk, IfSome, OnOk, option_to_list};
+ghost use Rattle.discharge.specs.Dealt.{left_half, right_half, woven, lesser_place};
+
+use st_memory::Memory;
+use std::alloc::Global;
+
+/// Of a slice the first item and then each that stands a stride behind, so many of them.
+#[derive(Clone, Copy)]
+pub(crate) struct Share {
+    pub stride: usize,
+    pub count: usize,
+}
+
+/// Both halves of a share: every second item, from the second on and from the first on. Strides stay small, since each half
+/// has half of the workers.
+pub(crate) fn halves(share: Share, workers: u32) -> (Share, Share)
+    requires some { 2 ≤ workers }
+    requires strides { share.stride * (workers - 1) < 2 ^ 32 }
+    ensures left { result.0 ≡ left_half share }
+    ensures right { result.1 ≡ right_half share }
+    ensures left_stride { result.0.stride * (workers / 2 - 1) < 2 ^ 32 }
+    ensures right_stride { result.1.stride * (workers - workers / 2 - 1) < 2 ^ 32 }
+{
+    let stride = share.stride + share.stride;
+    let half = share.count / 2;
+    let left = Share {
+        stride,
+        count: half,
+    };
+    let right = Share {
+        stride,
+        count: share.count - half,
+    };
+    (left, right)
+}
+
+/// The items from a stride on.
+pub(crate) fn behind<T>(items: &[T], stride: usize) -> &[T]
+    ensures { result.now ≡ drop stride items.now }
+{
+    if stride < items.len() {
+        &items[stride..]
+    } else {
+        &[]
+    }
+}
+
+/// Appends one item, and the other if there is one.
+fn push_both<T: Drop>(items: &mut Vec<T>, one: T, other: Option<T>) -> Result<(), Memory>
+    ensures { OnOk result (items.new.items ≡ items.old.items ++ (one ∷ option_to_list other)) }
+{
+    items.push(one)?;
+    if let Some(other) = other {
+        items.push(other)?;
+    }
+    Ok(())
+}
+
+/// The items of two lists in turn.
+pub(crate) fn weave<T: Drop>(alloc: Global, first: Vec<T>, second: Vec<T>) -> Result<Vec<T>, Memory>
+    ensures { IfOk result (λ v. v.items ≡ woven first.items second.items) }
+{
+    let mut items = Vec::with_capacity(alloc, first.len())?;
+    let mut second = second.into_iter();
+    for one in first {
+        push_both(&mut items, one, second.next())?;
+    }
+    for other in second {
+        items.push(other)?;
+    }
+    Ok(items)
+}
+
+/// The lesser of a place among the first half's items and one among the second's, as a place of the whole.
+pub(crate) fn lesser_place(
+    count: usize,
+    first: Option<usize>,
+    second: Option<usize>,
+) -> Option<usize>
+    requires first { IfSome first (λ i. i + i < count) }
+    requires second { IfSome second (λ j. j + j + 1 < count) }
+    ensures { result ≡ lesser_place first second }
+{
+    match (first, second) {
+        (None, None) => None,
+        (Some(i), None) => Some(i + i),
+        (None, Some(j)) => Some(j + j + 1),
+        (Some(i), Some(j)) => { if i <= j { Some(i + i) } else { Some(j + j + 1) } }
+    }
+}

@@ -7,7 +7,7 @@ use Rattle.tree_table.specs.Nodes.{trees_in}
 use Rattle.tree_table.proofs.Making.{extends-refl}
 use Rattle.shared_search.proofs.Knowing.{found-later}
 use Rattle.shared_search.proofs.Certifying.{found-by, knows-later}
-use Rattle.shared_search.proofs.finding.find.Goals as goal
+use Rattle.shared_search.proofs.finding.find_in.Goals as goal
 
 pub first_list-requires-clause-given : goal.first_list-requires-clause-given
 first_list-requires-clause-given c = modest-narrow (plain c.args.condition.now.given) c.requires.given

@@ -9,6 +9,7 @@ ghost use Rattle.search_laws.specs.Moves.{decided, verdict_of};
 ghost use Rattle.linear_prover.specs.Plain.{plain_verdict, plain_outcome};
 ghost use Rattle.linear_prover.specs.Ready.{IsBelow};
 ghost use Rattle.linear_prover.specs.Verdicts.{IsRight};
+ghost use Rattle.shared_search.specs.Books.{Knows};
 
 use crate::entries::look_at;
 use crate::problems::node_of;
@@ -16,11 +17,15 @@ use crate::verdict::{Failure, Verdict};
 use crate::walk::{Outcome, walk};
 use control_states::Components;
 use farkas_check::problems::first_problem;
+use shared_search::{Book, certificate, find};
 use st_form::{Condition, Variable};
 use st_memory::Memory;
 use std::alloc::Global;
 
 const MOST_LEVELS: u32 = 400;
+
+/// At most so many lists of conjuncts are searched before the problems are.
+const MOST_LISTS: u32 = 100000;
 
 /// What the walk says; its path is kept from the last step to the first.
 fn verdict_of(outcome: Outcome) -> Verdict
@@ -38,10 +43,12 @@ fn verdict_of(outcome: Outcome) -> Verdict
     }
 }
 
-/// Searches for a certificate of a condition. There are fewer than 2^32 variables, the condition's variables are among
+/// Searches for a certificate of a condition: first over lists of conjuncts, as far as the book goes, and where that gives
+/// none, over problems, which tells the path to one that is left open. There are fewer than 2^32 variables, the condition's variables are among
 /// them, and its numbers are below 2^69 in size, as the check of certificates asks.
 pub fn decide(
     alloc: Global,
+    book: &mut Book,
     components: &Components,
     variables: &[Variable],
     condition: &Condition,
@@ -51,12 +58,17 @@ pub fn decide(
     requires shown { IsNarrow (plain condition.now.shown) }
     requires given_below { AllForms (IsBelow (length variables.now)) (plain condition.now.given) }
     requires shown_below { AllForms (IsBelow (length variables.now)) (plain condition.now.shown) }
+    requires knows { Knows (setting components.now variables.now) book.old }
+    ensures knows { Knows (setting components.now variables.now) book.new }
     ensures exact { IfOk result (λ v. plain_verdict v
         ≡ decided (setting components.now variables.now) (plain condition.now.given) (plain condition.now.shown)) }
     ensures right { IfOk result (λ v. IsRight (setting components.now variables.now) (plain condition.now.given) (plain condition.now.shown) v) }
 {
     look_at(&condition.given);
     look_at(&condition.shown);
+    if let Some(number) = find(alloc, book, components, variables, condition, MOST_LISTS)? {
+        return Ok(Verdict::Valid(certificate(alloc, book, number)?));
+    }
     let problem = first_problem(
         alloc,
         components,

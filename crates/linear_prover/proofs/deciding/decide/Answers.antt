@@ -3,7 +3,9 @@ use Rattle.st_form.specs.Plain.{plain}
 use Rattle.farkas_check.specs.Problem.{Setting, Problem}
 use Rattle.farkas_check.specs.PlainProblem.{setting}
 use Rattle.search_laws.specs.Walks.{searched}
-use Rattle.search_laws.specs.Moves.{move_of, verdict_of}
+use Rattle.search_laws.specs.Moves.{move_of, verdict_of, valid}
+use Rattle.search_laws.proofs.Finding.{proved}
+use Rattle.st_certificate.specs.Plain.{plain as tree_of}
 use Rattle.linear_prover.specs.Ready.{IfReady}
 use Rattle.linear_prover.proofs.Readying.{first-ready, proper}
 use Rattle.linear_prover.proofs.Rights.{right-from}
@@ -22,3 +24,17 @@ returns-clause-right c =
     (proper (length c.args.variables.now) (plain c.args.condition.now.given) c.look_at.ensures c.requires.given_below)
     (proper (length c.args.variables.now) (plain c.args.condition.now.shown) c.look_at-2.ensures c.requires.shown_below)
     (c.verdict_of.ensures ∙ ap verdict_of (c.in_ok-outcome.ensures.exact ∙ ap (searched (move_of k)) (c.in_ok-node.ensures ∙ c.in_ok-problem.ensures)))
+
+pub returns-in-Some-clause-exact : goal.returns-in-Some-clause-exact
+returns-in-Some-clause-exact c =
+    let found = rw c.in-Some.is at c.in_ok-number.ensures.found in
+    ap valid c.in_ok-certificate.ensures ∙ sym found.1
+
+pub returns-in-Some-clause-right : goal.returns-in-Some-clause-right
+returns-in-Some-clause-right c =
+    let k : Setting = setting c.args.components.now c.args.variables.now in
+    let found = rw c.in-Some.is at c.in_ok-number.ensures.found in
+    proved k (plain c.args.condition.now.given) (plain c.args.condition.now.shown) (tree_of c.in_ok-certificate.field-0)
+    (proper (length c.args.variables.now) (plain c.args.condition.now.given) c.look_at.ensures c.requires.given_below)
+    (proper (length c.args.variables.now) (plain c.args.condition.now.shown) c.look_at-2.ensures c.requires.shown_below)
+    (found.1 ∙ ap valid (sym c.in_ok-certificate.ensures))

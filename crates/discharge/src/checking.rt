@@ -9,9 +9,10 @@ ghost use Rattle.discharge.specs.Pieces.{EachPiece};
 
 use crate::gates::at_gate;
 use crate::shares::{Share, behind, halves, lesser_place};
+use crate::validity::is_valid;
 use cert_text::Block;
 use control_states::Components;
-use farkas_check::check;
+use linear_prover::Book;
 use st_form::{Condition, Variable};
 use st_memory::Memory;
 use st_outside::Gate;
@@ -30,6 +31,7 @@ fn check_piece(
     requires checkable { AreCheckable conditions.now blocks.now }
     ensures { IfOk result (λ o. IsFirstFailing (setting components.now variables.now) (dealt share conditions.now) (dealt share blocks.now) o) }
 {
+    let mut book = Book::new(alloc, components, variables)?;
     let mut rest = conditions;
     let mut rest_blocks = blocks;
     for i in 0..share.count {
@@ -39,7 +41,14 @@ fn check_piece(
         let Some((block, _)) = rest_blocks.split_first() else {
             return Ok(None);
         };
-        if !check(alloc, components, variables, condition, &block.certificate)? {
+        if !is_valid(
+            alloc,
+            &mut book,
+            components,
+            variables,
+            condition,
+            &block.certificate,
+        )? {
             return Ok(Some(i));
         }
         rest = behind(rest, share.stride);

@@ -12,6 +12,7 @@ mod guards;
 pub mod laws;
 mod searching;
 mod shares;
+mod validity;
 
 pub use cert_text::Block;
 pub use checking::check_all;

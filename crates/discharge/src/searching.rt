@@ -11,7 +11,7 @@ ghost use Rattle.discharge.specs.Verdicts.{AreSearchable, AreAnswers};
 use crate::gates::at_gate;
 use crate::shares::{Share, behind, halves, weave};
 use control_states::Components;
-use linear_prover::{Verdict, decide};
+use linear_prover::{Book, Verdict, decide};
 use st_form::{Condition, Variable};
 use st_memory::Memory;
 use st_outside::Gate;
@@ -30,6 +30,7 @@ fn decide_piece(
     requires searchable { AreSearchable (length variables.now) conditions.now }
     ensures { IfOk result (λ v. AreAnswers (setting components.now variables.now) (dealt share conditions.now) v.items) }
 {
+    let mut book = Book::new(alloc, components, variables)?;
     let mut verdicts = Vec::with_capacity(alloc, share.count)?;
     let mut rest = conditions;
     let mut left = share.count;
@@ -37,7 +38,7 @@ fn decide_piece(
         let Some((condition, _)) = rest.split_first() else {
             return Ok(verdicts);
         };
-        verdicts.push(decide(alloc, components, variables, condition)?)?;
+        verdicts.push(decide(alloc, &mut book, components, variables, condition)?)?;
         rest = behind(rest, share.stride);
         left -= 1;
     }

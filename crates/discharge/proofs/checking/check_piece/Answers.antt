@@ -10,6 +10,7 @@ use Rattle.discharge.proofs.checking.check_piece.Goals as goal
 
 pub loop-i-init : goal.loop-i-init
 loop-i-init c = record {
+  knows = c.in_ok-book.ensures;
   checkable = c.requires.checkable;
   ahead =
       let k : Setting = setting c.args.components.now c.args.variables.now in
@@ -30,7 +31,7 @@ returns-then-not-branch c =
     let s = c.args.share.stride in
     let n = c.args.share.count - c.loop-i.i in
     let some : 0 < n = omega (arith, c.loop-i-test.true) in
-    let exact = c.in_ok-check.ensures.exact in
+    let exact = c.in_ok-is_valid.ensures.exact in
     ahead-fails (setting c.args.components.now c.args.variables.now) (dealt c.args.share c.args.conditions.now) (dealt c.args.share c.args.blocks.now) c.loop-i.i _ _ _ _ c.in-Some.condition.now c.in-Some-split_first.block.now
     (every_next s n c.loop-i.rest.now c.in-Some.field-0-1.now c.in-Some.condition.now some c.in-Some.ensures.cases.0)
     (every_next s n c.loop-i.rest_blocks.now c.in-Some-split_first.field-0-1.now c.in-Some-split_first.block.now some c.in-Some-split_first.ensures.cases.0)
@@ -46,6 +47,7 @@ loop-i-preserved c =
     let cs : List Condition = dealt c.args.share c.args.conditions.now in
     let bs : List Block = dealt c.args.share c.args.blocks.now in
     record {
+      knows = c.in_ok-is_valid.ensures.knows;
       checkable = rw (c.behind-rest.ensures, c.behind-rest_blocks.ensures) (right-checkable s c.loop-i.rest.now c.loop-i.rest_blocks.now c.loop-i.invariant.checkable);
       ahead = subst (λ (l : List Condition). Ahead k cs bs (c.loop-i.i + 1) (every s (c.args.share.count - (c.loop-i.i + 1)) l) (every s (c.args.share.count - (c.loop-i.i + 1)) c.behind-rest_blocks.result.now)) (sym c.behind-rest.ensures)
           (subst (λ (l : List Block). Ahead k cs bs (c.loop-i.i + 1) (every s (c.args.share.count - (c.loop-i.i + 1)) (drop s c.loop-i.rest.now)) (every s (c.args.share.count - (c.loop-i.i + 1)) l)) (sym c.behind-rest_blocks.ensures)
@@ -53,7 +55,7 @@ loop-i-preserved c =
           (ahead-next k cs bs c.loop-i.i _ _ _ _ c.in-Some.condition.now c.in-Some-split_first.block.now
           (every_next s n c.loop-i.rest.now c.in-Some.field-0-1.now c.in-Some.condition.now some c.in-Some.ensures.cases.0)
           (every_next s n c.loop-i.rest_blocks.now c.in-Some-split_first.field-0-1.now c.in-Some-split_first.block.now some c.in-Some-split_first.ensures.cases.0)
-          c.loop-i.invariant.ahead (c.in_ok-check.ensures.exact.0 c.if-not-branch.false))));
+          c.loop-i.invariant.ahead (c.in_ok-is_valid.ensures.exact.0 c.if-not-branch.false))));
     }
 
 pub returns : goal.returns

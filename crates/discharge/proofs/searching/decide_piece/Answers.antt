@@ -20,6 +20,7 @@ loop-left-preserved c =
     let n = c.loop-left.left in
     let some : 0 < n = omega (arith, c.loop-left-test.true) in
     record {
+      knows = c.in_ok-decide.ensures.knows;
       searchable = subst (AreSearchable (length c.args.variables.now)) (sym c.behind-rest.ensures) (right-searchable (length c.args.variables.now) s c.loop-left.rest.now c.loop-left.invariant.searchable);
       answers = subst (λ (l : List Condition). AnswerSoFar k (dealt c.args.share c.args.conditions.now) c.push.new.self.items (every s (n - 1) l)) (sym c.behind-rest.ensures)
           (answers-more k (dealt c.args.share c.args.conditions.now) _ _ c.loop-left.verdicts.items c.push.new.self.items c.in-Some.condition.now c.in_ok-decide.field-0

@@ -1,0 +1,40 @@
+//! Whether a certificate is valid. Where it is the one that the search finds, nothing else is to be checked.
+
+ghost use Rattle.std.specs.Prelude.{◌↔◌, IfOk, IsTrue};
+ghost use Rattle.st_form.specs.Plain.{plain};
+ghost use Rattle.st_certificate.specs.Plain.{plain as tree_of};
+ghost use Rattle.farkas_check.specs.PlainProblem.{setting};
+ghost use Rattle.farkas_check.specs.Limits.{IsNarrow, IsLimited};
+ghost use Rattle.farkas_check.specs.Valid.{IsCertificate};
+ghost use Rattle.shared_search.specs.Books.{Knows};
+
+use control_states::Components;
+use farkas_check::check;
+use linear_prover::{Book, is_found};
+use st_certificate::Certificate;
+use st_form::{Condition, Variable};
+use st_memory::Memory;
+use std::alloc::Global;
+
+/// Whether a certificate is valid for a condition.
+pub fn is_valid(
+    alloc: Global,
+    book: &mut Book,
+    components: &Components,
+    variables: &[Variable],
+    condition: &Condition,
+    certificate: &Certificate,
+) -> Result<bool, Memory>
+    requires limited { IsLimited (tree_of certificate.now) }
+    requires given { IsNarrow (plain condition.now.given) }
+    requires shown { IsNarrow (plain condition.now.shown) }
+    requires knows { Knows (setting components.now variables.now) book.old }
+    ensures knows { Knows (setting components.now variables.now) book.new }
+    ensures exact { IfOk result (λ yes. IsTrue yes
+        ↔ IsCertificate (setting components.now variables.now) (plain condition.now.given) (plain condition.now.shown) (tree_of certificate.now)) }
+{
+    if is_found(alloc, book, components, variables, condition, certificate)? {
+        return Ok(true);
+    }
+    check(alloc, components, variables, condition, certificate)
+}

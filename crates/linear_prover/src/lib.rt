@@ -26,7 +26,7 @@ pub use deciding::{decide, is_decided_valid};
 pub use guards::{are_below, is_below};
 pub use row_elimination::WideStage;
 pub use sameness::is_found;
-pub use shared_search::{Book, is_long};
+pub use shared_search::Book;
 pub use st_certificate::Certificate;
 pub use st_form::{Condition, Variable};
 pub use st_program::Datum;

@@ -17,12 +17,27 @@ use std::alloc::Global;
 
 const MOST_LEVELS: u32 = 400;
 
-/// A book with more formulas is long.
+/// A book with more formulas is long: a new one is quicker.
 const LONG: usize = 20000;
 
-/// The number of the certificate that the search finds for a condition, where at most so many lists are searched for it.
-/// With `None` nothing is said.
-pub fn find(
+/// Begins a new book where this one is long.
+fn renew(
+    alloc: Global,
+    book: &mut Book,
+    components: &Components,
+    variables: &[Variable],
+) -> Result<(), Memory>
+    requires { Knows (setting components.now variables.now) book.old }
+    ensures { Knows (setting components.now variables.now) book.new }
+{
+    if book.memo.table.size() > LONG {
+        *book = Book::new(alloc, components, variables)?;
+    }
+    Ok(())
+}
+
+/// What is found in the book as it is.
+fn find_in(
     alloc: Global,
     book: &mut Book,
     components: &Components,
@@ -64,6 +79,26 @@ pub fn find(
     }
 }
 
+/// The number of the certificate that the search finds for a condition, where at most so many lists are searched for it.
+/// With `None` nothing is said.
+pub fn find(
+    alloc: Global,
+    book: &mut Book,
+    components: &Components,
+    variables: &[Variable],
+    condition: &Condition,
+    most: u32,
+) -> Result<Option<u32>, Memory>
+    requires given { IsNarrow (plain condition.now.given) }
+    requires shown { IsNarrow (plain condition.now.shown) }
+    requires knows { Knows (setting components.now variables.now) book.old }
+    ensures knows { Knows (setting components.now variables.now) book.new }
+    ensures found { IfOk result (λ o. IsFound (setting components.now variables.now) (plain condition.now.given) (plain condition.now.shown) book.new o) }
+{
+    renew(alloc, book, components, variables)?;
+    find_in(alloc, book, components, variables, condition, most)
+}
+
 /// The certificate with a number.
 pub fn certificate(alloc: Global, book: &Book, number: u32) -> Result<Certificate, Memory>
     requires { IsThere book.now number }
@@ -78,9 +113,4 @@ pub fn is_same(book: &Book, number: u32, certificate: &Certificate) -> bool
     ensures { result ≡ true → tree_in book.now number ≡ tree_of certificate.now }
 {
     tree_table::is_same(certificate, &book.memo.trees, number)
-}
-
-/// Whether a book has grown so long that a new one is quicker.
-pub fn is_long(book: &Book) -> bool {
-    book.memo.table.size() > LONG
 }

@@ -16,4 +16,4 @@ mod moves;
 mod walk;
 
 pub use book::Book;
-pub use finding::{certificate, find, is_long, is_same};
+pub use finding::{certificate, find, is_same};

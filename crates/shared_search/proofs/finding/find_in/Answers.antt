@@ -1,0 +1,29 @@
+use Rattle.std.proofs.Common.{refl}
+use Rattle.st_form.specs.Plain.{plain}
+use Rattle.farkas_check.specs.PlainProblem.{setting}
+use Rattle.farkas_check.proofs.Bounds.{modest-narrow}
+use Rattle.form_table.specs.Contents.{formulas_of}
+use Rattle.tree_table.specs.Nodes.{trees_in}
+use Rattle.tree_table.proofs.Making.{extends-refl}
+use Rattle.shared_search.proofs.Knowing.{found-later}
+use Rattle.shared_search.proofs.Certifying.{found-by, knows-later}
+use Rattle.shared_search.proofs.finding.find_in.Goals as goal
+
+pub first_list-requires-clause-given : goal.first_list-requires-clause-given
+first_list-requires-clause-given c = modest-narrow (plain c.args.condition.now.given) c.requires.given
+
+pub first_list-requires-clause-shown : goal.first_list-requires-clause-shown
+first_list-requires-clause-shown c = modest-narrow (plain c.args.condition.now.shown) c.requires.shown
+
+pub returns-in_err-list-clause-knows : goal.returns-in_err-list-clause-knows
+returns-in_err-list-clause-knows c =
+    knows-later (setting c.args.components.now c.args.variables.now) c.args.book.now _ refl refl (record { table = c.in_err-list.ensures.grows; trees = extends-refl (trees_in c.args.book.now.memo.trees) })
+    (found-later (setting c.args.components.now c.args.variables.now) (formulas_of c.args.book.now.memo.table) (formulas_of c.first_list.new.self) (trees_in c.args.book.now.memo.trees) (trees_in c.args.book.now.memo.trees) c.args.book.now.memo.known.items c.in_err-list.ensures.grows.formulas (extends-refl (trees_in c.args.book.now.memo.trees)) c.requires.knows.remembers) c.requires.knows
+
+pub walk-requires-clause-remembers : goal.walk-requires-clause-remembers
+walk-requires-clause-remembers c = found-later (setting c.args.components.now c.args.variables.now) (formulas_of c.args.book.now.memo.table) (formulas_of c.first_list.new.self) (trees_in c.args.book.now.memo.trees) (trees_in c.args.book.now.memo.trees) c.args.book.now.memo.known.items c.in_ok-list.ensures.grows.formulas (extends-refl (trees_in c.args.book.now.memo.trees)) c.requires.knows.remembers
+
+pub returns-then-is_modest-clause-found : goal.returns-then-is_modest-clause-found
+returns-then-is_modest-clause-found c =
+    found-by (setting c.args.components.now c.args.variables.now) (plain c.args.condition.now.given) (plain c.args.condition.now.shown) (trees_in c.walk.new.memo.trees) (formulas_of c.first_list.new.self) c.in_ok-list.list c.in-Some.tree (c.requires.knows.flat c.if-not-book.false) c.in_ok-list.ensures.made
+    (rw c.in-Some.is at c.in_ok-walk.ensures.found) (c.is_modest.ensures c.if-is_modest.true)

@@ -27,9 +27,9 @@ pub fn literal_hash(kind: u64, number: u32, plus: bool) -> u32 {
     folded(mixed(mixed(kind, u64::from(number)), u64::from(plus)))
 }
 
-/// The hash of parts by number.
-pub fn parts_hash(all: bool, parts: &[u32]) -> u32 {
-    let mut hash = mixed(1, u64::from(all));
+/// The hash of a conjunction or a disjunction: its kind, and its parts by number.
+pub fn parts_hash(kind: u64, parts: &[u32]) -> u32 {
+    let mut hash = mixed(kind, 1);
     for part in parts {
         hash = mixed(hash, u64::from(*part));
     }

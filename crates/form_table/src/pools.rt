@@ -15,13 +15,18 @@ use st_form::Lin;
 use st_memory::Memory;
 use std::alloc::Global;
 
-const BOOLEAN: u64 = 2;
+/// Each kind's hashes begin with a word of its own (digits of pi), so that no small number takes one kind's to another's.
+const BOOLEAN: u64 = 0x243F_6A88_85A3_08D3;
 
-const LOCATED: u64 = 3;
+const LOCATED: u64 = 0x1319_8A2E_0370_7344;
 
-const ROW: u64 = 4;
+const ROW: u64 = 0xA409_3822_299F_31D0;
 
-const EQUAL: u64 = 5;
+const EQUAL: u64 = 0x082E_FA98_EC4E_6C89;
+
+const ALL: u64 = 0x4528_21E6_38D0_1377;
+
+const ANY: u64 = 0xBE54_66CF_34E9_0C6C;
 
 /// A store, and an index of its formulas.
 #[derive(Drop)]
@@ -105,7 +110,7 @@ pub fn join(alloc: Global, pool: &mut Pool, all: bool, parts: &[u32]) -> Result<
     ensures extends { Extends (formulas_in pool.old.store) (formulas_in pool.new.store) }
     ensures made { IfOk result (λ n. Is (formulas_in pool.new.store) n (joined all (listed (formulas_in pool.old.store) parts.now))) }
 {
-    let hash = parts_hash(all, parts);
+    let hash = parts_hash(if all { ALL } else { ANY }, parts);
     let known = hint(pool.index.slots(), hash);
     if is_joined(&pool.store, known, all, parts) {
         return Ok(known);

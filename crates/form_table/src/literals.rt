@@ -21,7 +21,12 @@ fn simple_row(alloc: Global, pool: &mut Pool, f: &Lin) -> Result<u32, Memory>
     if f.entries().is_empty() {
         return Ok(pool.store.truth(f.constant() >= 0));
     }
-    row(alloc, pool, f.divided(alloc, f.divisor())?)
+    let divisor = f.divisor();
+    if divisor == 1 {
+        return row(alloc, pool, f);
+    }
+    let reduced = f.divided(alloc, divisor)?;
+    row(alloc, pool, &reduced)
 }
 
 /// A simplified row under a sign: where it is denied, its form is below 0.
@@ -62,7 +67,7 @@ fn simple_equal(alloc: Global, pool: &mut Pool, f: &Lin) -> Result<u32, Memory>
     if f.constant().unsigned_abs() % divisor != 0 {
         return Ok(pool.store.truth(false));
     }
-    equal(alloc, pool, leading(alloc, f.divided(alloc, divisor)?)?)
+    equal(alloc, pool, &leading(alloc, f.divided(alloc, divisor)?)?)
 }
 
 /// The simplified denial of an equation.

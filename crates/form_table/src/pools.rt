@@ -72,34 +72,36 @@ pub fn located(alloc: Global, pool: &mut Pool, location: u32, plus: bool) -> Res
     Ok(number)
 }
 
-/// A reduced row.
-pub fn row(alloc: Global, pool: &mut Pool, f: Lin) -> Result<u32, Memory>
-    requires { IsSteady (row f) true }
+/// A reduced row, which is copied where it is new.
+pub fn row(alloc: Global, pool: &mut Pool, f: &Lin) -> Result<u32, Memory>
+    requires { IsSteady (row f.now) true }
     ensures extends { Extends (formulas_in pool.old.store) (formulas_in pool.new.store) }
-    ensures made { IfOk result (λ n. Is (formulas_in pool.new.store) n (row f)) }
+    ensures made { IfOk result (λ n. Is (formulas_in pool.new.store) n (row f.now)) }
 {
-    let hash = line_hash(ROW, &f);
+    let hash = line_hash(ROW, f);
     let known = hint(pool.index.slots(), hash);
-    if is_row(&pool.store, known, &f) {
+    if is_row(&pool.store, known, f) {
         return Ok(known);
     }
-    let number = pool.store.row(f)?;
+    let copy = f.copy(alloc)?;
+    let number = pool.store.row(copy)?;
     enter(alloc, &mut pool.index, hash, number)?;
     Ok(number)
 }
 
-/// A reduced equation.
-pub fn equal(alloc: Global, pool: &mut Pool, f: Lin) -> Result<u32, Memory>
-    requires { IsSteady (equal f) true }
+/// A reduced equation, which is copied where it is new.
+pub fn equal(alloc: Global, pool: &mut Pool, f: &Lin) -> Result<u32, Memory>
+    requires { IsSteady (equal f.now) true }
     ensures extends { Extends (formulas_in pool.old.store) (formulas_in pool.new.store) }
-    ensures made { IfOk result (λ n. Is (formulas_in pool.new.store) n (equal f)) }
+    ensures made { IfOk result (λ n. Is (formulas_in pool.new.store) n (equal f.now)) }
 {
-    let hash = line_hash(EQUAL, &f);
+    let hash = line_hash(EQUAL, f);
     let known = hint(pool.index.slots(), hash);
-    if is_equal(&pool.store, known, &f) {
+    if is_equal(&pool.store, known, f) {
         return Ok(known);
     }
-    let number = pool.store.equal(f)?;
+    let copy = f.copy(alloc)?;
+    let number = pool.store.equal(copy)?;
     enter(alloc, &mut pool.index, hash, number)?;
     Ok(number)
 }

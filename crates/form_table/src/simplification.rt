@@ -49,7 +49,7 @@ fn normal_all(
     ensures made { IfOk result (λ n. Is (formulas_in pool.new.store) n
         (joined_parts all (gathered all (simples nothing (plain_list fs.now) plus)))) }
 {
-    let mut out = Vec::new(alloc);
+    let mut out = Vec::with_capacity(alloc, fs.len())?;
     for f in fs {
         let part = normal(alloc, pool, f, plus)?;
         if !take_part(&pool.store, &mut out, all, part)? {

@@ -11,13 +11,13 @@ use Rattle.linear_prover.proofs.deciding.decide.Goals as goal
 pub returns-in-Some-clause-exact : goal.returns-in-Some-clause-exact
 returns-in-Some-clause-exact c =
     let found = rw c.in-Some.is at c.in_ok-number.ensures.found in
-    ap valid c.in_ok-certificate-in-Some.ensures ∙ sym found.1
+    ap valid c.in_ok-certificate.ensures ∙ sym found.1
 
 pub returns-in-Some-clause-right : goal.returns-in-Some-clause-right
 returns-in-Some-clause-right c =
     let k : Setting = setting c.args.components.now c.args.variables.now in
     let found = rw c.in-Some.is at c.in_ok-number.ensures.found in
-    proved k (plain c.args.condition.now.given) (plain c.args.condition.now.shown) (tree_of c.in_ok-certificate-in-Some.field-0)
+    proved k (plain c.args.condition.now.given) (plain c.args.condition.now.shown) (tree_of c.in_ok-certificate.field-0)
     (proper (length c.args.variables.now) (plain c.args.condition.now.given) c.look_at.ensures c.requires.given_below)
     (proper (length c.args.variables.now) (plain c.args.condition.now.shown) c.look_at-2.ensures c.requires.shown_below)
-    (found.1 ∙ ap valid (sym c.in_ok-certificate-in-Some.ensures))
+    (found.1 ∙ ap valid (sym c.in_ok-certificate.ensures))

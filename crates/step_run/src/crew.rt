@@ -33,6 +33,9 @@ pub fn crew(workers: u32, conditions: &[Condition]) -> u32
     requires { 0 < workers }
     ensures { 0 < result }
 {
+    if workers < 2 {
+        return workers;
+    }
     let shallow = conditions.iter().all(|condition| {
         nests_within(MOST_LEVELS, &condition.given) && nests_within(MOST_LEVELS, &condition.shown)
     });

@@ -113,11 +113,7 @@ fn are_valid(verdicts: &[Verdict]) -> bool
 }
 
 /// Whether conditions are all decided valid.
-fn are_decided(
-    alloc: Global,
-    subject: &Subject,
-    conditions: &[Condition],
-) -> Result<bool, Memory>
+fn are_decided(alloc: Global, subject: &Subject, conditions: &[Condition]) -> Result<bool, Memory>
     requires subject { IsSubject subject.now }
     requires searchable { AreSearchable (length subject.now.source.program.variables) conditions.now }
     ensures { IfOk result (λ yes. yes ≡ are_decided (setting_of (source_view subject.now.source)) (map plain_condition conditions.now)) }
@@ -196,11 +192,7 @@ fn enter(
 }
 
 /// The text of all equations.
-fn entered(
-    alloc: Global,
-    subject: &Subject,
-    equations: &[Equation],
-) -> Result<Vec<u8>, Memory>
+fn entered(alloc: Global, subject: &Subject, equations: &[Equation]) -> Result<Vec<u8>, Memory>
     requires subject { IsSubject subject.now }
     requires proper { AreProper (plain_equations equations.now) }
     ensures { IfOk result (λ v. v.items ≡ invariants_text (source_view subject.now.source) (plain_equations equations.now)) }
@@ -240,10 +232,7 @@ fn wide(alloc: Global) -> Result<Ended, Memory>
 }
 
 /// The invariances that are found for a program.
-fn invariants(
-    alloc: Global,
-    source: Source,
-) -> Result<Ended, Memory>
+fn invariants(alloc: Global, source: Source) -> Result<Ended, Memory>
     requires { IsSpelled (source_view source) }
     ensures { IfOk result (λ e. ended_view e ≡ invariants_of (source_view source)) }
 {
@@ -267,11 +256,7 @@ fn invariants(
 }
 
 /// Reads the program's file, and looks for invariants.
-pub fn find_in<F: Files>(
-    alloc: Global,
-    files: &mut F,
-    program: &str,
-) -> Result<Ended, Memory>
+pub fn find_in<F: Files>(alloc: Global, files: &mut F, program: &str) -> Result<Ended, Memory>
     ensures follows { IfOk result (Follows (F.told files.old) (F.faults files.old) (F.faults files.new) (then_plan (source_plan program.now) find_in)) }
     ensures same { F.told files.new ≡ F.told files.old }
     ensures later { NoneFell (F.faults files.old) (F.faults files.new) }

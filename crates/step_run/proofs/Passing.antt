@@ -9,7 +9,8 @@ use Rattle.farkas_check.specs.Problem.{Setting}
 use Rattle.search_laws.specs.Moves.{valid, open_at, wide_at, decided}
 use Rattle.search_laws.specs.Moves as moves
 use Rattle.linear_prover.specs.declared.verdict.Verdict.{Verdict}
-use Rattle.discharge.specs.Searched.{is_valid, mark, ValidBefore, IsFirstOpen}
+use Rattle.linear_prover.specs.Verdicts.{is_valid}
+use Rattle.discharge.specs.Searched.{mark, ValidBefore, IsFirstOpen}
 use Rattle.block_laws.specs.Plain.{plains}
 use Rattle.step_plan.specs.declared.ended.Ended.{Ended}
 use Rattle.step_plan.specs.declared.stage.Stage.{Stage}

@@ -7,7 +7,7 @@ use Rattle.step_run.proofs.Filed.{setting_is}
 use Rattle.step_run.proofs.deciding.decided.Goals as goal
 
 pub decide_all-requires-clause-searchable : goal.decide_all-requires-clause-searchable
-decide_all-requires-clause-searchable c = λ κs lives.
+decide_all-requires-clause-searchable c =
     (let a = c.args in
     let cs = a.posed.now.conditions.items in
     rw (c.variables_of-variables.ensures, c.deref.ensures.value)

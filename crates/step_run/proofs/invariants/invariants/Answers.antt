@@ -18,14 +18,14 @@ returns-in-Err-Wide c =
     IfOk-weaker c.wide.result _ _ (λ e h. h ∙ looked-none p system same none) c.wide.ensures
 
 pub entered-requires-clause-subject : goal.entered-requires-clause-subject
-entered-requires-clause-subject c = λ ks within. record {
+entered-requires-clause-subject c = record {
   spelled = c.requires;
   system = system_is (source_view c.args.source) (plain_system c.in_ok-fts.fts) c.in_ok-fts.ensures.exact;
   control = c.in_ok-components.ensures.facts;
 }
 
 pub entered-requires-clause-proper : goal.entered-requires-clause-proper
-entered-requires-clause-proper c = λ ks within.
+entered-requires-clause-proper c =
     (let p = source_view c.args.source in
     let system = plain_system c.in_ok-fts.fts in
     let same = system_is p system c.in_ok-fts.ensures.exact in

@@ -37,7 +37,7 @@ behind-fresh-requires c =
     rw c.deref-3.ensures.value (there p text s c.args.kept.now.conditions c.requires.accepted (plain_script c.in-Some.script) script c.in-Some-2.conditions.items these)
 
 pub are_decided-requires-clause-searchable : goal.are_decided-requires-clause-searchable
-are_decided-requires-clause-searchable c = λ ks within.
+are_decided-requires-clause-searchable c =
     (let p = source_view c.args.subject.now.source in
     let these : AreConditions p (plain_script c.in-Some.script) c.in-Some-2.conditions.items = rw c.in-Some-2.is at c.in_ok-conditions.ensures in
     rw (c.behind-fresh.ensures, c.deref-3.ensures.value) (right-searchable _ c.args.kept.now.conditions c.in-Some-2.conditions.items these.searchable))

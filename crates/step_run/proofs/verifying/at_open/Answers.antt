@@ -8,6 +8,6 @@ pub returns-in-On : goal.returns-in-On
 returns-in-On c =
     let x = posed_view c.args.posed.now in
     let items = c.in-On.verdicts.items in
-    let next = next_pass x c.args.place items (rw c.in-On.is at c.in_ok-valid_to.ensures) in
+    let next = next_pass x c.args.place items (rw c.in-On.is at c.in_ok-verdicts.ensures) in
     let sized : length items ≡ c.len.result = omega (arith, c.len.ensures, c.in-On.verdicts.ok.0) in
     subst (λ n. Pass x c.args.place (c.args.place + n)) sized next

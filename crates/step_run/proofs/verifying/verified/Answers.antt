@@ -10,12 +10,12 @@ use Rattle.step_run.proofs.Passing.{come_past}
 use Rattle.step_run.proofs.verifying.verified.Goals as goal
 
 pub loop-place-preserved : goal.loop-place-preserved
-loop-place-preserved g c = come_past (posed_view c.args.posed.now) c.loop-place.place c.in-On.next c.loop-place.invariant (rw c.in-On.is at c.in_ok-searched.ensures)
+loop-place-preserved g c = come_past (posed_view c.args.posed.now) c.loop-place.place c.in-On.next c.loop-place.invariant (rw c.in-On.is at c.in_ok-next.ensures)
 
 pub returns-in-Over : goal.returns-in-Over
 returns-in-Over g c =
     let x = posed_view c.args.posed.now in
-    come_over x c.loop-place.place (λ ts. Unit {0}) (λ ts. goals_proved x) (ended_view c.in-Over.ended) c.loop-place.invariant (rw c.in-Over.is at c.in_ok-searched.ensures)
+    come_over x c.loop-place.place (λ ts. Unit {0}) (λ ts. goals_proved x) (ended_view c.in-Over.ended) c.loop-place.invariant (rw c.in-Over.is at c.in_ok-next.ensures)
 
 pub returns : goal.returns
 returns g c =

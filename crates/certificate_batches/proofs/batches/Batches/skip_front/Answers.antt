@@ -1,5 +1,4 @@
-use Rattle.std.proofs.Common.{◌≡◌, ◌∙◌, ℕ, ◌+◌, length, sym, ap, subst, refl, arith}
-use Rattle.std.specs.Prelude.{Some, None}
+use Rattle.std.proofs.Common.{◌≡◌, length, ap, subst, refl, arith}
 use Rattle.cert_text.specs.Held.{Held}
 use Rattle.certificate_batches.specs.Claims.{setting_of}
 use Rattle.certificate_batches.specs.Turns.{IsFronted}
@@ -11,13 +10,13 @@ returns-in-None-clause-keeps c =
     let claims = c.args.claims.now in
     let all = c.requires.all in
     keeps_dropped (setting_of claims) claims.conditions.now c.args.self.now _ all (record { unsettled = all.unsettled; none_waits = all.none_waits; all = all.all })
-    (subst (IsFronted c.args.self.now.reader c.drop_front.new.reader) c.in-None.is c.in_ok-place.ensures)
+    (subst (IsFronted c.args.self.now.reader c.drop_front.new.reader) c.in-None.is c.in_ok-drop_front.ensures)
 
 pub returns-in-Some-clause-keeps : goal.returns-in-Some-clause-keeps
 returns-in-Some-clause-keeps c =
     let claims = c.args.claims.now in
     keeps_settled (setting_of claims) claims.conditions.now c.args.self.now _ c.in-Some.place c.requires.all refl
-    (subst (IsFronted c.args.self.now.reader c.drop_front.new.reader) c.in-Some.is c.in_ok-place.ensures)
+    (subst (IsFronted c.args.self.now.reader c.drop_front.new.reader) c.in-Some.is c.in_ok-drop_front.ensures)
 
 pub returns-in-Some-clause-order : goal.returns-in-Some-clause-order
 returns-in-Some-clause-order c =

@@ -1,16 +1,14 @@
 -- What isn't blank in front, where a header may stand: what is dropped of it changes no place.
 use Rattle.std.proofs.Common.{◌≡◌, ◌∙◌, ℕ, zero, suc, ◌+◌, ◌<◌, Bool, true, false, cond, List, [], ◌∷◌, ◌++◌, length, drop, refl, sym, ap, subst, arith, inl, inr, length-drop}
 use Rattle.std.specs.Prelude.{Option, Some, None, ◌==◌, ◌&&◌, ◌||◌, nat_lt}
+use Rattle.std.proofs.lemmas.Bool.{false≢true}
 use Rattle.std.proofs.lemmas.List.{drop-drop, drop-append-le}
 use Rattle.cert_text.specs.Blank.{blank_len, header_len, front_len, past, may_begin, past_blanks, first_place}
 use Rattle.cert_text.specs.Held.{Held}
 use Rattle.cert_laws.specs.Laws.{closed}
 use Rattle.certificate_batches.specs.Turns.{trailing, AreDropped}
 use Rattle.certificate_batches.proofs.Blanks.{plus_none, more_than_none, nonblank, place_of, blanks_within, behind_blanks, first_behind, moved, past_is, trailing_is, blanks_dropped}
-use Rattle.certificate_batches.proofs.Headers.{blanks_then, none_behind, none_then, header_reaches, header_within}
-
-pub no_truth : false ≡ true → ⊥
-no_truth e = cc
+use Rattle.certificate_batches.proofs.Headers.{is_some, blanks_then, none_behind, none_then, header_reaches, header_within}
 
 -- ---- what isn't blank in front, a header counting as blank
 abbrev skipped : List ℕ → ℕ
@@ -76,17 +74,13 @@ place_skipped p (b ∷ bs) none zero_is some =
     let all : skipped l ≡ 0 = ap (λ (k : ℕ). behind k (header_len (drop k l)) (drop k l)) none ∙ ap (λ (k : ℕ). behind 0 k l) zero_is in
     ap (λ (j : ℕ). place_of (p + j) (drop j l)) all ∙ ap (λ (c : Bool). cond c None (Some (p + 0))) (more_than_none (length bs)) ∙ ap Some (plus_none p)
 
-pub is_some : (n : ℕ) → 0 < n → (n == 0) ≡ false
-is_some zero h = absurd (omega (arith, h))
-is_some (suc n) h = more_than_none n
-
 some_is : (n : ℕ) → (n == 0) ≡ false → 0 < n
-some_is zero h = absurd (no_truth (sym h))
+some_is zero h = absurd (false≢true (sym h))
 some_is (suc n) h = omega arith
 
 pub none_is : (n : ℕ) → (n == 0) ≡ true → n ≡ 0
 none_is zero h = refl
-none_is (suc n) h = absurd (no_truth (sym (more_than_none n) ∙ h))
+none_is (suc n) h = absurd (false≢true (sym (more_than_none n) ∙ h))
 
 -- ---- what is held behind the blanks
 module _ (h : Held) (may : may_begin h ≡ true) where

@@ -2,13 +2,12 @@
 use Rattle.std.proofs.Common.{◌≡◌, ◌∙◌, ℕ, zero, suc, ◌+◌, ◌<◌, ◌≤◌, Bool, true, false, cond, List, [], ◌∷◌, ◌++◌, length, drop, refl, sym, ap, subst, arith, inl, inr, ◌⊎◌, codes, length-drop}
 use Rattle.std.specs.Prelude.{◌==◌, ◌&&◌, nat_eq}
 use Rattle.std.specs.List.{starts_with}
+use Rattle.std.proofs.Math.Nat.{eq-or-lt_of_le}
+use Rattle.std.proofs.lemmas.Bool.{cases_lt, false≢true}
 use Rattle.std.proofs.lemmas.List.{drop-append-le, nil_from_length}
 use Rattle.cert_text.specs.Letters.{is_blank}
 use Rattle.cert_text.specs.Blank.{blank_len, byte_behind, header_len}
 use Rattle.certificate_batches.proofs.Blanks.{plus_none, more_than_none, blanks_within}
-
-no_truth : false ≡ true → ⊥
-no_truth e = cc
 
 -- ---- blanks in front, and more bytes behind
 pub blanks_then : (bs rest : List ℕ) → blank_len (bs ++ rest) ≡ blank_len bs + blank_len (drop (blank_len bs) bs ++ rest)
@@ -61,21 +60,12 @@ byte_value b from bs = by (starts_with nat_eq (drop (from + blank_len (drop from
   by false = inl refl
 
 byte_reaches : (b from : ℕ) (bs rest : List ℕ) → from ≤ length bs → Reaches (length bs) (byte_behind b from bs) (byte_behind b from (bs ++ rest))
-byte_reaches b from bs rest within = by (less_or_all (blank_len d) (length d) (blanks_within d)) where
-  d : List ℕ
-  d = drop from bs
-
-  less_or_all : (m n : ℕ) → m ≤ n → (m < n) ⊎ (m ≡ n)
-  less_or_all zero zero h = inr refl
-  less_or_all zero (suc n) h = inl (omega arith)
-  less_or_all (suc m) zero h = absurd (omega (arith, h))
-  less_or_all (suc m) (suc n) h = elim (less_or_all m n (omega (arith, h))) [ inl r ↦ inl (omega (arith, r)) | inr r ↦ inr (ap suc r) ]
-
+byte_reaches b from bs rest within = by (eq-or-lt_of_le (blanks_within (drop from bs))) where
   longer : drop from (bs ++ rest) ≡ drop from bs ++ rest
   longer = drop-append-le from bs rest within
 
-  by : (blank_len (drop from bs) < length (drop from bs)) ⊎ (blank_len (drop from bs) ≡ length (drop from bs)) → Reaches (length bs) (byte_behind b from bs) (byte_behind b from (bs ++ rest))
-  by (inl less) =
+  by : (blank_len (drop from bs) ≡ length (drop from bs)) ⊎ (blank_len (drop from bs) < length (drop from bs)) → Reaches (length bs) (byte_behind b from bs) (byte_behind b from (bs ++ rest))
+  by (inr less) =
       let n = blank_len (drop from bs) in
       let size = length-drop from bs in
       let left : 0 < length (drop n (drop from bs)) = omega (arith, less, length-drop n (drop from bs)) in
@@ -86,7 +76,7 @@ byte_reaches b from bs rest within = by (less_or_all (blank_len d) (length d) (b
       inl (ap (λ (m : ℕ). cond (starts_with nat_eq (drop (from + m) (bs ++ rest)) (b ∷ [])) (from + m + 1) 0) same
       ∙ ap (λ (l : List ℕ). cond (starts_with nat_eq l (b ∷ [])) (from + n + 1) 0) (drop-append-le (from + n) bs rest at)
       ∙ ap (λ (c : Bool). cond c (from + n + 1) 0) (starts_one b (drop (from + n) bs) rest some))
-  by (inr all) =
+  by (inl all) =
       let n = blank_len (drop from bs) in
       let size = length-drop from bs in
       let empty : drop (from + n) bs ≡ [] = nil_from_length (drop (from + n) bs) (omega (arith, all, size, within, length-drop (from + n) bs)) in
@@ -105,7 +95,7 @@ byte_within b from bs within = by (starts_with nat_eq (drop (from + blank_len (d
   by : (c : Bool) → starts_with nat_eq (drop (from + blank_len (drop from bs)) bs) (b ∷ []) ≡ c → cond c (from + blank_len (drop from bs) + 1) 0 ≤ length bs
   by true e = inside (drop (from + blank_len (drop from bs)) bs) refl e where
     inside : (l : List ℕ) → drop (from + blank_len (drop from bs)) bs ≡ l → starts_with nat_eq l (b ∷ []) ≡ true → from + blank_len (drop from bs) + 1 ≤ length bs
-    inside [] f g = absurd (no_truth g)
+    inside [] f g = absurd (false≢true g)
     inside (x ∷ l) f g = omega (arith, ap length f, length-drop (from + blank_len (drop from bs)) bs)
   by false e = omega arith
 
@@ -120,7 +110,7 @@ zero_or_more : (n : ℕ) → ((n == 0) ≡ true) ⊎ (0 < n)
 zero_or_more zero = inl refl
 zero_or_more (suc n) = inr (omega arith)
 
-is_some : (n : ℕ) → 0 < n → (n == 0) ≡ false
+pub is_some : (n : ℕ) → 0 < n → (n == 0) ≡ false
 is_some zero h = absurd (omega (arith, h))
 is_some (suc n) h = more_than_none n
 
@@ -172,14 +162,9 @@ header_beyond bs size small = by (starts_with nat_eq bs (codes "version")) where
     | inr e ↦ end_beyond (two_of bs) size bs (omega (arith, e, small))
   ]
 
-short_or_long : (m n : ℕ) → (n < m) ⊎ (m ≤ n)
-short_or_long zero n = inr (omega arith)
-short_or_long (suc m) zero = inl (omega arith)
-short_or_long (suc m) (suc n) = elim (short_or_long m n) [ inl r ↦ inl (omega (arith, r)) | inr r ↦ inr (omega (arith, r)) ]
-
 pub header_reaches : (bs rest : List ℕ) → Reaches (length bs) (header_len bs) (header_len (bs ++ rest))
 unfolding header_len
-header_reaches bs rest = by (short_or_long 7 (length bs)) where
+header_reaches bs rest = by (cases_lt (length bs) 7) where
   both : (c : Bool) → Reaches (length bs) (end_of (two_of bs) bs) (end_of (two_of (bs ++ rest)) (bs ++ rest))
       → Reaches (length bs) (cond c (end_of (two_of bs) bs) 0) (cond c (end_of (two_of (bs ++ rest)) (bs ++ rest)) 0)
   both true r = r
@@ -205,7 +190,7 @@ header_within bs = by (starts_with nat_eq bs (codes "version")) refl where
 
   by : (c : Bool) → starts_with nat_eq bs (codes "version") ≡ c → cond c (end_of (two_of bs) bs) 0 ≤ length bs
   by false e = omega arith
-  by true e = elim (short_or_long 7 (length bs)) [
-    | inl short ↦ absurd (let f = starts_short (codes "version") bs short in no_truth (sym f ∙ e))
+  by true e = elim (cases_lt (length bs) 7) [
+    | inl short ↦ absurd (let f = starts_short (codes "version") bs short in false≢true (sym f ∙ e))
     | inr long ↦ ends long
   ]

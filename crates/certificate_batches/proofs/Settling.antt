@@ -1,6 +1,7 @@
 -- What isn't blank in front settles the rest once no more is needed: a text that a header goes on from is one that needs more.
 use Rattle.std.proofs.Common.{◌≡◌, ◌∙◌, ℕ, ◌+◌, ◌-◌, ◌<◌, ◌≤◌, Bool, true, false, cond, List, [], ◌∷◌, ◌++◌, length, take, drop, refl, sym, ap, subst, arith, inl, inr, length-append, length-drop, length-take}
 use Rattle.std.specs.Prelude.{Option, Some, None, ◌==◌}
+use Rattle.std.proofs.lemmas.Bool.{false≢true}
 use Rattle.std.proofs.lemmas.List.{drop-drop, take-append-drop, nil_from_length, append_assoc}
 use Rattle.cert_text.specs.Blank.{blank_len, header_len, may_begin, past_blanks, first_place}
 use Rattle.cert_text.specs.Reading.{State, going, malformed, over, whole, after, start}
@@ -10,9 +11,9 @@ use Rattle.cert_laws.specs.Laws.{closed, AnswersStay, TrailingIsBlank}
 use Rattle.st_certificate.specs.Tree.{Tree}
 use Rattle.certificate_batches.specs.Turns.{trailing, AreDropped, is_need}
 use Rattle.certificate_batches.proofs.Blanks.{more_than_none, nonblank, first_nonblank, place_of, moved, trailing_is, place_is_settled}
-use Rattle.certificate_batches.proofs.Headers.{none_behind, none_then, header_reaches, header_within}
+use Rattle.certificate_batches.proofs.Headers.{is_some, none_behind, none_then, header_reaches, header_within}
 use Rattle.certificate_batches.proofs.Taking.{kept}
-use Rattle.certificate_batches.proofs.Fronts.{no_truth, is_some, none_is, trailing_fronted, place_skipped, only, header_too, all_blank, behind_header, none_may, front_dropped}
+use Rattle.certificate_batches.proofs.Fronts.{none_is, trailing_fronted, place_skipped, only, header_too, all_blank, behind_header, none_may, front_dropped}
 
 -- ---- an open text has no end
 open_goes : (s : State) (h : Held) → h.finished ≡ false → answer_at s h ≡ no_more → ⊥
@@ -52,7 +53,7 @@ module _ (stay : AnswersStay) (blank : TrailingIsBlank) (h : Held) (unended : h.
       let size : length (l ++ s) ≡ y = omega (arith, beyond, within, length-append l rest, length-append l s, length-take n rest) in
       let found : header_len ((l ++ s) ++ more) ≡ y = ap header_len all in
       let here : header_len (l ++ s) ≡ length (l ++ s) = elim (header_reaches (l ++ s) more) [ inl e ↦ sym e ∙ found ∙ sym size | inr e ↦ absurd (omega (arith, e.1, found, size)) ] in
-      let same = (stay h s (λ e. absurd (no_truth (sym unended ∙ e))) settled).answer in
+      let same = (stay h s (λ e. absurd (false≢true (sym unended ∙ e))) settled).answer in
       open_goes (outcome h) h unended (sym same ∙ ended s here)
 
 -- ---- what isn't blank
@@ -122,10 +123,10 @@ front_told stay blank h mid o place a unended left is some answer settled rest =
 
 pub need_is : (a : Answer) → is_need a ≡ true → a ≡ need
 need_is need e = refl
-need_is (block n t) e = absurd (no_truth e)
-need_is no_more e = absurd (no_truth e)
-need_is (malformed_at place) e = absurd (no_truth e)
-need_is (limit_at place) e = absurd (no_truth e)
+need_is (block n t) e = absurd (false≢true e)
+need_is no_more e = absurd (false≢true e)
+need_is (malformed_at place) e = absurd (false≢true e)
+need_is (limit_at place) e = absurd (false≢true e)
 
 pub no_need_is : (a : Answer) → is_need a ≡ false → a ≡ need → ⊥
-no_need_is a e f = no_truth (sym e ∙ ap is_need f)
+no_need_is a e f = false≢true (sym e ∙ ap is_need f)

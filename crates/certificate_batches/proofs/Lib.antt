@@ -1,6 +1,9 @@
 pub mod Blanks
-pub mod Taking
-pub mod Pending
-pub mod Steps
-pub mod Parts
+pub mod Fronts
+pub mod Headers
 pub mod Joining
+pub mod Parts
+pub mod Pending
+pub mod Settling
+pub mod Steps
+pub mod Taking

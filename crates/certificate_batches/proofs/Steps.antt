@@ -19,7 +19,7 @@ use Rattle.certificate_batches.specs.declared.batches.Batches.{Batches}
 use Rattle.certificate_batches.specs.Finding.{finding_of}
 use Rattle.certificate_batches.specs.declared.finding.Finding.{Finding}
 use Rattle.certificate_batches.specs.declared.finding.Finding.TheVariants.{Discharged}
-use Rattle.certificate_batches.specs.Turns.{trailing, IsTaken}
+use Rattle.certificate_batches.specs.Turns.{trailing, AreDropped, IsTaken}
 use Rattle.certificate_batches.specs.Batches.{rest_found, comes_to, Keeps, AreInOrder, AreAllDischarged}
 use Rattle.certificate_batches.proofs.Pending.{unsettled_is, settled_is}
 
@@ -89,3 +89,11 @@ settled_same k cs b some rest more = by b.settled refl some where
 -- anything may follow an open text
 pub anything : (h : Held) (rest : List ℕ) → h.finished ≡ false → MayFollow h rest
 anything h rest unfinished done = absurd (no_truth (sym unfinished ∙ done))
+
+-- nothing but blanks was dropped, or it is settled what isn't blank
+pub keeps_dropped : (k : Setting) (cs : List Condition) (a b : Batches) → AreAllDischarged cs a → AreAllDischarged cs b → AreDropped a.reader b.reader → Keeps k cs a b
+keeps_dropped k cs a b all now dropped rest may = all_is k cs b now rest ∙ ap Discharged (dropped.same rest) ∙ sym (all_is k cs a all rest)
+
+pub keeps_settled : (k : Setting) (cs : List Condition) (a b : Batches) (place : ℕ) → AreAllDischarged cs a → b.settled ≡ Some (Discharged (Some place))
+    → ((rest : List ℕ) → trailing a.reader rest ≡ Some place) → Keeps k cs a b
+keeps_settled k cs a b place all is told rest may = settled_is k cs b rest (Discharged (Some place)) is ∙ ap Discharged (sym (told rest)) ∙ sym (all_is k cs a all rest)

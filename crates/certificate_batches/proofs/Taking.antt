@@ -19,7 +19,7 @@ use Rattle.block_laws.proofs.Pending.{pend_more}
 use Rattle.certificate_batches.specs.declared.turns.Turn.TheVariants.{Lacks}
 use Rattle.certificate_batches.specs.Turns.{reach, IsTaken, IsTurn}
 
-block_not_need : (n : ℕ) (t : Tree) (a : Answer) → a ≡ block n t → a ≡ need → ⊥
+pub block_not_need : (n : ℕ) (t : Tree) (a : Answer) → a ≡ block n t → a ≡ need → ⊥
 block_not_need n t a e f = cc
 
 module _ (stay : AnswersStay) (h : Held) (rest : List ℕ) (may : MayFollow h rest) where
@@ -43,22 +43,22 @@ kept_at (malformed place) h none = refl
 kept_at (over place) h none = refl
 kept_at (whole end scan built) h none = absurd (none h.number (last_tree built.trees) refl)
 
-kept : (h : Held) (a : Answer) → answer_of h ≡ a → ((n : ℕ) (t : Tree) → a ≡ block n t → ⊥) → taken_from h ≡ h
+pub kept : (h : Held) (a : Answer) → answer_of h ≡ a → ((n : ℕ) (t : Tree) → a ≡ block n t → ⊥) → taken_from h ≡ h
 kept h a is none = kept_at (outcome h) h (λ n t e. none n t (sym is ∙ e))
 
-end_no_need : no_more ≡ need → ⊥
+pub end_no_need : no_more ≡ need → ⊥
 end_no_need e = cc
 
 end_no_block : (n : ℕ) (t : Tree) → no_more ≡ block n t → ⊥
 end_no_block n t e = cc
 
-malformed_no_need : (p : ℕ) → malformed_at p ≡ need → ⊥
+pub malformed_no_need : (p : ℕ) → malformed_at p ≡ need → ⊥
 malformed_no_need p e = cc
 
 malformed_no_block : (p n : ℕ) (t : Tree) → malformed_at p ≡ block n t → ⊥
 malformed_no_block p n t e = cc
 
-limit_no_need : (p : ℕ) → limit_at p ≡ need → ⊥
+pub limit_no_need : (p : ℕ) → limit_at p ≡ need → ⊥
 limit_no_need p e = cc
 
 limit_no_block : (p n : ℕ) (t : Tree) → limit_at p ≡ block n t → ⊥

@@ -1,5 +1,5 @@
 -- What is taken from a text that may still be open, wherever its rest ends.
-use Rattle.std.specs.Prelude.{◌≡◌, ℕ, ◌+◌, ◌<◌, ◌≤◌, false, List, [], ◌∷◌, ◌++◌, length, Option, Some}
+use Rattle.std.specs.Prelude.{◌≡◌, ℕ, ◌+◌, ◌<◌, ◌≤◌, Bool, true, false, List, [], ◌∷◌, ◌++◌, length, Option, Some, None}
 use Rattle.st_form.specs.Condition.{Implication}
 use Rattle.st_certificate.specs.Tree.{Tree}
 use Rattle.st_certificate.specs.Plain.{plain as tree_of}
@@ -7,6 +7,7 @@ use Rattle.farkas_check.specs.Limits.{IsLimited}
 use Rattle.farkas_check.specs.Problem.{Setting}
 use Rattle.cert_text.specs.declared.reader.Block.{Block}
 use Rattle.cert_text.specs.Blank.{first_place, past_blanks}
+use Rattle.cert_text.specs.Answer.{Answer, block, need, no_more, malformed_at, limit_at}
 use Rattle.cert_text.specs.Held.{Held}
 use Rattle.cert_laws.specs.Laws.{closed, MayFollow}
 use Rattle.block_laws.specs.Checked.{block_tested, pending_from}
@@ -42,3 +43,16 @@ pub record AreDropped (before now : Held) : Type 0 where
   pub finished : now.finished ≡ before.finished
   pub reached : reach now ≤ reach before
   pub same : (rest : List ℕ) → trailing now rest ≡ trailing before rest
+
+-- what isn't blank in front, a whole header counting as blank: its place, once the rest can't change it; else what was blank was taken
+abbrev pub IsFronted : Held → Held → Option ℕ → Type 0
+IsFronted before now (Some place) = (rest : List ℕ) → trailing before rest ≡ Some place
+IsFronted before now None = AreDropped before now
+
+-- more is needed
+abbrev pub is_need : Answer → Bool
+is_need need = true
+is_need (block n t) = false
+is_need no_more = false
+is_need (malformed_at place) = false
+is_need (limit_at place) = false

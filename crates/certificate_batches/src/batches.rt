@@ -13,7 +13,7 @@ ghost use Rattle.certificate_batches.specs.Claims.{setting_of, conditions_of, Ma
 ghost use Rattle.certificate_batches.specs.Turns.{reach, trailing};
 ghost use Rattle.certificate_batches.specs.Batches.{comes_to, Keeps, AreInOrder, AreAllDischarged};
 
-use crate::turns::{Turn, drop_blanks, next_turn};
+use crate::turns::{Turn, drop_blanks, drop_front, next_turn};
 use crate::{Claims, Finding};
 use cert_text::{Block, CertReader};
 use discharge::check_all;
@@ -42,6 +42,8 @@ pub struct Batches {
     discharged: usize,
     /// What all comes to, whatever follows.
     settled: Option<Finding>,
+    /// How much was held when a header was last looked for.
+    looked: u64,
 }
 
 impl Batches {
@@ -56,6 +58,7 @@ impl Batches {
             blocks: Vec::new(alloc),
             discharged: 0,
             settled: None,
+            looked: 0,
         }
     }
 
@@ -247,10 +250,44 @@ impl Batches {
             return Ok(());
         }
         self.reader.push(piece)?;
-        if self.take_blocks(rt, alloc, gate, workers, claims)? && !claims.conditions.is_empty() {
-            self.skip_blanks(claims);
+        if !self.take_blocks(rt, alloc, gate, workers, claims)? {
+            return Ok(());
         }
+        if claims.conditions.is_empty() {
+            self.skip_front(alloc, claims)?;
+            return Ok(());
+        }
+        self.skip_blanks(claims);
         Ok(())
+    }
+
+    /// Where there are no conditions: drops blanks, and a header. What isn't blank settles all as soon as no header can come
+    /// of it. It is looked at again once twice as much is held, so that a header in many pieces costs no more than its length.
+    fn skip_front(&mut self, alloc: Global, claims: &Claims<'_>) -> Result<(), Memory>
+        requires order { AreInOrder (conditions_of claims.now) self.old }
+        requires all { AreAllDischarged (conditions_of claims.now) self.old }
+        requires none { length (conditions_of claims.now) ≡ 0 }
+        requires unfinished { self.old.reader.finished ≡ false }
+        ensures keeps { OnOk result (Keeps (setting_of claims.now) (conditions_of claims.now) self.old self.new) }
+        ensures order { OnOk result (AreInOrder (conditions_of claims.now) self.new) }
+        ensures finished { OnOk result (self.new.reader.finished ≡ false) }
+        ensures reached { OnOk result (reach self.new.reader ≤ reach self.old.reader) }
+    {
+        if self.reader.held() / 2 < self.looked {
+            return Ok(());
+        }
+        match drop_front(&mut self.reader)? {
+            None => {
+                self.looked = self.reader.held();
+                Ok(())
+            }
+            Some(place) => {
+                let finding = Finding::Discharged(Some(place));
+                self.reader = CertReader::new(alloc);
+                self.settled = Some(finding);
+                Ok(())
+            }
+        }
     }
 
     /// Drops blanks behind the last block. What isn't blank settles the rest.

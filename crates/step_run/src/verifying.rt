@@ -24,15 +24,17 @@ use std::alloc::Global;
 use std::thread::Threads;
 use step_plan::{Ended, Stage};
 
-/// How many conditions are searched before a look whether one of them isn't valid.
-const SLICE: usize = 1024;
+/// How many conditions are searched at least before a look whether one of them isn't valid.
+const FEWEST: usize = 64;
 
-/// The place behind the slice that begins at a place.
+/// The place behind the slice that begins at a place: it has as many conditions as lie before it. So at most twice as many
+/// are searched as lie before the first that isn't valid, and what a slice has found serves many conditions.
 fn slice_end(place: usize, size: usize) -> usize
     requires { place < size }
     ensures { (place < result) × (result ≤ size) }
 {
-    place + SLICE.min(size - place)
+    let count = if place < FEWEST { FEWEST } else { place };
+    place + count.min(size - place)
 }
 
 /// The first condition that isn't valid, from one place to before another, counted from there.

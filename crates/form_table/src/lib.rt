@@ -18,7 +18,6 @@ mod parts;
 mod pools;
 mod restriction;
 mod simplification;
-mod slots;
 mod splitting;
 mod stores;
 mod tables;

@@ -8,7 +8,7 @@ ghost use Rattle.form_table.specs.Nodes.{formulas_in};
 
 use crate::nodes::Node;
 use crate::stores::Store;
-use st_form::Lin;
+use st_form::{Lin, is_same_line};
 
 /// Whether a number is that of this variable under this sign.
 #[tactic(auto, using(crate::proofs::Hinting::hinting))]
@@ -38,29 +38,6 @@ pub fn is_located(store: &Store, number: u32, location: u32, plus: bool) -> bool
     }
 }
 
-/// Whether two numbers are equal.
-fn is_number(x: &i128, y: &i128) -> bool
-    ensures { result ≡ true → x.now ≡ y.now }
-{
-    *x == *y
-}
-
-/// Whether two lists of entries are equal.
-#[tactic(auto, using(crate::proofs::Hinting::comparing))]
-fn is_entries(xs: &[(u32, i128)], ys: &[(u32, i128)]) -> bool
-    ensures { result ≡ true → xs.now ≡ ys.now }
-{
-    xs == ys
-}
-
-/// Whether two forms are equal.
-#[tactic(auto, using(crate::proofs::Hinting::comparing))]
-fn is_form(f: &Lin, g: &Lin) -> bool
-    ensures { result ≡ true → f.now ≡ g.now }
-{
-    is_number(&f.constant(), &g.constant()) && is_entries(f.entries(), g.entries())
-}
-
 /// Whether a number is that of this row.
 #[tactic(auto, using(crate::proofs::Hinting::hinting))]
 pub fn is_row(store: &Store, number: u32, f: &Lin) -> bool
@@ -70,7 +47,7 @@ pub fn is_row(store: &Store, number: u32, f: &Lin) -> bool
         return false;
     }
     match store.node(number) {
-        Node::Row(line) => is_form(store.line(line), f),
+        Node::Row(line) => is_same_line(store.line(line), f),
         _ => false,
     }
 }
@@ -84,7 +61,7 @@ pub fn is_equal(store: &Store, number: u32, f: &Lin) -> bool
         return false;
     }
     match store.node(number) {
-        Node::Equal(line) => is_form(store.line(line), f),
+        Node::Equal(line) => is_same_line(store.line(line), f),
         _ => false,
     }
 }

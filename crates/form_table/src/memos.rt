@@ -8,7 +8,7 @@ ghost use Rattle.form_table.specs.Table.{Is, formula};
 ghost use Rattle.form_table.specs.Contents.{Choice, decision_at};
 ghost use Rattle.form_table.specs.Memory.{IsEntry, Remembers};
 
-use crate::hashes::{folded, mixed};
+use hint_index::{folded, mixed};
 use st_memory::Memory;
 use std::alloc::Global;
 

@@ -9,8 +9,8 @@ ghost use Rattle.form_table.specs.Nodes.{formulas_in};
 
 use crate::hashes::{line_hash, literal_hash, parts_hash};
 use crate::matching::{is_boolean, is_equal, is_joined, is_located, is_row};
-use crate::slots::{Index, enter, hint, no_index};
 use crate::stores::Store;
+use hint_index::{Index, enter, hint, no_index};
 use st_form::Lin;
 use st_memory::Memory;
 use std::alloc::Global;

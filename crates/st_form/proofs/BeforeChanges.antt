@@ -1,7 +1,6 @@
 -- An exchanged formula has as many atoms as were counted before it was made.
 use Rattle.std.proofs.Common.{◌≡◌, ◌+◌, ℕ, refl, ap, sym, ◌∙◌, Option, Some, None}
 use Rattle.std.specs.Option.{option_map}
-use Rattle.std.specs.Prelude.{option_and_then}
 use Rattle.st_linear.specs.Linear.{replaced}
 use Rattle.st_linear.proofs.Replacing.{bind-some}
 use Rattle.st_form.specs.Formula.{Formula, Formulas, truth_value, row, equal, bool_var, at, negation, every, some, none, more, atoms, atoms_of}

@@ -3,3 +3,4 @@ pub mod Exchange
 pub mod Condition
 pub mod Plain
 pub mod Simple
+pub mod Shared

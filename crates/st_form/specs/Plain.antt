@@ -4,10 +4,8 @@ use Rattle.std.specs.declared.alloc.Global.{Global}
 use Rattle.std.specs.Prelude.{true, false, List, map, Option, Some, None}
 use Rattle.st_form.specs.Formula.{Formula, Formulas, truth_value, row, equal, bool_var, at, negation, every, some, formulas}
 use Rattle.st_form.specs.Exchange.{Exchange}
-use Rattle.st_form.specs.Condition.{Implication}
 use Rattle.st_form.specs.declared.formulas.Form.{Form}
 use Rattle.st_form.specs.declared.replacement.Change.{Change}
-use Rattle.st_form.specs.declared.conditions.Condition.{Condition}
 use Rattle.st_form.specs.declared.formulas.Form.TheOpen.{Form-F}
 use Rattle.st_form.specs.declared.formulas.Form.TheFolds.{fold-Form}
 
@@ -42,7 +40,3 @@ plain_change c = record {
   leaves = c.leaves.items;
   enters = c.enters.items;
 }
-
--- a condition of the program as plain data
-abbrev pub plain_condition : Condition → Implication
-plain_condition c = record { given = plain c.given; shown = plain c.shown; name = c.name }

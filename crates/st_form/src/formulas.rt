@@ -51,7 +51,7 @@ impl Form {
 pub fn copy_all(alloc: Global, fs: &[Form]) -> Result<Vec<Form>, Memory>
     ensures { IfOk result (λ v. map plain v.items ≡ map plain fs.now) }
 {
-    let mut out = Vec::new(alloc);
+    let mut out = Vec::with_capacity(alloc, fs.len())?;
     for f in fs {
         out.push(f.copy(alloc)?)?;
     }

@@ -10,13 +10,17 @@ pub mod laws;
 mod literals;
 mod parts;
 mod replacement;
+mod sameness;
+mod shared;
 mod simplification;
 mod variables;
 
-pub use conditions::{CondName, Condition, Part, Premise, TransName};
+pub use conditions::{CondName, Condition, Consequent, Part, Premise, TransName, conjunction};
 pub use conjuncts::{in_place, joined_conjuncts, opened};
 pub use formulas::{Form, copy_all};
 pub use replacement::Change;
+pub use sameness::{is_same, is_same_line};
+pub use shared::{SharedForm, share_all};
 pub use simplification::simple_conjuncts;
 pub use st_linear::{Lin, LinFault, Line};
 pub use variables::Variable;

@@ -56,7 +56,7 @@ impl Form {
 fn replace_all(alloc: Global, change: &Change, fs: &[Form]) -> Result<Vec<Form>, LinFault>
     ensures { Gives (λ v. plain_list v.items) result (all_exchanged (plain_change change.now) (plain_list fs.now)) }
 {
-    let mut out = Vec::new(alloc);
+    let mut out = Vec::with_capacity(alloc, fs.len())?;
     for f in fs {
         let after = f.exchange(alloc, change)?;
         out.push(after)?;

@@ -1,4 +1,4 @@
-//! An index of formulas by hash: open addressing with linear probing, in a list that doubles where it is half full (Knuth, The Art of
+//! An index of items by hash: open addressing with linear probing, in a list that doubles where it is half full (Knuth, The Art of
 //! Computer Programming, volume 3, 1998, section 6.4). It is a hint: what it gives is compared before it is used, so nothing is
 //! promised of it.
 
@@ -7,7 +7,7 @@ use std::alloc::Global;
 
 const FEWEST: usize = 1024;
 
-/// A hash, and the number of a formula that has it. The number 0 marks a free slot.
+/// A hash, and the number of an item that has it. The number 0 marks a free slot.
 #[derive(Clone, Copy)]
 pub struct Slot {
     hash: u32,
@@ -34,7 +34,7 @@ fn start(slots: &[Slot], hash: u32) -> usize {
     hash as usize & slots.len().wrapping_sub(1)
 }
 
-/// The number of the first formula with this hash, or 0.
+/// The number of the first item with this hash, or 0.
 pub fn hint(slots: &[Slot], hash: u32) -> u32 {
     let mut place = start(slots, hash);
     for _ in 0..slots.len() {
@@ -94,7 +94,7 @@ impl Index {
     }
 }
 
-/// Enters a formula's number under its hash.
+/// Enters an item's number, which isn't 0, under its hash.
 pub fn enter(alloc: Global, index: &mut Index, hash: u32, number: u32) -> Result<(), Memory> {
     if index.taken >= index.slots.len() / 2 {
         index.slots = larger(alloc, index.slots.as_slice())?;

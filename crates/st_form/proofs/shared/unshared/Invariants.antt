@@ -1,0 +1,6 @@
+use Rattle.std.proofs.Common.{◌≡◌, map, take}
+use Rattle.st_form.specs.Plain.{plain}
+use Rattle.st_form.proofs.shared.unshared.Given as goal
+
+abbrev pub invariant-loop-form : goal.invariant-loop-form
+invariant-loop-form l = map plain l.out.items ≡ map plain (take l.form-index l.forms)

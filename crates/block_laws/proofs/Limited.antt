@@ -22,8 +22,8 @@ use Rattle.cert_text.specs.declared.scan.Action.TheVariants as actions
 use Rattle.cert_text.specs.declared.scan.Given.{Given}
 use Rattle.cert_text.specs.declared.scan.Given.TheVariants as givens
 use Rattle.cert_text.specs.declared.progress.Stage.TheVariants as stages
-use Rattle.cert_text.specs.declared.tree.Head.{Head}
-use Rattle.cert_text.specs.declared.tree.Head.TheVariants as heads
+use Rattle.cert_text.specs.Heads.{Head}
+use Rattle.cert_text.specs.Heads as heads
 use Rattle.cert_text.specs.Control.{only_sign, behind, tree_begun, entered, give, give_at, at_block, at_header_number, at_block_number, at_tree, at_subject, at_row, at_negative, at_multiplier, at_more_picks, at_coefficient, at_variable, at_more_terms, at_constant, is_full, one_tree, picks_closed, fits_word, fits_number, word_of}
 use Rattle.cert_text.specs.Letters.{is_blank, is_letter, is_digit, grown}
 use Rattle.cert_text.specs.Tree.{signed_of, Open, Built, closed, left_to, cut_entered, applied, last_or, last_tree}

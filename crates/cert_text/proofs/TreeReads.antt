@@ -8,8 +8,8 @@ use Rattle.cert_text.specs.declared.scan.Action.TheVariants as actions
 use Rattle.cert_text.specs.declared.scan.Given.TheVariants as givens
 use Rattle.cert_text.specs.declared.scan.Token.{Token}
 use Rattle.cert_text.specs.declared.scan.Token.TheVariants as tokens
-use Rattle.cert_text.specs.declared.tree.Head.{Head}
-use Rattle.cert_text.specs.declared.tree.Head.TheVariants as heads
+use Rattle.cert_text.specs.Heads.{Head}
+use Rattle.cert_text.specs.Heads as heads
 use Rattle.cert_text.specs.Control.{give, behind, tree_begun}
 use Rattle.st_certificate.specs.Tree.{Tree, with_tree, trees as trees_of, branch, by_cut}
 use Rattle.cert_text.specs.Tree.{Open, closed, branching_of, cut_entered}

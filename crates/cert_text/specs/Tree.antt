@@ -6,10 +6,12 @@ use Rattle.cert_text.specs.declared.scan.Branching.{Branching}
 use Rattle.cert_text.specs.declared.scan.Branching.TheVariants as nodes
 use Rattle.cert_text.specs.declared.scan.Action.{Action}
 use Rattle.cert_text.specs.declared.scan.Action.TheVariants as actions
-use Rattle.cert_text.specs.declared.tree.Head.{Head}
-use Rattle.cert_text.specs.declared.tree.Head.TheVariants as heads
+use Rattle.cert_text.specs.declared.tree.Head as code_head
+use Rattle.cert_text.specs.declared.tree.Head.TheVariants as code_heads
 use Rattle.cert_text.specs.declared.tree.Frame.{Frame}
 use Rattle.cert_text.specs.declared.tree.Building.{Building}
+use Rattle.cert_text.specs.Heads.{Head}
+use Rattle.cert_text.specs.Heads as heads
 
 abbrev pub signed_of : Bool → ℕ → ℤ
 signed_of negative n = if negative then neg_ℤ (pos n) else pos n
@@ -30,8 +32,12 @@ pub record Built : Type 0 where
 abbrev pub nothing_built : Built
 nothing_built = record { trees = []; outer = []; picks = []; lines = []; terms = [] }
 
+abbrev pub head_view : code_head.Head → Head
+head_view (code_heads.Node branching n) = heads.Node branching n
+head_view (code_heads.Cut f) = heads.Cut f.value
+
 abbrev pub frame_view : Frame → Open
-frame_view f = record { head = f.head; before = map plain f.before.items }
+frame_view f = record { head = head_view f.head; before = map plain f.before.items }
 
 abbrev pub built_view : Building → Built
 built_view b = record {

@@ -4,7 +4,7 @@ ghost use Rattle.std.specs.Prelude.{◌≡◌, ◌+◌, ◌<◌, ◌≤◌, ◌^
 ghost use Rattle.st_linear.specs.Linear.{of_entries};
 ghost use Rattle.st_certificate.specs.Plain.{plain};
 ghost use Rattle.cert_text.specs.Control.{picks_closed};
-ghost use Rattle.cert_text.specs.Tree.{signed_of, built_view, nothing_built, tree_added, entered_by, left_to, closed, cut_entered, applied, IsModest};
+ghost use Rattle.cert_text.specs.Tree.{signed_of, built_view, nothing_built, tree_added, entered_by, head_view, left_to, closed, cut_entered, applied, IsModest};
 ghost use Rattle.st_certificate.specs.Tree.{trees as trees_of};
 
 use crate::scan::{Action, Branching};
@@ -17,7 +17,7 @@ use std::mem;
 #[derive(Drop)]
 pub enum Head {
     Node(Branching, u32),
-    Cut(Lin),
+    Cut(Box<Lin>),
 }
 
 /// A node whose braces are open, and the trees before it.
@@ -74,7 +74,7 @@ pub fn add_tree(building: &mut Building, tree: Certificate) -> Result<(), Memory
 }
 
 pub fn enter(alloc: Global, building: &mut Building, head: Head) -> Result<(), Memory>
-    ensures { OnOk result (built_view building.new ≡ entered_by head (built_view building.old)) }
+    ensures { OnOk result (built_view building.new ≡ entered_by (head_view head) (built_view building.old)) }
 {
     let before = mem::replace(&mut building.trees, Vec::new(alloc));
     building.outer.push(Frame { head, before })?;
@@ -82,7 +82,7 @@ pub fn enter(alloc: Global, building: &mut Building, head: Head) -> Result<(), M
 }
 
 fn closed(head: Head, trees: Vec<Certificate>) -> Certificate
-    ensures { plain result ≡ closed head (trees_of (map plain trees.items)) }
+    ensures { plain result ≡ closed (head_view head) (trees_of (map plain trees.items)) }
 {
     match head {
         Head::Node(Branching::Case, n) => Certificate::Case(n, trees),
@@ -112,7 +112,10 @@ fn enter_cut(alloc: Global, building: &mut Building, constant: i128) -> Result<(
     let terms = mem::replace(&mut building.terms, Vec::new(alloc));
     match Lin::of_entries(alloc, constant, terms.as_slice())? {
         None => Ok(()),
-        Some(f) => enter(alloc, building, Head::Cut(f)),
+        Some(f) => {
+            let f = Box::new(alloc, f)?;
+            enter(alloc, building, Head::Cut(f))
+        }
     }
 }
 

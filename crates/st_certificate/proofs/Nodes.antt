@@ -1,5 +1,5 @@
 -- The plain data of each node, for proofs over certificates of the program.
-use Rattle.std.proofs.Common.{◌≡◌, ℕ, ℤ, sym, ap, ◌∙◌, Vec, Global}
+use Rattle.std.proofs.Common.{◌≡◌, ℕ, ℤ, sym, ap, ◌∙◌, Vec, Box, Global}
 use Rattle.st_linear.specs.Linear.{Linear}
 use Rattle.st_certificate.specs.Tree.{Tree, by_case, by_truth, by_split, by_cut, impossible, branch, farkas, linear}
 use Rattle.st_certificate.specs.Plain.{plain, plain_trees, node}
@@ -17,7 +17,7 @@ plain-Bool v ts = ap plain (sym (rolls-Bool v ts)) ∙ fold-roll-Certificate Tre
 pub plain-Split : (k : ℕ) (ts : Vec Certificate Global) → plain (Split k ts) ≡ branch (by_split k) (plain_trees ts.items)
 plain-Split k ts = ap plain (sym (rolls-Split k ts)) ∙ fold-roll-Certificate Tree node (Certificate-F.Split k ts)
 
-pub plain-Cut : (f : Linear) (ts : Vec Certificate Global) → plain (Cut f ts) ≡ branch (by_cut f) (plain_trees ts.items)
+pub plain-Cut : (f : Box Linear Global) (ts : Vec Certificate Global) → plain (Cut f ts) ≡ branch (by_cut f.value) (plain_trees ts.items)
 plain-Cut f ts = ap plain (sym (rolls-Cut f ts)) ∙ fold-roll-Certificate Tree node (Certificate-F.Cut f ts)
 
 pub plain-Absurd : plain Absurd ≡ impossible

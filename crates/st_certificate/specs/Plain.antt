@@ -9,7 +9,7 @@ abbrev pub node : Certificate-F Tree → Tree
 node (Certificate-F.Case c ts) = branch (by_case c) (trees ts.items)
 node (Certificate-F.Bool v ts) = branch (by_truth v) (trees ts.items)
 node (Certificate-F.Split k ts) = branch (by_split k) (trees ts.items)
-node (Certificate-F.Cut f ts) = branch (by_cut f) (trees ts.items)
+node (Certificate-F.Cut f ts) = branch (by_cut f.value) (trees ts.items)
 node Certificate-F.Absurd = impossible
 node (Certificate-F.Farkas ps) = farkas ps.items
 node (Certificate-F.Linear ps) = linear ps.items

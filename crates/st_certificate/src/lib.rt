@@ -17,8 +17,9 @@ pub enum Certificate {
     Bool(u32, Vec<Certificate>),
     /// One certificate for each disjunct of this disjunction among the conjuncts.
     Split(u32, Vec<Certificate>),
-    /// One certificate for this form being at least 0, and one for its being below.
-    Cut(Lin, Vec<Certificate>),
+    /// One certificate for this form being at least 0, and one for its being below. It stands behind a pointer, so that every
+    /// node is small.
+    Cut(Box<Lin>, Vec<Certificate>),
     /// The problem is false.
     Absurd,
     /// Rows, each with a multiplier, whose sum is a negative constant.
@@ -39,7 +40,7 @@ impl Certificate {
             Certificate::Bool(v, ts) => Ok(Certificate::Bool(*v, copy_all(alloc, ts)?)),
             Certificate::Split(k, ts) => Ok(Certificate::Split(*k, copy_all(alloc, ts)?)),
             Certificate::Cut(f, ts) => {
-                let f = f.copy(alloc)?;
+                let f = Box::new(alloc, f.copy(alloc)?)?;
                 Ok(Certificate::Cut(f, copy_all(alloc, ts)?))
             }
             Certificate::Absurd => Ok(Certificate::Absurd),
@@ -53,7 +54,7 @@ impl Certificate {
 fn copy_all(alloc: Global, ts: &[Certificate]) -> Result<Vec<Certificate>, Memory>
     ensures { IfOk result (λ v. map plain v.items ≡ map plain ts.now) }
 {
-    let mut out = Vec::new(alloc);
+    let mut out = Vec::with_capacity(alloc, ts.len())?;
     for t in ts {
         out.push(t.copy(alloc)?)?;
     }

@@ -2,7 +2,7 @@
 use Rattle.std.proofs.Common.{◌≡◌, ℕ, suc, zero, ◌+◌, ◌<◌, ◌≤◌, List, [], ◌∷◌, ◌++◌, length, take, drop, get_or, refl, sym, ◌∙◌, ap, arith, subst, Bool, true, false, cond, length-take}
 use Rattle.std.specs.Prelude.{Some, None, slice_get}
 use Rattle.st_form.specs.Condition.{Implication}
-use Rattle.st_form.specs.Plain.{plain_condition}
+use Rattle.st_form.specs.Shared.{plain_condition}
 use Rattle.st_form.specs.declared.conditions.Condition.{Condition}
 use Rattle.st_certificate.specs.Tree.{Tree}
 use Rattle.st_certificate.specs.Plain.{plain as tree_of}

@@ -1,7 +1,7 @@
 -- Blocks and conditions of the code as plain data.
 use Rattle.std.specs.Prelude.{List, map}
 use Rattle.st_form.specs.Condition.{Implication}
-use Rattle.st_form.specs.Plain.{plain_condition}
+use Rattle.st_form.specs.Shared.{plain_condition}
 use Rattle.st_form.specs.declared.conditions.Condition.{Condition}
 use Rattle.st_certificate.specs.Tree.{Tree}
 use Rattle.st_certificate.specs.Plain.{plain}

@@ -4,7 +4,7 @@ use Rattle.std.specs.Prelude.{Option, Some, None}
 use Rattle.std.proofs.lemmas.List.{drop-drop}
 use Rattle.std.proofs.lemmas.Option.{slice_get_within}
 use Rattle.st_form.specs.Condition.{Implication}
-use Rattle.st_form.specs.Plain.{plain_condition}
+use Rattle.st_form.specs.Shared.{plain_condition}
 use Rattle.st_form.specs.declared.conditions.Condition.{Condition}
 use Rattle.st_certificate.specs.Tree.{Tree}
 use Rattle.farkas_check.specs.Problem.{Setting}

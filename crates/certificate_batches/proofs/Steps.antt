@@ -4,7 +4,7 @@ use Rattle.std.specs.Prelude.{true, false, Option, None, Some, IsSome}
 use Rattle.std.specs.declared.vec.Vec.{Vec}
 use Rattle.std.specs.declared.alloc.Global.{Global}
 use Rattle.std.proofs.lemmas.List.{map-append, length-map, nil_from_length}
-use Rattle.st_form.specs.Plain.{plain_condition}
+use Rattle.st_form.specs.Shared.{plain_condition}
 use Rattle.st_form.specs.declared.conditions.Condition.{Condition}
 use Rattle.st_certificate.specs.Tree.{Tree}
 use Rattle.st_certificate.specs.Plain.{plain as tree_of}

@@ -1,6 +1,6 @@
 -- The first block that isn't valid for its condition.
 use Rattle.std.specs.Prelude.{◌≡◌, ℕ, ◌<◌, List, [], ◌∷◌, length, slice_get, Option, Some, None}
-use Rattle.st_form.specs.Plain.{plain}
+use Rattle.st_form.specs.Shared.{given_of, shown_of}
 use Rattle.st_form.specs.declared.conditions.Condition.{Condition}
 use Rattle.st_certificate.specs.Plain.{plain as tree_of}
 use Rattle.cert_text.specs.declared.reader.Block.{Block}
@@ -11,8 +11,8 @@ use Rattle.farkas_check.specs.Valid.{IsCertificate}
 -- what the check of a block for a condition asks
 pub record IsCheckable (c : Condition) (b : Block) : Type 0 where
   pub limited : IsLimited (tree_of b.certificate)
-  pub given : IsNarrow (plain c.given)
-  pub shown : IsNarrow (plain c.shown)
+  pub given : IsNarrow (given_of c)
+  pub shown : IsNarrow (shown_of c)
 
 -- the same of each condition and the block at its place, as many blocks as conditions
 abbrev pub AreCheckable : List Condition → List Block → Type 0
@@ -23,7 +23,7 @@ AreCheckable (c ∷ cs) (b ∷ bs) = IsCheckable c b × AreCheckable cs bs
 
 -- the block's certificate is valid for the condition
 abbrev pub Proves : Setting → Condition → Block → Type 0
-Proves k c b = IsCertificate k (plain c.given) (plain c.shown) (tree_of b.certificate)
+Proves k c b = IsCertificate k (given_of c) (shown_of c) (tree_of b.certificate)
 
 -- each block before the n-th is valid for the condition at its place
 abbrev pub ProveBefore : Setting → List Condition → List Block → ℕ → Type 0

@@ -1,7 +1,7 @@
 -- The first condition that isn't valid by the search.
 use Rattle.std.specs.Prelude.{◌≡◌, ℕ, suc, ◌<◌, Bool, true, false, List, [], ◌∷◌, length, map, slice_get, Option, Some, None}
 use Rattle.std.specs.Option.{option_map}
-use Rattle.st_form.specs.Plain.{plain}
+use Rattle.st_form.specs.Shared.{given_of, shown_of}
 use Rattle.st_form.specs.declared.conditions.Condition.{Condition}
 use Rattle.farkas_check.specs.Problem.{Setting}
 use Rattle.search_laws.specs.Moves.{decided}
@@ -9,7 +9,7 @@ use Rattle.linear_prover.specs.Verdicts.{is_valid}
 
 -- whether the verdict on a condition is that it is valid
 abbrev pub mark : Setting → Condition → Bool
-mark k c = is_valid (decided k (plain c.given) (plain c.shown))
+mark k c = is_valid (decided k (given_of c) (shown_of c))
 
 abbrev pub marks : Setting → List Condition → List Bool
 marks k cs = map (mark k) cs

@@ -1,6 +1,6 @@
 -- The verdicts on conditions.
 use Rattle.std.specs.Prelude.{◌≡◌, ℕ, List, [], ◌∷◌}
-use Rattle.st_form.specs.Plain.{plain}
+use Rattle.st_form.specs.Shared.{given_of, shown_of}
 use Rattle.st_form.specs.declared.conditions.Condition.{Condition}
 use Rattle.farkas_check.specs.Problem.{Setting}
 use Rattle.farkas_check.specs.Limits.{IsNarrow}
@@ -13,10 +13,10 @@ use Rattle.linear_prover.specs.Verdicts.{IsRight}
 
 -- what the search asks of a condition over n variables
 pub record IsSearchable (n : ℕ) (c : Condition) : Type 0 where
-  pub given : IsNarrow (plain c.given)
-  pub shown : IsNarrow (plain c.shown)
-  pub given_below : AllForms (IsBelow n) (plain c.given)
-  pub shown_below : AllForms (IsBelow n) (plain c.shown)
+  pub given : IsNarrow (given_of c)
+  pub shown : IsNarrow (shown_of c)
+  pub given_below : AllForms (IsBelow n) (given_of c)
+  pub shown_below : AllForms (IsBelow n) (shown_of c)
 
 abbrev pub AreSearchable : ℕ → List Condition → Type 0
 AreSearchable n [] = Unit {0}
@@ -24,8 +24,8 @@ AreSearchable n (c ∷ cs) = IsSearchable n c × AreSearchable n cs
 
 -- the verdict is the one that is defined, and right
 pub record IsAnswer (k : Setting) (c : Condition) (v : Verdict) : Type 0 where
-  pub exact : plain_verdict v ≡ decided k (plain c.given) (plain c.shown)
-  pub right : IsRight k (plain c.given) (plain c.shown) v
+  pub exact : plain_verdict v ≡ decided k (given_of c) (shown_of c)
+  pub right : IsRight k (given_of c) (shown_of c) v
 
 -- as many verdicts as conditions, and each is the answer to the condition at its place
 abbrev pub AreAnswers : Setting → List Condition → List Verdict → Type 0

@@ -1,7 +1,7 @@
 //! Whether a certificate is valid. Where it is the one that the search finds, nothing else is to be checked.
 
 ghost use Rattle.std.specs.Prelude.{◌↔◌, IfOk, IsTrue};
-ghost use Rattle.st_form.specs.Plain.{plain};
+ghost use Rattle.st_form.specs.Shared.{given_of, shown_of};
 ghost use Rattle.st_certificate.specs.Plain.{plain as tree_of};
 ghost use Rattle.farkas_check.specs.PlainProblem.{setting};
 ghost use Rattle.farkas_check.specs.Limits.{IsNarrow, IsLimited};
@@ -26,12 +26,12 @@ pub fn is_valid(
     certificate: &Certificate,
 ) -> Result<bool, Memory>
     requires limited { IsLimited (tree_of certificate.now) }
-    requires given { IsNarrow (plain condition.now.given) }
-    requires shown { IsNarrow (plain condition.now.shown) }
+    requires given { IsNarrow (given_of condition.now) }
+    requires shown { IsNarrow (shown_of condition.now) }
     requires knows { Knows (setting components.now variables.now) book.old }
     ensures knows { Knows (setting components.now variables.now) book.new }
     ensures exact { IfOk result (λ yes. IsTrue yes
-        ↔ IsCertificate (setting components.now variables.now) (plain condition.now.given) (plain condition.now.shown) (tree_of certificate.now)) }
+        ↔ IsCertificate (setting components.now variables.now) (given_of condition.now) (shown_of condition.now) (tree_of certificate.now)) }
 {
     if is_found(alloc, book, components, variables, condition, certificate)? {
         return Ok(true);

@@ -5,7 +5,7 @@
 //! no state meets a problem that has a valid certificate.
 
 ghost use Rattle.std.specs.Prelude.{IfOk, IsTrue, ◌↔◌};
-ghost use Rattle.st_form.specs.Plain.{plain};
+ghost use Rattle.st_form.specs.Shared.{given_of, shown_of};
 ghost use Rattle.st_certificate.specs.Plain.{plain as tree_of};
 ghost use Rattle.farkas_check.specs.PlainProblem.{setting};
 ghost use Rattle.farkas_check.specs.Limits.{IsNarrow, IsLimited};
@@ -30,18 +30,14 @@ pub fn check(
     certificate: &Certificate,
 ) -> Result<bool, Memory>
     requires limited { IsLimited (tree_of certificate.now) }
-    requires given { IsNarrow (plain condition.now.given) }
-    requires shown { IsNarrow (plain condition.now.shown) }
+    requires given { IsNarrow (given_of condition.now) }
+    requires shown { IsNarrow (shown_of condition.now) }
     ensures exact { IfOk result (λ yes. IsTrue yes
-        ↔ IsCertificate (setting components.now variables.now) (plain condition.now.given) (plain condition.now.shown) (tree_of certificate.now)) }
-    ensures sound { IfOk result (λ yes. IsTrue yes → IsValidCondition components.now (plain condition.now.given) (plain condition.now.shown)) }
+        ↔ IsCertificate (setting components.now variables.now) (given_of condition.now) (shown_of condition.now) (tree_of certificate.now)) }
+    ensures sound { IfOk result (λ yes. IsTrue yes → IsValidCondition components.now (given_of condition.now) (shown_of condition.now)) }
 {
-    let problem = first_problem(
-        alloc,
-        components,
-        variables,
-        &condition.given,
-        &condition.shown,
-    )?;
+    let given = condition.given(alloc)?;
+    let shown = condition.shown(alloc)?;
+    let problem = first_problem(alloc, components, variables, &given, &shown)?;
     closes(alloc, components, variables, certificate, &problem)
 }

@@ -1,7 +1,7 @@
 //! The search for a certificate of a condition.
 
 ghost use Rattle.std.specs.Prelude.{◌≡◌, ◌<◌, ◌^◌, IfOk, length};
-ghost use Rattle.st_form.specs.Plain.{plain};
+ghost use Rattle.st_form.specs.Shared.{given_of, shown_of};
 ghost use Rattle.farkas_check.specs.PlainProblem.{setting};
 ghost use Rattle.farkas_check.specs.Limits.{IsNarrow};
 ghost use Rattle.search_laws.specs.Forms.{AllForms};
@@ -51,23 +51,19 @@ fn over_problems(
     condition: &Condition,
 ) -> Result<Verdict, Memory>
     requires few { length variables.now < 2 ^ 32 }
-    requires given { IsNarrow (plain condition.now.given) }
-    requires shown { IsNarrow (plain condition.now.shown) }
-    requires given_below { AllForms (IsBelow (length variables.now)) (plain condition.now.given) }
-    requires shown_below { AllForms (IsBelow (length variables.now)) (plain condition.now.shown) }
+    requires given { IsNarrow (given_of condition.now) }
+    requires shown { IsNarrow (shown_of condition.now) }
+    requires given_below { AllForms (IsBelow (length variables.now)) (given_of condition.now) }
+    requires shown_below { AllForms (IsBelow (length variables.now)) (shown_of condition.now) }
     ensures exact { IfOk result (λ v. plain_verdict v
-        ≡ decided (setting components.now variables.now) (plain condition.now.given) (plain condition.now.shown)) }
-    ensures right { IfOk result (λ v. IsRight (setting components.now variables.now) (plain condition.now.given) (plain condition.now.shown) v) }
+        ≡ decided (setting components.now variables.now) (given_of condition.now) (shown_of condition.now)) }
+    ensures right { IfOk result (λ v. IsRight (setting components.now variables.now) (given_of condition.now) (shown_of condition.now) v) }
 {
-    look_at(&condition.given);
-    look_at(&condition.shown);
-    let problem = first_problem(
-        alloc,
-        components,
-        variables,
-        &condition.given,
-        &condition.shown,
-    )?;
+    let given = condition.given(alloc)?;
+    let shown = condition.shown(alloc)?;
+    look_at(&given);
+    look_at(&shown);
+    let problem = first_problem(alloc, components, variables, &given, &shown)?;
     let node = node_of(alloc, &problem)?;
     let outcome = walk(alloc, &*components, variables, &node, MOST_LEVELS, 0)?;
     Ok(verdict_of(outcome))
@@ -84,15 +80,15 @@ pub fn decide(
     condition: &Condition,
 ) -> Result<Verdict, Memory>
     requires few { length variables.now < 2 ^ 32 }
-    requires given { IsNarrow (plain condition.now.given) }
-    requires shown { IsNarrow (plain condition.now.shown) }
-    requires given_below { AllForms (IsBelow (length variables.now)) (plain condition.now.given) }
-    requires shown_below { AllForms (IsBelow (length variables.now)) (plain condition.now.shown) }
+    requires given { IsNarrow (given_of condition.now) }
+    requires shown { IsNarrow (shown_of condition.now) }
+    requires given_below { AllForms (IsBelow (length variables.now)) (given_of condition.now) }
+    requires shown_below { AllForms (IsBelow (length variables.now)) (shown_of condition.now) }
     requires knows { Knows (setting components.now variables.now) book.old }
     ensures knows { Knows (setting components.now variables.now) book.new }
     ensures exact { IfOk result (λ v. plain_verdict v
-        ≡ decided (setting components.now variables.now) (plain condition.now.given) (plain condition.now.shown)) }
-    ensures right { IfOk result (λ v. IsRight (setting components.now variables.now) (plain condition.now.given) (plain condition.now.shown) v) }
+        ≡ decided (setting components.now variables.now) (given_of condition.now) (shown_of condition.now)) }
+    ensures right { IfOk result (λ v. IsRight (setting components.now variables.now) (given_of condition.now) (shown_of condition.now) v) }
 {
     look_at(&condition.given);
     look_at(&condition.shown);
@@ -111,13 +107,13 @@ pub fn is_decided_valid(
     condition: &Condition,
 ) -> Result<bool, Memory>
     requires few { length variables.now < 2 ^ 32 }
-    requires given { IsNarrow (plain condition.now.given) }
-    requires shown { IsNarrow (plain condition.now.shown) }
-    requires given_below { AllForms (IsBelow (length variables.now)) (plain condition.now.given) }
-    requires shown_below { AllForms (IsBelow (length variables.now)) (plain condition.now.shown) }
+    requires given { IsNarrow (given_of condition.now) }
+    requires shown { IsNarrow (shown_of condition.now) }
+    requires given_below { AllForms (IsBelow (length variables.now)) (given_of condition.now) }
+    requires shown_below { AllForms (IsBelow (length variables.now)) (shown_of condition.now) }
     requires knows { Knows (setting components.now variables.now) book.old }
     ensures knows { Knows (setting components.now variables.now) book.new }
-    ensures exact { IfOk result (λ yes. yes ≡ is_valid (decided (setting components.now variables.now) (plain condition.now.given) (plain condition.now.shown))) }
+    ensures exact { IfOk result (λ yes. yes ≡ is_valid (decided (setting components.now variables.now) (given_of condition.now) (shown_of condition.now))) }
 {
     if let Some(_) = find(alloc, book, components, variables, condition, MOST_LISTS)? {
         return Ok(true);

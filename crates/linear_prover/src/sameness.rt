@@ -1,7 +1,7 @@
 //! Whether a certificate is the one that the search finds. Where it is, it is valid, so the check of it is spared.
 
 ghost use Rattle.std.specs.Prelude.{◌≡◌, IfOk, true};
-ghost use Rattle.st_form.specs.Plain.{plain};
+ghost use Rattle.st_form.specs.Shared.{given_of, shown_of};
 ghost use Rattle.st_certificate.specs.Plain.{plain as tree_of};
 ghost use Rattle.farkas_check.specs.PlainProblem.{setting};
 ghost use Rattle.farkas_check.specs.Limits.{IsNarrow};
@@ -51,12 +51,12 @@ pub fn is_found(
     condition: &Condition,
     certificate: &Certificate,
 ) -> Result<bool, Memory>
-    requires given { IsNarrow (plain condition.now.given) }
-    requires shown { IsNarrow (plain condition.now.shown) }
+    requires given { IsNarrow (given_of condition.now) }
+    requires shown { IsNarrow (shown_of condition.now) }
     requires knows { Knows (setting components.now variables.now) book.old }
     ensures knows { Knows (setting components.now variables.now) book.new }
     ensures valid { IfOk result (λ b. b ≡ true
-        → IsCertificate (setting components.now variables.now) (plain condition.now.given) (plain condition.now.shown) (tree_of certificate.now)) }
+        → IsCertificate (setting components.now variables.now) (given_of condition.now) (shown_of condition.now) (tree_of certificate.now)) }
 {
     look_at(&condition.given);
     look_at(&condition.shown);

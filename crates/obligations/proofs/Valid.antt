@@ -1,6 +1,6 @@
 -- That all conditions of a list are valid.
 use Rattle.std.proofs.Common.{◌≡◌, subst, List, [], ◌∷◌}
-use Rattle.st_form.specs.Plain.{plain, plain_condition}
+use Rattle.st_form.specs.Shared.{given_of, shown_of, plain_condition}
 use Rattle.st_form.specs.declared.conditions.Condition.{Condition}
 use Rattle.control_states.specs.Control.{ControlFacts}
 use Rattle.farkas_check.specs.Meaning.{IsValidCondition}
@@ -11,7 +11,7 @@ use Rattle.condition_sizes.proofs.Eachs.{each_of}
 use Rattle.script_obligations.specs.Laws.{AreThese}
 use Rattle.obligations.specs.Made.{AllValid}
 
-each-valid : (k : ControlFacts) (cs : List Condition) (ds : List Draft) → AreThese cs ds → Each (λ c. IsValidCondition k (plain c.given) (plain c.shown)) cs → AreValid k ds
+each-valid : (k : ControlFacts) (cs : List Condition) (ds : List Draft) → AreThese cs ds → Each (λ c. IsValidCondition k (given_of c) (shown_of c)) cs → AreValid k ds
 each-valid k [] [] these h = tt
 each-valid k [] (d ∷ ds) these h = cc
 each-valid k (c ∷ cs) [] these h = cc
@@ -21,4 +21,4 @@ each-valid k (c ∷ cs) (d ∷ ds) these h =
     (subst (λ i. IsValidCondition k i.given i.shown) here h.0, each-valid k cs ds rest h.1)
 
 pub are-valid : (k : ControlFacts) (cs : List Condition) (ds : List Draft) → AreThese cs ds → AllValid k cs → AreValid k ds
-are-valid k cs ds these all = each-valid k cs ds these (each_of (λ c. IsValidCondition k (plain c.given) (plain c.shown)) cs all)
+are-valid k cs ds these all = each-valid k cs ds these (each_of (λ c. IsValidCondition k (given_of c) (shown_of c)) cs all)

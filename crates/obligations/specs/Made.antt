@@ -1,6 +1,6 @@
 -- What generating the conditions of a script comes to.
 use Rattle.std.specs.Prelude.{◌≡◌, ℕ, List, All, Option, Some}
-use Rattle.st_form.specs.Plain.{plain}
+use Rattle.st_form.specs.Shared.{given_of, shown_of}
 use Rattle.st_form.specs.declared.conditions.Condition.{Condition}
 use Rattle.control_states.specs.Control.{ControlFacts}
 use Rattle.farkas_check.specs.Meaning.{IsValidCondition}
@@ -18,4 +18,4 @@ IsRefusal faults.Memory first = Unit {0}
 
 -- each condition is valid: it holds in every control state with every store
 abbrev pub AllValid : ControlFacts → List Condition → Type 0
-AllValid k cs = All (λ c. IsValidCondition k (plain c.given) (plain c.shown)) cs
+AllValid k cs = All (λ c. IsValidCondition k (given_of c) (shown_of c)) cs

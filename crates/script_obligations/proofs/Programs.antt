@@ -2,7 +2,7 @@
 use Rattle.std.proofs.Common.{arith, ◌≡◌, subst, ℕ, zero, suc, ◌<◌, true, List, [], ◌∷◌, map, length, Some, slice_get}
 use Rattle.std.proofs.lemmas.List.{length-map}
 use Rattle.st_form.specs.Formula.{Formula}
-use Rattle.st_form.specs.Plain.{plain_condition}
+use Rattle.st_form.specs.Shared.{plain_condition}
 use Rattle.st_form.specs.declared.conditions.Condition.{Condition}
 use Rattle.st_form.specs.declared.variables.Variable.{Variable}
 use Rattle.st_program.specs.Tree.{Processes}

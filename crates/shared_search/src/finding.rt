@@ -1,7 +1,7 @@
 //! Finding the certificate of a condition in a book.
 
 ghost use Rattle.std.specs.Prelude.{◌≡◌, ◌<◌, ◌^◌, IfOk, length, true};
-ghost use Rattle.st_form.specs.Plain.{plain};
+ghost use Rattle.st_form.specs.Shared.{given_of, shown_of};
 ghost use Rattle.st_certificate.specs.Plain.{plain as tree_of};
 ghost use Rattle.farkas_check.specs.PlainProblem.{setting};
 ghost use Rattle.farkas_check.specs.Limits.{IsNarrow};
@@ -45,11 +45,11 @@ fn find_in(
     condition: &Condition,
     most: u32,
 ) -> Result<Option<u32>, Memory>
-    requires given { IsNarrow (plain condition.now.given) }
-    requires shown { IsNarrow (plain condition.now.shown) }
+    requires given { IsNarrow (given_of condition.now) }
+    requires shown { IsNarrow (shown_of condition.now) }
     requires knows { Knows (setting components.now variables.now) book.old }
     ensures knows { Knows (setting components.now variables.now) book.new }
-    ensures found { IfOk result (λ o. IsFound (setting components.now variables.now) (plain condition.now.given) (plain condition.now.shown) book.new o) }
+    ensures found { IfOk result (λ o. IsFound (setting components.now variables.now) (given_of condition.now) (shown_of condition.now) book.new o) }
 {
     if !book.flat {
         return Ok(None);
@@ -58,7 +58,7 @@ fn find_in(
     let list = book
         .memo
         .table
-        .first_list(alloc, &condition.given, &condition.shown)?;
+        .first_list(alloc, condition.given.as_slice(), &condition.shown)?;
     match walk(
         alloc,
         &mut book.memo,
@@ -89,11 +89,11 @@ pub fn find(
     condition: &Condition,
     most: u32,
 ) -> Result<Option<u32>, Memory>
-    requires given { IsNarrow (plain condition.now.given) }
-    requires shown { IsNarrow (plain condition.now.shown) }
+    requires given { IsNarrow (given_of condition.now) }
+    requires shown { IsNarrow (shown_of condition.now) }
     requires knows { Knows (setting components.now variables.now) book.old }
     ensures knows { Knows (setting components.now variables.now) book.new }
-    ensures found { IfOk result (λ o. IsFound (setting components.now variables.now) (plain condition.now.given) (plain condition.now.shown) book.new o) }
+    ensures found { IfOk result (λ o. IsFound (setting components.now variables.now) (given_of condition.now) (shown_of condition.now) book.new o) }
 {
     renew(alloc, book, components, variables)?;
     find_in(alloc, book, components, variables, condition, most)

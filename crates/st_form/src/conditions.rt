@@ -3,10 +3,10 @@
 ghost use Rattle.std.specs.Prelude.{◌≡◌, IfOk, map};
 ghost use Rattle.st_form.specs.Formula.{every, more, none};
 ghost use Rattle.st_form.specs.Plain.{plain};
-ghost use Rattle.st_form.specs.Shared.{given_of, shown_of, case_of, consequent_of, together, plain_condition};
+ghost use Rattle.st_form.specs.Shared.{given_of, shown_of, case_of, together};
 
 use crate::formulas::Form;
-use crate::shared::{SharedForm, share_all, unshared};
+use crate::shared::{SharedForm, unshared};
 use st_memory::Memory;
 use std::alloc::Global;
 
@@ -97,38 +97,6 @@ impl Condition {
             Consequent::Any(cases) => Ok(Form::Or(all_cases(alloc, cases.as_slice())?)),
         }
     }
-
-    /// An equal condition.
-    pub fn copy(&self, alloc: Global) -> Result<Condition, Memory>
-        ensures { IfOk result (λ c. plain_condition c ≡ plain_condition self.now) }
-    {
-        Ok(Condition {
-            given: share_all(alloc, self.given.as_slice())?,
-            shown: self.shown.copy(alloc)?,
-            name: self.name,
-        })
-    }
-}
-
-impl Consequent {
-    fn copy(&self, alloc: Global) -> Result<Consequent, Memory>
-        ensures { IfOk result (λ c. consequent_of c ≡ consequent_of self.now) }
-    {
-        match self {
-            Consequent::One(form) => Ok(Consequent::One(form.share()?)),
-            Consequent::Any(cases) => Ok(Consequent::Any(share_cases(alloc, cases.as_slice())?)),
-        }
-    }
-}
-
-fn share_cases(alloc: Global, cases: &[Vec<SharedForm>]) -> Result<Vec<Vec<SharedForm>>, Memory>
-    ensures { IfOk result (λ v. map case_of v.items ≡ map case_of cases.now) }
-{
-    let mut out = Vec::with_capacity(alloc, cases.len())?;
-    for case in cases {
-        out.push(share_all(alloc, case.as_slice())?)?;
-    }
-    Ok(out)
 }
 
 /// Each case as one formula.

@@ -20,7 +20,7 @@ pub use conjuncts::{in_place, joined_conjuncts, opened};
 pub use formulas::{Form, copy_all};
 pub use replacement::Change;
 pub use sameness::{is_same, is_same_line};
-pub use shared::{SharedForm, share_all};
+pub use shared::SharedForm;
 pub use simplification::simple_conjuncts;
 pub use st_linear::{Lin, LinFault, Line};
 pub use variables::Variable;

@@ -78,17 +78,6 @@ impl SharedForm {
     }
 }
 
-/// The same formulas once more.
-pub fn share_all(alloc: Global, forms: &[SharedForm]) -> Result<Vec<SharedForm>, Memory>
-    ensures { IfOk result (λ v. v.items ≡ forms.now) }
-{
-    let mut out = Vec::with_capacity(alloc, forms.len())?;
-    for form in forms {
-        out.push(form.share()?)?;
-    }
-    Ok(out)
-}
-
 /// Copies of shared formulas.
 pub(crate) fn unshared(alloc: Global, forms: &[SharedForm]) -> Result<Vec<Form>, Memory>
     ensures { IfOk result (λ v. map plain v.items ≡ map plain forms.now) }

@@ -2,7 +2,7 @@
 use Rattle.std.proofs.Common.{◌≡◌, ℕ, ◌+◌, ◌<◌, List, length, get_or, sym, ap, subst, ◌∙◌}
 use Rattle.std.specs.Prelude.{Option}
 use Rattle.st_form.specs.Condition.{Implication}
-use Rattle.st_form.specs.Plain.{plain_condition}
+use Rattle.st_form.specs.Shared.{plain_condition}
 use Rattle.st_form.specs.declared.conditions.Condition.{Condition}
 use Rattle.st_form.specs.declared.variables.Variable.{Variable}
 use Rattle.control_states.specs.Control.{ControlFacts}

@@ -2,7 +2,7 @@
 use Rattle.std.proofs.Common.{◌≡◌, ℕ, zero, suc, ◌+◌, ◌-◌, ◌<◌, ◌≤◌, true, List, [], ◌∷◌, ◌++◌, length, get_or, slice_get, Some, None, take, drop, length-append, length-take, length-drop, ap, ◌∙◌, sym, subst, arith, refl}
 use Rattle.std.proofs.lemmas.List.{length-map}
 use Rattle.std.proofs.lemmas.Option.{slice_get_within}
-use Rattle.st_form.specs.Plain.{plain, plain_condition}
+use Rattle.st_form.specs.Shared.{given_of, shown_of, plain_condition}
 use Rattle.st_form.specs.declared.conditions.Condition.{Condition}
 use Rattle.st_certificate.specs.Tree.{Tree}
 use Rattle.farkas_check.specs.Problem.{Setting}
@@ -38,7 +38,7 @@ found_valid (valid t) h = (t, refl)
 found_valid (open_at path state) h = absurd cc
 found_valid (wide_at path stage) h = absurd cc
 
-verdict_found : (k : Setting) (c : Condition) (t : Tree) → decided k (plain c.given) (plain c.shown) ≡ valid t → verdict_on k (plain_condition c) ≡ valid t
+verdict_found : (k : Setting) (c : Condition) (t : Tree) → decided k (given_of c) (shown_of c) ≡ valid t → verdict_on k (plain_condition c) ≡ valid t
 unfolding verdict_on
 verdict_found k c t e = e
 
@@ -47,7 +47,7 @@ module _ (x : Posed) (cs : List Condition) (are : x.conditions ≡ plains cs) wh
   one_passes place any lt m =
       let k = setting_of x.program in
       let c = get_or cs place any in
-      let f = found_valid (decided k (plain c.given) (plain c.shown)) m in (
+      let f = found_valid (decided k (given_of c) (shown_of c)) m in (
         f.0,
         found_step x cs are place any lt ∙ ap (by_verdict (place + 1) (plain_condition c) (found_from x (place + 1))) (verdict_found k c f.0 f.1),
       )

@@ -1,6 +1,6 @@
 -- What holds of a text of invariances while it grows.
 use Rattle.std.specs.Prelude.{◌≡◌, ℕ, Bool, true, false, ◌&&◌, List, ◌∷◌, ◌++◌, [], length, map, Option, Some, None, Result, Ok, Err}
-use Rattle.st_form.specs.Plain.{plain_condition}
+use Rattle.st_form.specs.Shared.{plain_condition}
 use Rattle.st_form.specs.declared.conditions.Condition.{Condition}
 use Rattle.st_program.specs.Plain.{plain_children}
 use Rattle.control_facts.specs.Alternatives.{control_of}

@@ -1,6 +1,6 @@
 -- What the code's values are to the plans.
 use Rattle.std.specs.Prelude.{map}
-use Rattle.st_form.specs.Plain.{plain_condition}
+use Rattle.st_form.specs.Shared.{plain_condition}
 use Rattle.temporal_goals.specs.Plain.{plain_script}
 use Rattle.spl_typer.specs.Programs.{Typed, typed_view}
 use Rattle.step_run.specs.declared.source.Source.{Source}

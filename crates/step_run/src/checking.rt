@@ -3,7 +3,7 @@
 ghost use Rattle.std.specs.Prelude.{◌≡◌, ◌<◌, ◌+◌, List, ℕ, length, get_or, IfOk};
 ghost use Rattle.std.specs.Thread.{IsSync};
 ghost use Rattle.st_outside.specs.Faults.{NoneFell};
-ghost use Rattle.st_form.specs.Plain.{plain_condition};
+ghost use Rattle.st_form.specs.Shared.{plain_condition};
 ghost use Rattle.st_form.specs.declared.conditions.Condition.{Condition};
 ghost use Rattle.certificate_batches.specs.Finding.{finding, IsAmong};
 ghost use Rattle.step_plan.specs.Outcome.{ended_view, IsDecided};

@@ -2,7 +2,7 @@
 
 ghost use Rattle.std.specs.Prelude.{◌≡◌, ◌<◌, ◌≤◌, ◌+◌, ◌-◌, ◌^◌, ◌++◌, length, take, drop, get_or, IfOk, IsTrue};
 ghost use Rattle.std.specs.Option.{option_map};
-ghost use Rattle.st_form.specs.Plain.{plain_condition};
+ghost use Rattle.st_form.specs.Shared.{plain_condition};
 ghost use Rattle.st_form.specs.declared.conditions.Condition.{Condition};
 ghost use Rattle.control_facts.specs.Alternatives.{control_of};
 ghost use Rattle.linear_prover.specs.Plain.{plain_path, plain_shown};

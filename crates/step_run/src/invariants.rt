@@ -7,7 +7,7 @@
 ghost use Rattle.std.specs.Prelude.{◌≡◌, ◌≤◌, ◌++◌, drop, length, map, IfOk, OnOk};
 ghost use Rattle.std.specs.Option.{option_map};
 ghost use Rattle.st_outside.specs.Faults.{NoneFell};
-ghost use Rattle.st_form.specs.Plain.{plain_condition};
+ghost use Rattle.st_form.specs.Shared.{plain_condition};
 ghost use Rattle.discharge.specs.Verdicts.{AreSearchable};
 ghost use Rattle.temporal_goals.specs.Plain.{plain_script};
 ghost use Rattle.linear_invariants.specs.Plain.{plain_equations};

@@ -1,7 +1,7 @@
 //! The texts of a posed script.
 
 ghost use Rattle.std.specs.Prelude.{◌≡◌, ◌<◌, ◌+◌, length, get_or, IfOk};
-ghost use Rattle.st_form.specs.Plain.{plain_condition};
+ghost use Rattle.st_form.specs.Shared.{plain_condition};
 ghost use Rattle.st_form.specs.declared.conditions.Condition.{Condition};
 ghost use Rattle.step_report.specs.Conditions.{not_proved_text};
 ghost use Rattle.step_plan.specs.Outcome.{ended_view};

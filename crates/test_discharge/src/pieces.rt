@@ -20,7 +20,7 @@ fn one_process(alloc: Global) -> Result<Components, Memory> {
 }
 
 /// That true implies the formula.
-fn implied(shown: Form) -> Condition {
+fn implied(alloc: Global, shown: Form) -> Result<Condition, Memory> {
     let name = CondName {
         step: 0,
         premise: Premise::Implies,
@@ -28,15 +28,13 @@ fn implied(shown: Form) -> Condition {
         trans: None,
         mode: 0,
     };
-    Condition {
-        given: Form::True,
-        shown,
-        name,
-    }
+    Condition::new(alloc, Form::True, shown, name)
 }
 
 fn conditions(alloc: Global) -> Result<Vec<Condition>, Memory> {
-    Ok(vec![in alloc; implied(Form::True), implied(Form::False)]?)
+    let first = implied(alloc, Form::True)?;
+    let second = implied(alloc, Form::False)?;
+    Ok(vec![in alloc; first, second]?)
 }
 
 fn block(number: u32) -> Block {

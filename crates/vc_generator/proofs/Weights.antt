@@ -1,7 +1,7 @@
 -- The weight of a list with one condition more.
 use Rattle.std.proofs.Common.{ℕ, zero, suc, take, ◌≡◌, ap, refl, arith, ◌+◌, List, [], ◌∷◌, ◌++◌, map}
 use Rattle.st_form.specs.Condition.{Implication}
-use Rattle.st_form.specs.Plain.{plain_condition}
+use Rattle.st_form.specs.Shared.{plain_condition}
 use Rattle.st_form.specs.declared.conditions.Condition.{Condition}
 use Rattle.vc_generator.specs.Refusing.{weight_in, weights}
 

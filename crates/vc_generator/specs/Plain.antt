@@ -1,7 +1,8 @@
 -- The list of conditions, and cases, as plain data.
 use Rattle.std.specs.Prelude.{ℕ, List, map, refl}
 use Rattle.std.specs.Coded.{Coded, code_by, coded×, coded_list, coded_ℕ}
-use Rattle.st_form.specs.Plain.{plain, plain_condition}
+use Rattle.st_form.specs.Plain.{plain}
+use Rattle.st_form.specs.Shared.{plain_condition}
 use Rattle.st_form.specs.Condition.{Implication}
 use Rattle.st_form.specs.declared.conditions.Condition.{Condition}
 use Rattle.st_form.specs.contracts.conditions.Condition as condition_code

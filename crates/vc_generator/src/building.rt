@@ -3,7 +3,8 @@
 ghost use Rattle.std.specs.Prelude.{◌≡◌, ◌+◌, ◌-◌, ◌^◌, ◌++◌, ◌∷◌, map, min, IfOk, OnOk};
 ghost use Rattle.st_form.specs.Formula.{Formula, atoms};
 ghost use Rattle.transition_system.specs.Systems.{PlainMode};
-ghost use Rattle.st_form.specs.Plain.{plain, plain_condition};
+ghost use Rattle.st_form.specs.Plain.{plain};
+ghost use Rattle.st_form.specs.Shared.{plain_condition};
 ghost use Rattle.transition_system.specs.Plain.{plain_mode, plain_system};
 ghost use Rattle.transition_system.specs.Meaning.{enabling_of};
 ghost use Rattle.vc_generator.specs.Building.{start_of, entails_of, triple_of, moved_of, case_of, behind_or, conjuncts, unless_true, together, after as after_of, falls_to as falls_to_of};

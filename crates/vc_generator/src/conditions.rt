@@ -1,7 +1,7 @@
 //! The list of conditions, within its limits.
 
 ghost use Rattle.std.specs.Prelude.{◌≡◌, ◌-◌, ◌^◌, ◌++◌, ℕ, [], ◌∷◌, min, take, OnOk, OnErr};
-ghost use Rattle.st_form.specs.Plain.{plain_condition};
+ghost use Rattle.st_form.specs.Shared.{plain_condition};
 ghost use Rattle.vc_generator.specs.Plain.{plain_list};
 ghost use Rattle.vc_generator.specs.Refusing.{HasRoom, Pushes, weights};
 

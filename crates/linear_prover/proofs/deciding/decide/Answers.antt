@@ -1,5 +1,5 @@
 use Rattle.std.proofs.Common.{◌∙◌, ap, sym, length}
-use Rattle.st_form.specs.Plain.{plain}
+use Rattle.st_form.specs.Shared.{given_of, shown_of}
 use Rattle.farkas_check.specs.Problem.{Setting}
 use Rattle.farkas_check.specs.PlainProblem.{setting}
 use Rattle.search_laws.specs.Moves.{valid}
@@ -17,7 +17,7 @@ pub returns-in-Some-clause-right : goal.returns-in-Some-clause-right
 returns-in-Some-clause-right c =
     let k : Setting = setting c.args.components.now c.args.variables.now in
     let found = rw c.in-Some.is at c.in_ok-number.ensures.found in
-    proved k (plain c.args.condition.now.given) (plain c.args.condition.now.shown) (tree_of c.in_ok-certificate.field-0)
-    (proper (length c.args.variables.now) (plain c.args.condition.now.given) c.look_at.ensures c.requires.given_below)
-    (proper (length c.args.variables.now) (plain c.args.condition.now.shown) c.look_at-2.ensures c.requires.shown_below)
+    proved k (given_of c.args.condition.now) (shown_of c.args.condition.now) (tree_of c.in_ok-certificate.field-0)
+    (proper (length c.args.variables.now) (given_of c.args.condition.now) c.look_at.ensures c.requires.given_below)
+    (proper (length c.args.variables.now) (shown_of c.args.condition.now) c.look_at-2.ensures c.requires.shown_below)
     (found.1 ∙ ap valid (sym c.in_ok-certificate.ensures))

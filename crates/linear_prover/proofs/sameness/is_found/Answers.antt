@@ -1,5 +1,5 @@
 use Rattle.std.proofs.Common.{◌∙◌, ap, length}
-use Rattle.st_form.specs.Plain.{plain}
+use Rattle.st_form.specs.Shared.{given_of, shown_of}
 use Rattle.st_certificate.specs.Plain.{plain as tree_of}
 use Rattle.farkas_check.specs.PlainProblem.{setting}
 use Rattle.search_laws.specs.Moves.{valid}
@@ -11,6 +11,6 @@ pub returns-in-Some-clause-valid : goal.returns-in-Some-clause-valid
 returns-in-Some-clause-valid c =
     let found = rw c.in-Some.is at c.in_ok-find.ensures.found in
     λ same.
-    (proved (setting c.args.components.now c.args.variables.now) (plain c.args.condition.now.given) (plain c.args.condition.now.shown) (tree_of c.args.certificate.now)
-    (proper (length c.args.variables.now) (plain c.args.condition.now.given) c.look_at.ensures (c.are_below.ensures c.if-not-are_below.false)) (proper (length c.args.variables.now) (plain c.args.condition.now.shown) c.look_at-2.ensures (c.are_below-2.ensures c.if-not-are_below-2.false))
+    (proved (setting c.args.components.now c.args.variables.now) (given_of c.args.condition.now) (shown_of c.args.condition.now) (tree_of c.args.certificate.now)
+    (proper (length c.args.variables.now) (given_of c.args.condition.now) c.look_at.ensures (c.are_below.ensures c.if-not-are_below.false)) (proper (length c.args.variables.now) (shown_of c.args.condition.now) c.look_at-2.ensures (c.are_below-2.ensures c.if-not-are_below-2.false))
     (found.1 ∙ ap valid (c.is_same.ensures same))).certificate

@@ -1,5 +1,6 @@
 use Rattle.std.proofs.Common.{◌∙◌, ap, sym, subst, map, List}
-use Rattle.st_form.specs.Plain.{plain, plain_condition}
+use Rattle.st_form.specs.Plain.{plain}
+use Rattle.st_form.specs.Shared.{plain_condition}
 use Rattle.st_program.specs.Plain.{plain_children}
 use Rattle.control_facts.specs.Alternatives.{control_of}
 use Rattle.transition_system.specs.Plain.{plain_system}

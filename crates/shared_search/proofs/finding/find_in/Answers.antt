@@ -1,5 +1,5 @@
 use Rattle.std.proofs.Common.{refl}
-use Rattle.st_form.specs.Plain.{plain}
+use Rattle.st_form.specs.Shared.{given_of, shown_of}
 use Rattle.farkas_check.specs.PlainProblem.{setting}
 use Rattle.farkas_check.proofs.Bounds.{modest-narrow}
 use Rattle.form_table.specs.Contents.{formulas_of}
@@ -10,10 +10,10 @@ use Rattle.shared_search.proofs.Certifying.{found-by, knows-later}
 use Rattle.shared_search.proofs.finding.find_in.Goals as goal
 
 pub first_list-requires-clause-given : goal.first_list-requires-clause-given
-first_list-requires-clause-given c = modest-narrow (plain c.args.condition.now.given) c.requires.given
+first_list-requires-clause-given c = modest-narrow (given_of c.args.condition.now) c.requires.given
 
 pub first_list-requires-clause-shown : goal.first_list-requires-clause-shown
-first_list-requires-clause-shown c = modest-narrow (plain c.args.condition.now.shown) c.requires.shown
+first_list-requires-clause-shown c = modest-narrow (shown_of c.args.condition.now) c.requires.shown
 
 pub returns-in_err-list-clause-knows : goal.returns-in_err-list-clause-knows
 returns-in_err-list-clause-knows c =
@@ -25,5 +25,5 @@ walk-requires-clause-remembers c = found-later (setting c.args.components.now c.
 
 pub returns-then-is_modest-clause-found : goal.returns-then-is_modest-clause-found
 returns-then-is_modest-clause-found c =
-    found-by (setting c.args.components.now c.args.variables.now) (plain c.args.condition.now.given) (plain c.args.condition.now.shown) (trees_in c.walk.new.memo.trees) (formulas_of c.first_list.new.self) c.in_ok-list.list c.in-Some.tree (c.requires.knows.flat c.if-not-book.false) c.in_ok-list.ensures.made
+    found-by (setting c.args.components.now c.args.variables.now) (given_of c.args.condition.now) (shown_of c.args.condition.now) (trees_in c.walk.new.memo.trees) (formulas_of c.first_list.new.self) c.in_ok-list.list c.in-Some.tree (c.requires.knows.flat c.if-not-book.false) c.in_ok-list.ensures.made
     (rw c.in-Some.is at c.in_ok-walk.ensures.found) (c.is_modest.ensures c.if-is_modest.true)

@@ -1,5 +1,5 @@
 use Rattle.std.proofs.Common.{◌+◌, get_or}
-use Rattle.st_form.specs.Plain.{plain_condition}
+use Rattle.st_form.specs.Shared.{plain_condition}
 use Rattle.step_run.specs.Views.{posed_view}
 use Rattle.step_run.proofs.Verdicts.{open_ends, wide_ends}
 use Rattle.step_run.proofs.deciding.at_verdict.Goals as goal

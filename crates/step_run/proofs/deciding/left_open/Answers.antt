@@ -1,6 +1,6 @@
 use Rattle.std.proofs.Common.{◌+◌, get_or}
 use Rattle.std.specs.Option.{option_map}
-use Rattle.st_form.specs.Plain.{plain_condition}
+use Rattle.st_form.specs.Shared.{plain_condition}
 use Rattle.linear_prover.specs.Plain.{plain_path, plain_shown}
 use Rattle.step_report.specs.declared.conditions.Reason.TheVariants.{Open}
 use Rattle.step_report.specs.Searches.{open_text}

@@ -1,5 +1,5 @@
 use Rattle.std.proofs.Common.{◌≡◌, ◌≤◌, ◌++◌, ◌∷◌, [], List, ℕ, length, map, drop, true, false, Ok, subst, sym, ap, ◌∙◌, arith}
-use Rattle.st_form.specs.Plain.{plain_condition}
+use Rattle.st_form.specs.Shared.{plain_condition}
 use Rattle.discharge.proofs.Halves.{right-searchable}
 use Rattle.temporal_goals.specs.Plain.{plain_script}
 use Rattle.step_run.specs.Conditions.{setting_of, steps_spelled}

@@ -1,5 +1,5 @@
 use Rattle.std.proofs.Common.{arith, ◌∙◌, ap, map}
-use Rattle.st_form.specs.Plain.{plain_condition}
+use Rattle.st_form.specs.Shared.{plain_condition}
 use Rattle.vc_generator.specs.Refusing.{weights}
 use Rattle.vc_generator.proofs.Weights.{weights-more, plain-more}
 use Rattle.vc_generator.proofs.conditions.append.Goals as goal

@@ -1,5 +1,5 @@
 use Rattle.std.proofs.Common.{◌≡◌, ◌∙◌, ap, sym, map, take}
-use Rattle.st_form.specs.Plain.{plain_condition}
+use Rattle.st_form.specs.Shared.{plain_condition}
 use Rattle.vc_generator.specs.Refusing.{weights}
 use Rattle.vc_generator.proofs.Weights.{plain-take}
 use Rattle.vc_generator.proofs.conditions.take_back.Goals as goal

@@ -25,7 +25,7 @@ use std::thread::Threads;
 use step_plan::{Ended, Stage};
 
 /// How many conditions are searched at least before a look whether one of them isn't valid.
-const FEWEST: usize = 64;
+const FEWEST: usize = 256;
 
 /// The place behind the slice that begins at a place: it has as many conditions as lie before it. So at most twice as many
 /// are searched as lie before the first that isn't valid, and what a slice has found serves many conditions.

@@ -36,8 +36,6 @@ pub fn check(
         ↔ IsCertificate (setting components.now variables.now) (given_of condition.now) (shown_of condition.now) (tree_of certificate.now)) }
     ensures sound { IfOk result (λ yes. IsTrue yes → IsValidCondition components.now (given_of condition.now) (shown_of condition.now)) }
 {
-    let given = condition.given(alloc)?;
-    let shown = condition.shown(alloc)?;
-    let problem = first_problem(alloc, components, variables, &given, &shown)?;
+    let problem = first_problem(alloc, components, variables, condition)?;
     closes(alloc, components, variables, certificate, &problem)
 }

@@ -6,13 +6,14 @@
 ghost use Rattle.std.specs.Prelude.{◌≡◌, ◌<◌, IfOk, replicate, None};
 ghost use Rattle.st_form.specs.Plain.{plain, plain_list, plain_conjuncts};
 ghost use Rattle.st_form.specs.Formula.{none, every, more, negation};
+ghost use Rattle.st_form.specs.Shared.{given_of, shown_of};
 ghost use Rattle.st_form.specs.Simple.{parts};
 ghost use Rattle.farkas_check.specs.Problem.{posed, first_problem, with_conjuncts};
 ghost use Rattle.farkas_check.specs.PlainProblem.{plain_posed, setting};
 ghost use Rattle.farkas_check.specs.Limits.{IsNarrow, AreFit, AreSettled};
 
 use control_states::{Alternative, Components};
-use st_form::{Form, Variable, joined_conjuncts, simple_conjuncts};
+use st_form::{Condition, Form, Variable, joined_conjuncts, simple_conjuncts};
 use st_memory::Memory;
 use std::alloc::Global;
 
@@ -86,12 +87,12 @@ pub fn undecided_truths(alloc: Global, count: usize) -> Result<Vec<Option<bool>>
 
 /// The conjuncts of what is given and of the opposite of what is shown.
 #[tactic(auto, using(st_form::proofs::Nodes::nodes))]
-pub fn opposed(alloc: Global, given: &Form, shown: &Form) -> Result<Form, Memory>
-    ensures { IfOk result (λ f. plain f ≡ every (more (plain given.now) (more (negation (plain shown.now)) none))) }
+fn opposed(alloc: Global, condition: &Condition) -> Result<Form, Memory>
+    ensures { IfOk result (λ f. plain f ≡ every (more (given_of condition.now) (more (negation (shown_of condition.now)) none))) }
 {
-    let opposite = Form::Not(Box::new(alloc, shown.copy(alloc)?)?);
-    let first = given.copy(alloc)?;
-    Ok(Form::And(vec![in alloc; first, opposite]?))
+    let given = condition.given(alloc)?;
+    let opposite = Form::Not(Box::new(alloc, condition.shown(alloc)?)?);
+    Ok(Form::And(vec![in alloc; given, opposite]?))
 }
 
 /// The problem of a condition.
@@ -99,15 +100,13 @@ pub fn first_problem(
     alloc: Global,
     components: &Components,
     variables: &[Variable],
-    given: &Form,
-    shown: &Form,
+    condition: &Condition,
 ) -> Result<Posed, Memory>
-    requires given { IsNarrow (plain given.now) }
-    requires shown { IsNarrow (plain shown.now) }
-    ensures { IfOk result (λ p. plain_posed p ≡ first_problem (setting components.now variables.now) (plain given.now) (plain shown.now)) }
+    requires given { IsNarrow (given_of condition.now) }
+    requires shown { IsNarrow (shown_of condition.now) }
+    ensures { IfOk result (λ p. plain_posed p ≡ first_problem (setting components.now variables.now) (given_of condition.now) (shown_of condition.now)) }
 {
-    let whole = opposed(alloc, given, shown)?;
-    let simple = whole.normal(alloc)?;
+    let simple = opposed(alloc, condition)?.normal(alloc)?;
     let nothing: Vec<Form> = Vec::new(alloc);
     let conjuncts = joined_conjuncts(alloc, nothing.as_slice(), simple)?;
     let cases = undecided_cases(alloc, components.parts().len())?;

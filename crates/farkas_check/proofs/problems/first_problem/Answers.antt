@@ -1,6 +1,6 @@
-use Rattle.st_form.specs.Plain.{plain}
+use Rattle.st_form.specs.Shared.{given_of, shown_of}
 use Rattle.farkas_check.proofs.Bounds.{modest-narrow}
 use Rattle.farkas_check.proofs.problems.first_problem.Goals as goal
 
 pub normal-requires : goal.normal-requires
-normal-requires c = rw c.in_ok-whole.ensures (modest-narrow (plain c.args.given.now) c.requires.given, (modest-narrow (plain c.args.shown.now) c.requires.shown, tt))
+normal-requires c = rw c.in_ok-opposed.ensures (modest-narrow (given_of c.args.condition.now) c.requires.given, (modest-narrow (shown_of c.args.condition.now) c.requires.shown, tt))

@@ -122,7 +122,7 @@ joined-parts Q all None p h k = tt
 joined-parts Q all (Some gs) None h k = tt
 joined-parts Q all (Some gs) (Some fs) h k = append-parts Q all gs fs h k
 
-gathered-parts : (Q : Linear → Type 0) (all : Bool) (fs : Formulas) → AreWhole Q fs → IfParts Q all (gathered all fs)
+pub gathered-parts : (Q : Linear → Type 0) (all : Bool) (fs : Formulas) → AreWhole Q fs → IfParts Q all (gathered all fs)
 gathered-parts Q all none h = tt
 gathered-parts Q all (more f fs) h = joined-parts Q all (parts all f) (gathered all fs) (whole-parts Q all f h.0) (gathered-parts Q all fs h.1)
 
@@ -167,7 +167,7 @@ mutual
   simple-whole Q k d (every fs) plus h = joined-whole Q plus (gathered plus (simples d fs plus)) (gathered-parts Q plus (simples d fs plus) (simples-whole Q k d fs plus h))
   simple-whole Q k d (some fs) plus h = joined-whole Q (not plus) (gathered (not plus) (simples d fs plus)) (gathered-parts Q (not plus) (simples d fs plus) (simples-whole Q k d fs plus h))
 
-  simples-whole : (Q : Linear → Type 0) → Keeps Q → (d : Decided) (fs : Formulas) (plus : Bool) → AllFormsOf Q fs → AreWhole Q (simples d fs plus)
+  pub simples-whole : (Q : Linear → Type 0) → Keeps Q → (d : Decided) (fs : Formulas) (plus : Bool) → AllFormsOf Q fs → AreWhole Q (simples d fs plus)
   simples-whole Q k d none plus h = tt
   simples-whole Q k d (more f fs) plus h = (simple-whole Q k d f plus h.0, simples-whole Q k d fs plus h.1)
 

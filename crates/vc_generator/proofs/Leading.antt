@@ -8,6 +8,7 @@ use Rattle.st_linear.specs.Linear.{Linear, value, fitting, sum_of, replaced}
 use Rattle.st_linear.specs.Simple.{negated, lowered}
 use Rattle.st_form.specs.Formula.{Formula, Situation, truth, some_truth, truth_value, row, equal, bool_var, at, negation, every, some, formulas}
 use Rattle.st_form.specs.Exchange.{exchanged}
+use Rattle.st_form.specs.Shared.{together}
 use Rattle.st_form.specs.declared.conditions.CondName.{CondName}
 use Rattle.st_linear.proofs.Fitting.{fitting-is, value-sum_of}
 use Rattle.st_linear.proofs.Replacing.{value-replaced}
@@ -17,7 +18,7 @@ use Rattle.std.proofs.lemmas.Bool.{and_parts}
 use Rattle.st_form.proofs.Truths.{truth-exchanged}
 use Rattle.transition_system.specs.Systems.{PlainMode, System}
 use Rattle.transition_system.specs.Meaning.{can_go, gone, enabling_of}
-use Rattle.vc_generator.specs.Building.{at_least, at_least_both, conjuncts, start_of, entails_of, after, behind_or, triple_of, moved_of, case_of, falls_to, unless_true, together}
+use Rattle.vc_generator.specs.Building.{at_least, at_least_both, conjuncts, start_of, entails_of, after, behind_or, triple_of, moved_of, case_of, falls_to, unless_true}
 use Rattle.vc_generator.specs.Atoms.{PlainCase}
 use Rattle.vc_generator.specs.Validity.{HoldsIn, AllTrueIn}
 use Rattle.vc_generator.proofs.Truths.{every-true, true-every, true-append, true-locations, true-conjuncts, either}

@@ -6,3 +6,4 @@ pub mod Weights
 pub mod Listed
 pub mod Growing
 pub mod Counted
+pub mod Differences

@@ -7,9 +7,10 @@ use Rattle.std.specs.Prelude.{ℕ, true, false, List, [], ◌∷◌, ◌++◌, m
 use Rattle.std.specs.Option.{option_map, option_and_then}
 use Rattle.st_linear.specs.Linear.{Linear, fitting, sum_of, replaced}
 use Rattle.st_linear.specs.Simple.{negated}
-use Rattle.st_form.specs.Formula.{Formula, Formulas, truth_value, row, equal, bool_var, at, negation, every, some, none, more, formulas}
+use Rattle.st_form.specs.Formula.{Formula, Formulas, truth_value, row, every, some, none, more, formulas}
 use Rattle.st_form.specs.Exchange.{exchanged}
 use Rattle.st_form.specs.Condition.{Implication}
+use Rattle.st_form.specs.Shared.{together}
 use Rattle.st_form.specs.declared.conditions.CondName.{CondName}
 use Rattle.transition_system.specs.Systems.{PlainMode, System}
 use Rattle.transition_system.specs.Meaning.{enabling_of}
@@ -70,12 +71,6 @@ triple_of m lemmas before behind now name = draft (triple_atoms m lemmas before 
 abbrev pub unless_true : Formula → List Formula
 unless_true (truth_value true) = []
 unless_true f = f ∷ []
-
--- a single part is that part
-abbrev pub together : List Formula → Formula
-together [] = every none
-together (f ∷ []) = f
-together (f ∷ g ∷ fs) = every (formulas (f ∷ g ∷ fs))
 
 abbrev pub case_of : PlainMode → PlainCase → Formula
 case_of m c = together (unless_true c.now ++ after m c.behind ∷ map (falls_to m) c.falls)

@@ -6,6 +6,8 @@ ghost use Rattle.vc_generator.specs.Plain.{plain_list};
 ghost use Rattle.vc_generator.specs.Refusing.{HasRoom, Pushes, weights};
 
 use crate::faults::VcFault;
+use crate::sharing::{Sharing, no_sharing};
+use crate::weighing::condition_weight;
 use st_form::Condition;
 use st_memory::Memory;
 use std::alloc::Global;
@@ -18,16 +20,18 @@ const WIDEST: u64 = 2_048;
 
 const HEAVIEST: u64 = 16_777_216;
 
-/// Conditions, and the sum of their weights: a condition weighs the atoms and the entries of linear forms of its two formulas.
+/// Conditions, the sum of their weights, and what they share: a condition weighs the atoms and the entries of linear forms of what is
+/// given and what is shown.
 #[derive(Drop)]
 pub struct Conditions {
     pub items: Vec<Condition>,
     pub weight: u64,
+    pub(crate) sharing: Sharing,
 }
 
 impl Model for Conditions {
     ghost use Rattle.std.specs.Prelude.{◌≡◌, map};
-    ghost use Rattle.st_form.specs.Plain.{plain_condition};
+    ghost use Rattle.st_form.specs.Shared.{plain_condition};
     ghost use Rattle.vc_generator.specs.Plain.{View, view_code};
     ghost use Rattle.vc_generator.specs.Refusing.{weights};
 
@@ -50,6 +54,7 @@ impl Conditions {
         Conditions {
             items: Vec::new(alloc),
             weight: 0,
+            sharing: no_sharing(alloc),
         }
     }
 }
@@ -80,9 +85,7 @@ pub fn room_for(out: &Conditions, atoms: u64) -> Result<(), VcFault>
 pub fn append(out: &mut Conditions, condition: Condition) -> Result<(), VcFault>
     ensures { Pushes result (plain_list out.old) (plain_list out.new) (plain_condition condition) }
 {
-    let given = condition.given.weight();
-    let weight = given.saturating_add(condition.shown.weight());
-    let total = out.weight.saturating_add(weight);
+    let total = out.weight.saturating_add(condition_weight(&condition));
     if total > HEAVIEST {
         return Err(VcFault::TooHeavy);
     }

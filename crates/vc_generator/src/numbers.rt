@@ -1,6 +1,6 @@
 //! Comparisons of linear forms as formulas, before and behind a mode.
 
-ghost use Rattle.std.specs.Prelude.{◌≡◌, IfOk};
+ghost use Rattle.std.specs.Prelude.{◌≡◌, [], IfOk};
 ghost use Rattle.st_form.specs.Plain.{plain};
 ghost use Rattle.transition_system.specs.Plain.{plain_mode};
 ghost use Rattle.vc_generator.specs.Building.{after as after_of, at_least as at_least_of, at_least_both as at_least_both_of, falls_to as falls_to_of};
@@ -26,9 +26,27 @@ pub fn after(alloc: Global, form: &Form, mode: &Mode) -> Result<Form, Memory>
 pub fn at_least(alloc: Global, form: &Lin, other: &Lin) -> Result<Form, Memory>
     ensures { IfOk result (λ f. plain f ≡ at_least_of form.now other.now) }
 {
+    if form.entries().is_empty() && other.entries().is_empty() {
+        return number_at_least(alloc, form, other);
+    }
     let opposite = other.negated(alloc)?;
     match form.add(alloc, &opposite) {
         Ok(difference) => Ok(Form::Row(difference)),
+        Err(LinFault::TooLarge) => Ok(Form::False),
+        Err(LinFault::Memory) => Err(Memory),
+    }
+}
+
+/// The same where the forms are numbers, as ranks mostly are.
+#[tactic(auto, using(crate::proofs::Differences::differences), unfolding(st_linear::specs::Linear::is_within))]
+fn number_at_least(alloc: Global, form: &Lin, other: &Lin) -> Result<Form, Memory>
+    requires form { form.now.entries ≡ [] }
+    requires other { other.now.entries ≡ [] }
+    ensures { IfOk result (λ f. plain f ≡ at_least_of form.now other.now) }
+{
+    let difference = form.constant() - other.constant();
+    match Lin::constant_of(alloc, difference) {
+        Ok(number) => Ok(Form::Row(number)),
         Err(LinFault::TooLarge) => Ok(Form::False),
         Err(LinFault::Memory) => Err(Memory),
     }

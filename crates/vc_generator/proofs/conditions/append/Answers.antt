@@ -7,4 +7,4 @@ use Rattle.vc_generator.proofs.conditions.append.Goals as goal
 pub invariant_of-out-2 : goal.invariant_of-out-2
 invariant_of-out-2 c =
     let grown = ap (λ cs. weights (map plain_condition cs)) c.in_ok-push.ensures.ok ∙ ap weights (plain-more c.out.inside.items.items c.args.condition) ∙ weights-more (map plain_condition c.out.inside.items.items) (plain_condition c.args.condition) in
-    omega (arith, grown, c.out.invariant, c.saturating_add-total.ensures, c.saturating_add-weight.ensures, c.weight-given.ensures, c.weight.ensures, c.if-total-gt-HEAVIEST.false)
+    omega (arith, grown, c.out.invariant, c.saturating_add-total.ensures, c.condition_weight.ensures, c.if-total-gt-HEAVIEST.false)

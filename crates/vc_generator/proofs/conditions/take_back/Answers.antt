@@ -1,4 +1,4 @@
-use Rattle.std.proofs.Common.{◌≡◌, ◌∙◌, ap, sym, map, take}
+use Rattle.std.proofs.Common.{◌∙◌, ap, sym, map, take}
 use Rattle.st_form.specs.Shared.{plain_condition}
 use Rattle.vc_generator.specs.Refusing.{weights}
 use Rattle.vc_generator.proofs.Weights.{plain-take}

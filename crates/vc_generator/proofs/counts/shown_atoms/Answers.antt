@@ -4,7 +4,7 @@ use Rattle.transition_system.specs.Plain.{plain_mode}
 use Rattle.vc_generator.specs.declared.building.Case.{Case}
 use Rattle.vc_generator.specs.Plain.{plain_case}
 use Rattle.vc_generator.specs.Atoms.{cases_atoms}
-use Rattle.vc_generator.proofs.building.shown_atoms.Goals as goal
+use Rattle.vc_generator.proofs.counts.shown_atoms.Goals as goal
 
 pub returns : goal.returns
 returns c =

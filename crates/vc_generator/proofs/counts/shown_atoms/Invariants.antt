@@ -2,7 +2,7 @@ use Rattle.std.proofs.Common.{◌≡◌, ◌+◌, ◌-◌, ◌^◌, ◌≤◌, m
 use Rattle.transition_system.specs.Plain.{plain_mode}
 use Rattle.vc_generator.specs.Plain.{plain_case}
 use Rattle.vc_generator.specs.Atoms.{cases_atoms}
-use Rattle.vc_generator.proofs.building.shown_atoms.Given as goal
+use Rattle.vc_generator.proofs.counts.shown_atoms.Given as goal
 
 abbrev pub invariant-loop-case : goal.invariant-loop-case
 invariant-loop-case l = record {

@@ -1,8 +1,0 @@
-use Rattle.std.proofs.Common.{◌≡◌, ◌++◌, ◌∷◌, map, take}
-use Rattle.st_form.specs.Formula.{at}
-use Rattle.st_form.specs.Plain.{plain}
-use Rattle.st_form.specs.Shared.{given_of}
-use Rattle.vc_generator.proofs.building.given_before.Given as goal
-
-abbrev pub invariant-loop-location : goal.invariant-loop-location
-invariant-loop-location l = map given_of l.items ≡ map plain l.fn.lemmas ++ plain l.fn.before ∷ map (λ k. at k) (take l.location-index l.fn.mode.at.items)

@@ -11,3 +11,5 @@ pub mod Dividing
 pub mod Placing
 pub mod Calling
 pub mod Pushing
+pub mod Beginning
+pub mod Recalling

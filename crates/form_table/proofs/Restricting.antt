@@ -1,5 +1,5 @@
 -- Conjunctions and disjunctions under decisions.
-use Rattle.std.proofs.Common.{◌≡◌, ℕ, ◌+◌, ◌<◌, ◌≤◌, Bool, true, false, List, [], ◌∷◌, length, drop, get_or, refl, ap, ◌∙◌, sym, All, Option, Some, None, arith}
+use Rattle.std.proofs.Common.{◌≡◌, ℕ, ◌+◌, ◌<◌, ◌≤◌, Bool, true, false, List, length, drop, get_or, refl, ap, ◌∙◌, sym, All, Option, Some, None, arith}
 use Rattle.std.specs.Option.{option_map}
 use Rattle.std.proofs.lemmas.List.{drop_all, drop_more}
 use Rattle.st_form.specs.Formula.{Formula, Formulas, none, more}
@@ -67,11 +67,5 @@ gather-stops all goes ts ns i out new whole l h takes g =
 pub gather-ends : (all : Bool) (ts : List Formula) (ns : List ℕ) (i : ℕ) (out : List ℕ) (whole : Option Formulas) → length ns ≤ i
     → option_map (append (listed ts out)) (gathered all (listed ts (drop i ns))) ≡ whole → Some (listed ts out) ≡ whole
 gather-ends all ts ns i out whole l h = ends-some all (listed ts out) (listed ts (drop i ns)) whole (ap (listed ts) (drop_all i ns l)) h
-
--- two formulas, made one after the other and then joined
-pub pair-joined : (ts us vs : List Formula) (a b n : ℕ) (f g : Formula) (o : Option Formulas) → Extends ts us → Is ts a f → Is us b g
-    → o ≡ gathered true (listed us (a ∷ b ∷ [])) → Is vs n (joined_parts true o) → Is vs n (joined_parts true (gathered true (more f (more g none))))
-pair-joined ts us vs a b n f g o e h k s m =
-    (m.0, m.1 ∙ ap (joined_parts true) s ∙ ap (λ x. joined_parts true (gathered true (more x (more (formula us b) none)))) (e.same a h.0 ∙ h.1) ∙ ap (λ x. joined_parts true (gathered true (more f (more x none)))) k.1)
 
 pub ruleset restricting = (same-and, same-or, below-and, below-or)

@@ -1,11 +1,13 @@
--- What is remembered of formulas under decisions.
+-- What is remembered: of formulas under decisions, and of shared formulas.
 use Rattle.std.specs.Prelude.{◌<◌, true, All, List, length, map, Option, Some, None}
 use Rattle.st_form.specs.Formula.{Formula}
-use Rattle.st_form.specs.Simple.{simple}
+use Rattle.st_form.specs.Plain.{plain}
+use Rattle.st_form.specs.Simple.{nothing, simple}
 use Rattle.form_table.specs.Table.{Is, formula}
 use Rattle.form_table.specs.Contents.{Choice, decision_at}
 use Rattle.form_table.specs.declared.choices.Decision.{Decision}
 use Rattle.form_table.specs.declared.memos.Entry.{Entry}
+use Rattle.form_table.specs.declared.readings.Reading.{Reading}
 
 abbrev pub choice_of : Decision → Choice
 choice_of d = record { truths = d.truths.items; places = d.places.items }
@@ -23,3 +25,19 @@ IsFree ts cs (Some e) = IsEntry ts cs e
 
 pub record Remembers (ts : List Formula) (cs : List Choice) (es : List (Option Entry)) : Type 0 where
   pub each : All (λ o. IsFree ts cs o) es
+
+-- the simplified formula under the sign has that number
+abbrev pub IsReading : List Formula → Reading → Type 0
+IsReading ts r = Is ts r.number (simple nothing (plain r.form) r.plus)
+
+abbrev pub IfReading : List Formula → Option Reading → Type 0
+IfReading ts None = Unit {0}
+IfReading ts (Some r) = IsReading ts r
+
+pub record AreRead (ts : List Formula) (rs : List (Option Reading)) : Type 0 where
+  pub each : All (λ o. IfReading ts o) rs
+
+-- all that a table remembers is so
+pub record IsKnown (ts : List Formula) (cs : List Choice) (es : List (Option Entry)) (rs : List (Option Reading)) : Type 0 where
+  pub remembers : Remembers ts cs es
+  pub read : AreRead ts rs

@@ -16,6 +16,7 @@ mod memos;
 mod nodes;
 mod parts;
 mod pools;
+mod readings;
 mod restriction;
 mod simplification;
 mod splitting;

@@ -2,9 +2,10 @@
 //! of conjuncts is done once.
 
 ghost use Rattle.std.specs.Prelude.{◌≡◌, ◌<◌, ◌∷◌, ◌++◌, [], IfOk, length, true};
-ghost use Rattle.st_form.specs.Formula.{none};
-ghost use Rattle.st_form.specs.Plain.{plain};
-ghost use Rattle.st_form.specs.Simple.{IsModest, gathered, simples};
+ghost use Rattle.st_form.specs.Formula.{every, none};
+ghost use Rattle.st_form.specs.Plain.{plain_list};
+ghost use Rattle.st_form.specs.Shared.{consequent_of};
+ghost use Rattle.st_form.specs.Simple.{AreModest, IsModest, gathered, simples};
 ghost use Rattle.farkas_check.specs.Problem.{split_from};
 ghost use Rattle.form_table.specs.Table.{Extends};
 ghost use Rattle.form_table.specs.Contents.{Grows, decision_at, formulas_of};
@@ -15,31 +16,34 @@ use crate::choices::Decision;
 use crate::lists::under_list;
 use crate::memos::{Memo, forget, no_memo};
 use crate::pools::{Pool, new_pool};
+use crate::readings::{Readings, no_readings};
 use crate::splitting::split;
 use crate::stores::number_of;
-use st_form::Form;
+use st_form::{Consequent, SharedForm};
 use st_memory::Memory;
 use std::alloc::Global;
 use std::marker::Model;
 
-/// Formulas by number, the decisions under which they may be asked for, and what was found of formulas under decisions.
+/// Formulas by number, the decisions under which they may be asked for, and what was found of formulas under decisions and of
+/// shared formulas.
 #[derive(Drop)]
 pub struct Table {
     pub(crate) pool: Pool,
     pub(crate) memo: Memo,
+    pub(crate) readings: Readings,
     pub(crate) decisions: Vec<Decision>,
 }
 
 impl Model for Table {
     ghost use Rattle.form_table.specs.Nodes.{formulas_in};
     ghost use Rattle.form_table.specs.Contents.{Contents};
-    ghost use Rattle.form_table.specs.Memory.{Remembers, choices};
+    ghost use Rattle.form_table.specs.Memory.{IsKnown, choices};
 
     ghost Value = { Contents };
 
     ghost view = { λ t. record { kept = t.pool.store; decisions = choices t.decisions.items } };
 
-    ghost invariant = { λ t. Remembers (formulas_in t.pool.store) (choices t.decisions.items) t.memo.entries.items };
+    ghost invariant = { λ t. IsKnown (formulas_in t.pool.store) (choices t.decisions.items) t.memo.entries.items t.readings.entries.items };
 }
 
 impl Table {
@@ -50,6 +54,7 @@ impl Table {
         Ok(Table {
             pool: new_pool(alloc)?,
             memo: no_memo(alloc),
+            readings: no_readings(alloc),
             decisions: Vec::new(alloc),
         })
     }
@@ -74,15 +79,15 @@ impl Table {
     pub fn first_list(
         &mut self,
         alloc: Global,
-        given: &Form,
-        shown: &Form,
+        given: &[SharedForm],
+        shown: &Consequent,
     ) -> Result<Option<u32>, Memory>
-        requires given { IsModest (plain given.now) }
-        requires shown { IsModest (plain shown.now) }
+        requires given { AreModest (plain_list given.now) }
+        requires shown { IsModest (consequent_of shown.now) }
         ensures grows { Grows self.old self.new }
-        ensures made { IfOk result (λ o. IsListed (formulas_of self.new) o (first_conjuncts (plain given.now) (plain shown.now))) }
+        ensures made { IfOk result (λ o. IsListed (formulas_of self.new) o (first_conjuncts (every (plain_list given.now)) (consequent_of shown.now))) }
     {
-        first_list(alloc, &mut self.pool, given, shown)
+        first_list(alloc, &mut self.pool, &mut self.readings, given, shown)
     }
 
     /// The list under a decision, or None where one of its conjuncts is false.

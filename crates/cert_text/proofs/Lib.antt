@@ -11,3 +11,4 @@ pub mod Taken
 pub mod Standing
 pub mod WordRuns
 pub mod NumberRuns
+mod PickRuns

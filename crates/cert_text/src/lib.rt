@@ -7,6 +7,7 @@ mod cuts;
 mod fronts;
 mod letters;
 mod numbers;
+mod pick_fronts;
 mod picks;
 mod pieces;
 mod progress;
@@ -14,6 +15,8 @@ mod reader;
 mod scan;
 mod tree;
 mod trees;
+mod whole_picks;
+mod whole_tokens;
 mod words;
 mod write;
 

@@ -10,7 +10,15 @@ use crate::scan::{Scan, Want, Word};
 pub fn is_word(letters: &[u8], word: &[u8]) -> bool
     ensures { result ≡ bytes_eq letters.now word.now }
 {
-    letters == word
+    if letters.len() != word.len() {
+        return false;
+    }
+    for (i, letter) in letters.iter().enumerate() {
+        if *letter != word[i] {
+            return false;
+        }
+    }
+    true
 }
 
 /// The word that these letters are.

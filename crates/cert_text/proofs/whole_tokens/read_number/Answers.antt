@@ -1,25 +1,12 @@
-use Rattle.std.proofs.Common.{rules, ◌≡◌, ◌+◌, ◌∙◌, ap, sym, true, take, drop}
-use Rattle.cert_text.specs.Control.{word_of, give}
+use Rattle.std.proofs.Common.{rules, ◌≡◌, ◌+◌, ◌∙◌, ap, sym, true, drop}
+use Rattle.cert_text.specs.Control.{give}
 use Rattle.cert_text.specs.Tree.{built_view}
-use Rattle.cert_text.specs.Reading.{progress_view, going, idle, after, word_ended, token_taken}
+use Rattle.cert_text.specs.Reading.{progress_view, going, idle, after, token_taken}
 use Rattle.cert_text.specs.Fronts.{takes_numbers}
 use Rattle.cert_text.specs.declared.scan.Token.TheVariants as tokens
-use Rattle.cert_text.proofs.WordRuns.{word_in_front}
 use Rattle.cert_text.proofs.NumberRuns.{number_in_front}
 use Rattle.cert_text.proofs.Standing.{stands_idle}
-use Rattle.cert_text.proofs.pieces.read_token.Goals as goal
-
-pub returns-then-letters-bytes-clause-leads : goal.returns-then-letters-bytes-clause-leads
-returns-then-letters-bytes-clause-leads c =
-    let p = c.args.progress.now in
-    let bs = c.args.bytes.now in
-    let at = c.args.place in
-    let k = c.letter_len-letters.result in
-    let old : progress_view p ≡ going p.scan (built_view p.building) idle = stands_idle p c.requires.idle c.requires.going in
-    let new : progress_view c.end_word.new.progress ≡ word_ended at (at + k) p.scan (built_view p.building) (word_of (take k bs)) = search rules in
-    ap (λ s. after (at + k) s (drop k bs)) new
-    ∙ word_in_front at k p.scan (built_view p.building) bs c.letter_len-letters.ensures.len (search rules) (search rules)
-    ∙ ap (λ s. after at s bs) (sym old)
+use Rattle.cert_text.proofs.whole_tokens.read_number.Goals as goal
 
 pub returns-then-digits-bytes-clause-leads : goal.returns-then-digits-bytes-clause-leads
 returns-then-digits-bytes-clause-leads c =

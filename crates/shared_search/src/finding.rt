@@ -17,8 +17,15 @@ use std::alloc::Global;
 
 const MOST_LEVELS: u32 = 400;
 
-/// A book with more formulas is long: a new one is quicker.
+/// A book with more formulas, or more parts of them, is long: a new one is quicker.
 const LONG: usize = 20000;
+
+const LONG_PARTS: usize = 2_000_000;
+
+/// Whether a new book is quicker than this one.
+fn is_long(book: &Book) -> bool {
+    book.memo.table.size() > LONG || book.memo.table.part_count() > LONG_PARTS
+}
 
 /// Begins a new book where this one is long.
 fn renew(
@@ -30,7 +37,7 @@ fn renew(
     requires { Knows (setting components.now variables.now) book.old }
     ensures { Knows (setting components.now variables.now) book.new }
 {
-    if book.memo.table.size() > LONG {
+    if is_long(book) {
         *book = Book::new(alloc, components, variables)?;
     }
     Ok(())

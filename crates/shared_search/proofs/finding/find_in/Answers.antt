@@ -1,8 +1,12 @@
-use Rattle.std.proofs.Common.{refl}
+use Rattle.std.proofs.Common.{refl, subst, sym}
+use Rattle.st_form.specs.Formula.{every}
+use Rattle.st_form.specs.Plain.{plain_list}
 use Rattle.st_form.specs.Shared.{given_of, shown_of}
+use Rattle.st_form.specs.Simple.{AreModest}
 use Rattle.farkas_check.specs.PlainProblem.{setting}
 use Rattle.farkas_check.proofs.Bounds.{modest-narrow}
 use Rattle.form_table.specs.Contents.{formulas_of}
+use Rattle.form_table.specs.Lists.{IsListed, first_conjuncts}
 use Rattle.tree_table.specs.Nodes.{trees_in}
 use Rattle.tree_table.proofs.Making.{extends-refl}
 use Rattle.shared_search.proofs.Knowing.{found-later}
@@ -10,7 +14,7 @@ use Rattle.shared_search.proofs.Certifying.{found-by, knows-later}
 use Rattle.shared_search.proofs.finding.find_in.Goals as goal
 
 pub first_list-requires-clause-given : goal.first_list-requires-clause-given
-first_list-requires-clause-given c = modest-narrow (given_of c.args.condition.now) c.requires.given
+first_list-requires-clause-given c = subst (λ fs. AreModest (plain_list fs)) (sym c.as_slice.ensures.value) (modest-narrow (given_of c.args.condition.now) c.requires.given)
 
 pub first_list-requires-clause-shown : goal.first_list-requires-clause-shown
 first_list-requires-clause-shown c = modest-narrow (shown_of c.args.condition.now) c.requires.shown
@@ -25,5 +29,7 @@ walk-requires-clause-remembers c = found-later (setting c.args.components.now c.
 
 pub returns-then-is_modest-clause-found : goal.returns-then-is_modest-clause-found
 returns-then-is_modest-clause-found c =
-    found-by (setting c.args.components.now c.args.variables.now) (given_of c.args.condition.now) (shown_of c.args.condition.now) (trees_in c.walk.new.memo.trees) (formulas_of c.first_list.new.self) c.in_ok-list.list c.in-Some.tree (c.requires.knows.flat c.if-not-book.false) c.in_ok-list.ensures.made
+    let made =
+    subst (λ fs. IsListed (formulas_of c.first_list.new.self) c.in_ok-list.list (first_conjuncts (every (plain_list fs)) (shown_of c.args.condition.now))) c.as_slice.ensures.value c.in_ok-list.ensures.made in
+    found-by (setting c.args.components.now c.args.variables.now) (given_of c.args.condition.now) (shown_of c.args.condition.now) (trees_in c.walk.new.memo.trees) (formulas_of c.first_list.new.self) c.in_ok-list.list c.in-Some.tree (c.requires.knows.flat c.if-not-book.false) made
     (rw c.in-Some.is at c.in_ok-walk.ensures.found) (c.is_modest.ensures c.if-is_modest.true)

@@ -73,10 +73,21 @@ pub fn add_tree(building: &mut Building, tree: Certificate) -> Result<(), Memory
     Ok(())
 }
 
+/// How many branches such a node has at most, as a rule.
+fn usual_branches(head: &Head) -> usize {
+    match head {
+        Head::Node(Branching::Case, _) => 8,
+        Head::Node(Branching::Truth, _) => 2,
+        Head::Node(Branching::Split, _) => 4,
+        Head::Cut(_) => 2,
+    }
+}
+
 pub fn enter(alloc: Global, building: &mut Building, head: Head) -> Result<(), Memory>
     ensures { OnOk result (built_view building.new ≡ entered_by (head_view head) (built_view building.old)) }
 {
-    let before = mem::replace(&mut building.trees, Vec::new(alloc));
+    let inside = Vec::with_capacity(alloc, usual_branches(&head))?;
+    let before = mem::replace(&mut building.trees, inside);
     building.outer.push(Frame { head, before })?;
     Ok(())
 }

@@ -11,7 +11,7 @@ ghost use Rattle.linear_prover.specs.Ready.{IsBelow};
 ghost use Rattle.linear_prover.specs.Verdicts.{IsRight, is_valid};
 ghost use Rattle.shared_search.specs.Books.{Knows};
 
-use crate::entries::look_at;
+use crate::entries::look_at_condition;
 use crate::problems::node_of;
 use crate::verdict::{Failure, Verdict};
 use crate::walk::{Outcome, walk};
@@ -59,11 +59,8 @@ fn over_problems(
         ≡ decided (setting components.now variables.now) (given_of condition.now) (shown_of condition.now)) }
     ensures right { IfOk result (λ v. IsRight (setting components.now variables.now) (given_of condition.now) (shown_of condition.now) v) }
 {
-    let given = condition.given(alloc)?;
-    let shown = condition.shown(alloc)?;
-    look_at(&given);
-    look_at(&shown);
-    let problem = first_problem(alloc, components, variables, &given, &shown)?;
+    look_at_condition(condition);
+    let problem = first_problem(alloc, components, variables, condition)?;
     let node = node_of(alloc, &problem)?;
     let outcome = walk(alloc, &*components, variables, &node, MOST_LEVELS, 0)?;
     Ok(verdict_of(outcome))
@@ -90,8 +87,7 @@ pub fn decide(
         ≡ decided (setting components.now variables.now) (given_of condition.now) (shown_of condition.now)) }
     ensures right { IfOk result (λ v. IsRight (setting components.now variables.now) (given_of condition.now) (shown_of condition.now) v) }
 {
-    look_at(&condition.given);
-    look_at(&condition.shown);
+    look_at_condition(condition);
     if let Some(number) = find(alloc, book, components, variables, condition, MOST_LISTS)? {
         return Ok(Verdict::Valid(certificate(alloc, book, number)?));
     }

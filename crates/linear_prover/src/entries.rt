@@ -1,14 +1,17 @@
 //! What is known of each form by its type: variables rise, and no coefficient is 0.
 
+ghost use Rattle.std.specs.Prelude.{map};
+ghost use Rattle.st_form.specs.Formula.{formulas};
 ghost use Rattle.st_form.specs.Plain.{plain, plain_list};
+ghost use Rattle.st_form.specs.Shared.{given_of, shown_of, case_of, consequent_of};
 ghost use Rattle.search_laws.specs.Forms.{AllForms, AllFormsOf};
 ghost use Rattle.search_laws.specs.Steady.{HasEntries};
 
-use st_form::Form;
+use st_form::{Condition, Consequent, Form, SharedForm};
 
 #[cycle(look_at)]
 #[tactic(auto, using(st_form::proofs::Nodes::nodes))]
-pub fn look_at(f: &Form)
+fn look_at(f: &Form)
     ensures { AllForms HasEntries (plain f.now) }
 {
     match f {
@@ -34,5 +37,38 @@ fn look_at_all(fs: &[Form])
 {
     for f in fs {
         look_at(f);
+    }
+}
+
+pub fn look_at_condition(condition: &Condition)
+    ensures given { AllForms HasEntries (given_of condition.now) }
+    ensures shown { AllForms HasEntries (shown_of condition.now) }
+{
+    look_at_parts(&condition.given);
+    look_at_consequent(&condition.shown);
+}
+
+fn look_at_consequent(shown: &Consequent)
+    ensures { AllForms HasEntries (consequent_of shown.now) }
+{
+    match shown {
+        Consequent::One(form) => look_at(form.get()),
+        Consequent::Any(cases) => look_at_cases(cases),
+    }
+}
+
+fn look_at_cases(cases: &[Vec<SharedForm>])
+    ensures { AllFormsOf HasEntries (formulas (map case_of cases.now)) }
+{
+    for case in cases {
+        look_at_parts(case);
+    }
+}
+
+fn look_at_parts(parts: &[SharedForm])
+    ensures { AllFormsOf HasEntries (plain_list parts.now) }
+{
+    for part in parts {
+        look_at(part.get());
     }
 }

@@ -1,13 +1,15 @@
 //! What the search asks of the variables of a condition, as tests that can be computed. A true answer is a proof of it.
-//! That the condition's numbers are small enough is tested by `farkas_check::is_narrow`.
+//! That the condition's numbers are small enough is tested by `farkas_check::is_condition_narrow`.
 
-ghost use Rattle.std.specs.Prelude.{◌≡◌, true};
+ghost use Rattle.std.specs.Prelude.{◌≡◌, true, map};
 ghost use Rattle.st_linear.specs.Linear.{AllBelow};
+ghost use Rattle.st_form.specs.Formula.{formulas};
 ghost use Rattle.st_form.specs.Plain.{plain, plain_list};
+ghost use Rattle.st_form.specs.Shared.{given_of, shown_of, case_of, consequent_of};
 ghost use Rattle.search_laws.specs.Forms.{AllForms, AllFormsOf};
 ghost use Rattle.linear_prover.specs.Ready.{IsBelow};
 
-use st_form::Form;
+use st_form::{Condition, Consequent, Form, SharedForm};
 use st_linear::Lin;
 
 fn entries_are_below(count: usize, entries: &[(u32, i128)]) -> bool
@@ -22,7 +24,7 @@ fn entries_are_below(count: usize, entries: &[(u32, i128)]) -> bool
 }
 
 /// Whether each variable of a linear form is below the count.
-pub fn is_below(count: usize, form: &Lin) -> bool
+fn is_below(count: usize, form: &Lin) -> bool
     ensures { result ≡ true → IsBelow count form.now }
 {
     entries_are_below(count, form.entries())
@@ -31,7 +33,7 @@ pub fn is_below(count: usize, form: &Lin) -> bool
 /// Whether each variable in a row or an equation of a formula is below the count.
 #[cycle(below)]
 #[tactic(auto, using(st_form::proofs::Nodes::nodes))]
-pub fn are_below(count: usize, form: &Form) -> bool
+fn are_below(count: usize, form: &Form) -> bool
     ensures { result ≡ true → AllForms (IsBelow count) (plain form.now) }
 {
     match form {
@@ -49,6 +51,44 @@ fn all_are_below(count: usize, forms: &[Form]) -> bool
 {
     for form in forms {
         if !are_below(count, form) {
+            return false;
+        }
+    }
+    true
+}
+
+/// Whether each variable in a row or an equation of a condition is below the count.
+pub fn is_condition_below(count: usize, condition: &Condition) -> bool
+    ensures { result ≡ true → AllForms (IsBelow count) (given_of condition.now) × AllForms (IsBelow count) (shown_of condition.now) }
+{
+    parts_are_below(count, &condition.given) && is_consequent_below(count, &condition.shown)
+}
+
+fn is_consequent_below(count: usize, shown: &Consequent) -> bool
+    ensures { result ≡ true → AllForms (IsBelow count) (consequent_of shown.now) }
+{
+    match shown {
+        Consequent::One(form) => are_below(count, form.get()),
+        Consequent::Any(cases) => cases_are_below(count, cases),
+    }
+}
+
+fn cases_are_below(count: usize, cases: &[Vec<SharedForm>]) -> bool
+    ensures { result ≡ true → AllFormsOf (IsBelow count) (formulas (map case_of cases.now)) }
+{
+    for case in cases {
+        if !parts_are_below(count, case) {
+            return false;
+        }
+    }
+    true
+}
+
+fn parts_are_below(count: usize, parts: &[SharedForm]) -> bool
+    ensures { result ≡ true → AllFormsOf (IsBelow count) (plain_list parts.now) }
+{
+    for part in parts {
+        if !are_below(count, part.get()) {
             return false;
         }
     }

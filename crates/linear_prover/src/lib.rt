@@ -23,7 +23,7 @@ mod walk;
 
 pub use control_states::{Alternative, Component, Components};
 pub use deciding::{decide, is_decided_valid};
-pub use guards::{are_below, is_below};
+pub use guards::is_condition_below;
 pub use row_elimination::WideStage;
 pub use sameness::is_found;
 pub use shared_search::Book;

@@ -8,8 +8,8 @@ ghost use Rattle.farkas_check.specs.Limits.{IsNarrow};
 ghost use Rattle.farkas_check.specs.Valid.{IsCertificate};
 ghost use Rattle.shared_search.specs.Books.{Knows};
 
-use crate::entries::look_at;
-use crate::guards::are_below;
+use crate::entries::look_at_condition;
+use crate::guards::is_condition_below;
 use control_states::Components;
 use shared_search::{Book, find, is_same};
 use st_certificate::Certificate;
@@ -58,12 +58,8 @@ pub fn is_found(
     ensures valid { IfOk result (λ b. b ≡ true
         → IsCertificate (setting components.now variables.now) (given_of condition.now) (shown_of condition.now) (tree_of certificate.now)) }
 {
-    look_at(&condition.given);
-    look_at(&condition.shown);
-    if !are_below(variables.len(), &condition.given) {
-        return Ok(false);
-    }
-    if !are_below(variables.len(), &condition.shown) {
+    look_at_condition(condition);
+    if !is_condition_below(variables.len(), condition) {
         return Ok(false);
     }
     match find(

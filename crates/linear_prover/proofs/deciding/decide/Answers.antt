@@ -18,6 +18,6 @@ returns-in-Some-clause-right c =
     let k : Setting = setting c.args.components.now c.args.variables.now in
     let found = rw c.in-Some.is at c.in_ok-number.ensures.found in
     proved k (given_of c.args.condition.now) (shown_of c.args.condition.now) (tree_of c.in_ok-certificate.field-0)
-    (proper (length c.args.variables.now) (given_of c.args.condition.now) c.look_at.ensures c.requires.given_below)
-    (proper (length c.args.variables.now) (shown_of c.args.condition.now) c.look_at-2.ensures c.requires.shown_below)
+    (proper (length c.args.variables.now) (given_of c.args.condition.now) c.look_at_condition.ensures.given c.requires.given_below)
+    (proper (length c.args.variables.now) (shown_of c.args.condition.now) c.look_at_condition.ensures.shown c.requires.shown_below)
     (found.1 ∙ ap valid (sym c.in_ok-certificate.ensures))

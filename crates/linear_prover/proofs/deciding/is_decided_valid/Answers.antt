@@ -1,4 +1,4 @@
-use Rattle.std.proofs.Common.{◌∙◌, ap, sym}
+use Rattle.std.proofs.Common.{ap, sym}
 use Rattle.linear_prover.specs.Verdicts.{is_valid}
 use Rattle.linear_prover.proofs.deciding.is_decided_valid.Goals as goal
 

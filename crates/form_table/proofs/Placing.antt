@@ -11,6 +11,9 @@ use Rattle.form_table.specs.Lists.{AreLists}
 use Rattle.form_table.proofs.Making.{is-later, listed-later}
 use Rattle.form_table.proofs.Taking.{listed-append}
 
+pub begun : (new old rest : List ℕ) → new ≡ old ++ rest → old ≡ [] → new ≡ rest
+begun new old rest e h = e ∙ ap (λ x. x ++ rest) h
+
 -- the conjuncts before a disjunction, the parts of a disjunct, and the conjuncts behind
 pub placed : (ts : List Formula) (parts b m v o : List ℕ) (f : Formula) (place k n : ℕ) → k ≡ place → n ≡ length parts - (place + 1) → b ≡ take k parts → m ≡ b ++ o → v ≡ m ++ take n (drop (place + 1) parts)
     → listed ts o ≡ opened f → listed ts v ≡ append (listed ts (take place parts)) (append (opened f) (listed ts (drop (place + 1) parts)))

@@ -1,13 +1,15 @@
 -- Conjunctions and disjunctions under decisions.
-use Rattle.std.proofs.Common.{◌≡◌, ℕ, ◌+◌, ◌<◌, ◌≤◌, Bool, true, false, List, length, drop, get_or, refl, ap, ◌∙◌, sym, All, Option, Some, None, arith}
+use Rattle.std.proofs.Common.{◌≡◌, ℕ, ◌+◌, ◌<◌, ◌≤◌, Bool, true, false, List, length, drop, get_or, refl, ap, ◌∙◌, sym, All, Option, Some, None, arith, zero, suc, [], ◌∷◌, subst}
+use Rattle.std.specs.Prelude.{option_and_then}
 use Rattle.std.specs.Option.{option_map}
 use Rattle.std.proofs.lemmas.List.{drop_all, drop_more}
-use Rattle.st_form.specs.Formula.{Formula, Formulas, none, more}
+use Rattle.st_form.specs.Formula.{Formula, Formulas, truth_value, none, more}
 use Rattle.st_form.specs.Simple.{append, parts, gathered, joined_parts, simple, simples, TakesPart, Decided}
 use Rattle.st_form.proofs.Simples.{gathered-goes, gathered-stops, append-none}
 use Rattle.form_table.specs.Table.{formula, listed, joined, Is, Extends, AreThere}
 use Rattle.form_table.specs.Nodes.{IsNode, Kept, formulas_in, parts_at}
 use Rattle.form_table.specs.Contents.{Choice, decision_at}
+use Rattle.form_table.specs.Lists.{IsListed}
 use Rattle.form_table.specs.Memory.{IsEntry}
 use Rattle.form_table.specs.declared.memos.Entry.{Entry}
 use Rattle.form_table.specs.declared.nodes.Node.TheVariants.{And, Or}
@@ -67,5 +69,20 @@ gather-stops all goes ts ns i out new whole l h takes g =
 pub gather-ends : (all : Bool) (ts : List Formula) (ns : List ℕ) (i : ℕ) (out : List ℕ) (whole : Option Formulas) → length ns ≤ i
     → option_map (append (listed ts out)) (gathered all (listed ts (drop i ns))) ≡ whole → Some (listed ts out) ≡ whole
 gather-ends all ts ns i out whole l h = ends-some all (listed ts out) (listed ts (drop i ns)) whole (ap (listed ts) (drop_all i ns l)) h
+
+-- a list with a part that is false
+and-none : (o : Option Formulas) → option_and_then (λ gs. option_map (append gs) None) o ≡ None
+and-none None = refl
+and-none (Some gs) = refl
+
+pub refuted-at : (d : Decided) (ts : List Formula) (ns : List ℕ) (i : ℕ) → i < length ns → simple d (formula ts (get_or ns i 0)) true ≡ truth_value false → gathered true (simples d (listed ts ns) true) ≡ None
+refuted-at d ts [] i l e = absurd (omega (arith, l))
+refuted-at d ts (n ∷ ns) zero l e = ap (λ f. option_and_then (λ gs. option_map (append gs) (gathered true (simples d (listed ts ns) true))) (parts true f)) e
+refuted-at d ts (n ∷ ns) (suc i) l e =
+    ap (λ o. option_and_then (λ gs. option_map (append gs) o) (parts true (simple d (formula ts n) true))) (refuted-at d ts ns i (omega (arith, l)) e)
+    ∙ and-none (parts true (simple d (formula ts n) true))
+
+pub list-refuted : (d : Decided) (ts us : List Formula) (fs gs : Formulas) → fs ≡ gs → gathered true (simples d fs true) ≡ None → IsListed us None (gathered true (simples d gs true))
+list-refuted d ts us fs gs e h = subst (IsListed us None) (sym h ∙ ap (λ x. gathered true (simples d x true)) e) tt
 
 pub ruleset restricting = (same-and, same-or, below-and, below-or)

@@ -17,6 +17,7 @@ mod nodes;
 mod parts;
 mod pools;
 mod readings;
+mod refutations;
 mod restriction;
 mod simplification;
 mod splitting;

@@ -12,6 +12,7 @@ use crate::choices::Decision;
 use crate::conjuncts::conjuncts;
 use crate::memos::Memo;
 use crate::pools::{Pool, join};
+use crate::refutations::is_refuted;
 use crate::restriction::under_parts;
 use st_memory::Memory;
 use std::alloc::Global;
@@ -32,7 +33,11 @@ pub fn under_list(
     ensures made { IfOk result (λ o. IsListed (formulas_in pool.new.store) o
         (gathered true (simples (decision_at (choices decisions.now) decision) (conjuncts_of (formulas_in pool.old.store) list) true))) }
 {
-    let parts = Vec::from_slice(alloc, conjuncts(&pool.store, list))?;
+    let lent = conjuncts(&pool.store, list);
+    if is_refuted(&pool.store, decisions, decision, lent) {
+        return Ok(None);
+    }
+    let parts = Vec::from_slice(alloc, lent)?;
     let gathered = under_parts(
         alloc,
         pool,

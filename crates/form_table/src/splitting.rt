@@ -37,26 +37,27 @@ fn opened<'a>(store: &'a Store, number: u32, alone: &'a [u32]) -> &'a [u32]
     }
 }
 
-/// The conjuncts with a disjunct, or its parts, in the place of the disjunction.
+/// Makes a list of the conjuncts with a disjunct, or its parts, in the place of the disjunction.
 fn in_place(
-    alloc: Global,
     store: &Store,
+    out: &mut Vec<u32>,
     parts: &[u32],
     place: usize,
     number: u32,
-) -> Result<Vec<u32>, Memory>
+) -> Result<(), Memory>
     requires parts { AreThere (formulas_in store.now) parts.now }
     requires place { place < length parts.now }
     requires number { number < length (formulas_in store.now) }
-    ensures exact { IfOk result (λ v. listed (formulas_in store.now) v.items ≡ append (listed (formulas_in store.now) (take place parts.now))
+    ensures exact { OnOk result (listed (formulas_in store.now) out.new.items ≡ append (listed (formulas_in store.now) (take place parts.now))
         (append (opened (formula (formulas_in store.now) number)) (listed (formulas_in store.now) (drop (place + 1) parts.now)))) }
-    ensures there { IfOk result (λ v. AreThere (formulas_in store.now) v.items) }
+    ensures there { OnOk result (AreThere (formulas_in store.now) out.new.items) }
 {
     let alone = [number];
-    let mut out = Vec::from_slice(alloc, &parts[..place])?;
+    out.clear();
+    out.extend_from_slice(&parts[..place])?;
     out.extend_from_slice(opened(store, number, &alone))?;
     out.extend_from_slice(&parts[place + 1..])?;
-    Ok(out)
+    Ok(())
 }
 
 /// The lists with each disjunct in turn.
@@ -75,8 +76,9 @@ fn split_by(
         (listed (formulas_in pool.old.store) disjuncts.now) (listed (formulas_in pool.old.store) (drop (place + 1) parts.now)))) }
 {
     let mut out = Vec::with_capacity(alloc, disjuncts.len())?;
+    let mut whole = Vec::with_capacity(alloc, parts.len())?;
     for part in disjuncts {
-        let whole = in_place(alloc, &pool.store, parts, place, *part)?;
+        in_place(&pool.store, &mut whole, parts, place, *part)?;
         let list = join(alloc, pool, true, whole.as_slice())?;
         out.push(list)?;
     }

@@ -9,8 +9,8 @@ use Rattle.farkas_check.specs.Problem.{Setting}
 use Rattle.linear_prover.specs.declared.verdict.Verdict.{Verdict}
 use Rattle.discharge.specs.declared.shares.Share.{Share}
 use Rattle.discharge.specs.Dealt.{every, dealt, left_half, right_half, lesser_place}
-use Rattle.discharge.specs.First.{IsCheckable, AreCheckable, Proves, ProveBefore, Fails, IsFirstFailing}
-use Rattle.discharge.specs.Verdicts.{IsSearchable, AreSearchable, IsAnswer, AreAnswers}
+use Rattle.discharge.specs.First.{AreCheckable, Proves, ProveBefore, Fails, IsFirstFailing}
+use Rattle.discharge.specs.Verdicts.{AreSearchable, IsAnswer, AreAnswers}
 use Rattle.discharge.proofs.Dealing.{InTurn, dealt_in_turn, first_there, between_there, every_all, every_within}
 
 -- ---- what is asked
@@ -20,9 +20,6 @@ right-checkable (suc m) [] [] h = tt
 right-checkable (suc m) [] (b ∷ bs) h = absurd h
 right-checkable (suc m) (c ∷ cs) [] h = absurd h
 right-checkable (suc m) (c ∷ cs) (b ∷ bs) h = right-checkable m cs bs h.1
-
-pub head-checkable : (cs ds : List Condition) (bs es : List Block) (c : Condition) (b : Block) → cs ≡ c ∷ ds → bs ≡ b ∷ es → AreCheckable cs bs → IsCheckable c b
-head-checkable cs ds bs es c b e f h = (subst (AreCheckable (c ∷ ds)) f (subst (λ (l : List Condition). AreCheckable l bs) e h)).0
 
 -- as many blocks as conditions
 pub checkable-sizes : (cs : List Condition) (bs : List Block) → AreCheckable cs bs → length cs ≡ length bs
@@ -40,9 +37,6 @@ pub right-searchable : (n m : ℕ) (cs : List Condition) → AreSearchable n cs 
 right-searchable n zero cs h = h
 right-searchable n (suc m) [] h = tt
 right-searchable n (suc m) (c ∷ cs) h = right-searchable n m cs h.1
-
-pub head-searchable : (n : ℕ) (cs ds : List Condition) (c : Condition) → cs ≡ c ∷ ds → AreSearchable n cs → IsSearchable n c
-head-searchable n cs ds c e h = (subst (AreSearchable n) e h).0
 
 -- ---- verdicts
 -- answers to conditions, with those to the conditions that are left, answer all

@@ -6,17 +6,14 @@ ghost use Rattle.discharge.specs.First.{IsCheckable, AreCheckable};
 ghost use Rattle.discharge.specs.Verdicts.{IsSearchable, AreSearchable};
 
 use cert_text::Block;
-use farkas_check::{is_limited, is_narrow};
-use linear_prover::are_below;
+use farkas_check::{is_condition_narrow, is_limited};
+use linear_prover::is_condition_below;
 use st_form::Condition;
 
 fn is_searchable(count: usize, condition: &Condition) -> bool
     ensures { result ≡ true → IsSearchable count condition.now }
 {
-    is_narrow(&condition.given)
-        && is_narrow(&condition.shown)
-        && are_below(count, &condition.given)
-        && are_below(count, &condition.shown)
+    is_condition_narrow(condition) && is_condition_below(count, condition)
 }
 
 /// Whether each condition's numbers are below 2^69 in size, and its variables below the count.
@@ -34,7 +31,7 @@ pub fn are_searchable(count: usize, conditions: &[Condition]) -> bool
 fn is_checkable(condition: &Condition, block: &Block) -> bool
     ensures { result ≡ true → IsCheckable condition.now block.now }
 {
-    is_limited(&block.certificate) && is_narrow(&condition.given) && is_narrow(&condition.shown)
+    is_limited(&block.certificate) && is_condition_narrow(condition)
 }
 
 /// Whether there are as many blocks as conditions, each block's certificate is within the limits of certificates, and

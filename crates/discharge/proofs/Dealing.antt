@@ -19,6 +19,11 @@ pub every_all : {A : Type 0} (xs : List A) → every 1 (length xs) xs ≡ xs
 every_all [] = refl
 every_all (x ∷ xs) = ap (λ ys. x ∷ ys) (every_all xs)
 
+pub every_enough : {A : Type 0} (n : ℕ) (xs : List A) → length xs ≤ n → every 1 n xs ≡ xs
+every_enough n [] l = every_none 1 n
+every_enough zero (x ∷ xs) l = absurd (omega (arith, l))
+every_enough (suc n) (x ∷ xs) l = ap (λ ys. x ∷ ys) (every_enough n xs (omega (arith, l)))
+
 pub every_within : {A : Type 0} (s n : ℕ) (xs : List A) → length (every s n xs) ≤ n
 every_within s zero xs = omega arith
 every_within s (suc n) [] = omega arith

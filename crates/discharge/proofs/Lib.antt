@@ -1,4 +1,5 @@
 pub mod Dealing
+pub mod Grouping
 pub mod Halves
 pub mod Numbers
 pub mod Marking

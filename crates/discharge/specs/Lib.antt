@@ -1,5 +1,6 @@
 pub mod Dealt
 pub mod First
+pub mod Grouped
 pub mod Pieces
 pub mod Searched
 pub mod Verdicts

@@ -3,14 +3,17 @@
 //!
 //! A range of conditions is cut into halves that run by a fork and a join (Blumofe and others, *Cilk: an efficient
 //! multithreaded runtime system*, 1995), until each piece has one worker or one condition. Each half gets every second
-//! condition, so that heavy ones that stand together are shared out.
+//! condition of the check, and every second group of conditions of the search, so that heavy ones that stand together are shared out.
 #![tactic(auto)]
 
 mod checking;
 mod deciding;
 mod gates;
+mod groups;
 mod guards;
 pub mod laws;
+mod opened;
+mod piece;
 mod searching;
 mod shares;
 mod validity;

@@ -4,70 +4,23 @@ ghost use Rattle.std.specs.Prelude.{◌≡◌, ◌<◌, ◌≤◌, ◌+◌, ◌-
 ghost use Rattle.std.specs.Thread.{IsSync};
 ghost use Rattle.farkas_check.specs.PlainProblem.{setting};
 ghost use Rattle.discharge.specs.Dealt.{dealt, left_half, right_half};
+ghost use Rattle.discharge.specs.Grouped.{groups, group_marks};
 ghost use Rattle.discharge.specs.Pieces.{EachPiece};
 ghost use Rattle.discharge.specs.Verdicts.{AreSearchable};
-ghost use Rattle.discharge.specs.Searched.{marks, first_false, IsFirstOpen};
+ghost use Rattle.discharge.specs.Searched.{IsFirstOpen};
 
-use crate::gates::at_gate;
-use crate::shares::{Share, behind, halves, weave};
+use crate::groups::{Deal, all_groups, behind_groups};
+use crate::opened::first_of_groups;
+use crate::piece::search_at_gate;
+use crate::shares::{halves, weave};
 use control_states::Components;
-use linear_prover::{Book, is_decided_valid};
 use st_form::{Condition, Variable};
 use st_memory::Memory;
 use st_outside::Gate;
 use std::alloc::Global;
 use std::thread::{Threads, join};
 
-/// Which conditions of one piece are decided valid.
-fn search_piece(
-    alloc: Global,
-    components: &Components,
-    variables: &[Variable],
-    conditions: &[Condition],
-    share: Share,
-) -> Result<Vec<bool>, Memory>
-    requires few { length variables.now < 2 ^ 32 }
-    requires searchable { AreSearchable (length variables.now) conditions.now }
-    ensures { IfOk result (λ v. v.items ≡ marks (setting components.now variables.now) (dealt share conditions.now)) }
-{
-    let mut book = Book::new(alloc, components, variables)?;
-    let mut found = Vec::with_capacity(alloc, share.count)?;
-    let mut rest = conditions;
-    let mut left = share.count;
-    while left > 0 {
-        let Some((condition, _)) = rest.split_first() else {
-            return Ok(found);
-        };
-        found.push(is_decided_valid(alloc, &mut book, components, variables, condition)?)?;
-        rest = behind(rest, share.stride);
-        left -= 1;
-    }
-    Ok(found)
-}
-
-/// The same, between the gate's begin and end of this piece.
-fn search_at_gate<G: Gate>(
-    alloc: Global,
-    gate: &G,
-    place: usize,
-    components: &Components,
-    variables: &[Variable],
-    conditions: &[Condition],
-    share: Share,
-) -> Result<Vec<bool>, Memory>
-    requires few { length variables.now < 2 ^ 32 }
-    requires searchable { AreSearchable (length variables.now) conditions.now }
-    ensures marks { IfOk result (λ v. v.items ≡ marks (setting components.now variables.now) (dealt share conditions.now)) }
-    ensures ended { IsTrue (G.ended gate.now place) }
-{
-    at_gate(
-        gate,
-        place,
-        || search_piece(alloc, components, variables, conditions, share),
-    )
-}
-
-/// Which conditions of a share are decided valid. Its leftmost piece has the number `first`.
+/// Which groups of a share are decided valid. Its leftmost piece has the number `first`.
 #[cycle(search_range)]
 fn search_range<R: Threads + Sync, G: Gate + Sync>(
     rt: &R,
@@ -78,20 +31,21 @@ fn search_range<R: Threads + Sync, G: Gate + Sync>(
     components: &Components,
     variables: &[Variable],
     conditions: &[Condition],
-    share: Share,
+    deal: Deal,
 ) -> Result<Vec<bool>, Memory>
     requires pieces { first + workers < 2 ^ 32 }
-    requires strides { share.stride * (workers - 1) < 2 ^ 32 }
+    requires strides { deal.share.stride * (workers - 1) < 2 ^ 32 }
     requires few { length variables.now < 2 ^ 32 }
+    requires size { 0 < deal.size }
     requires searchable { AreSearchable (length variables.now) conditions.now }
-    ensures marks { IfOk result (λ v. v.items ≡ marks (setting components.now variables.now) (dealt share conditions.now)) }
-    ensures ended { EachPiece first workers share.count (G.ended gate.now) }
+    ensures marks { IfOk result (λ v. v.items ≡ group_marks (setting components.now variables.now) (dealt deal.share (groups deal.size conditions.now))) }
+    ensures ended { EachPiece first workers deal.share.count (G.ended gate.now) }
 {
-    if workers < 2 || share.count < 2 {
-        return search_at_gate(alloc, gate, first, components, variables, conditions, share);
+    if workers < 2 || deal.share.count < 2 {
+        return search_at_gate(alloc, gate, first, components, variables, conditions, deal);
     }
     let (left, right) = search_both(
-        rt, alloc, gate, first, workers, components, variables, conditions, share,
+        rt, alloc, gate, first, workers, components, variables, conditions, deal,
     );
     weave(alloc, right?, left?)
 }
@@ -107,56 +61,54 @@ fn search_both<R: Threads + Sync, G: Gate + Sync>(
     components: &Components,
     variables: &[Variable],
     conditions: &[Condition],
-    share: Share,
+    deal: Deal,
 ) -> (Result<Vec<bool>, Memory>, Result<Vec<bool>, Memory>)
     requires some { 2 ≤ workers }
     requires pieces { first + workers < 2 ^ 32 }
-    requires strides { share.stride * (workers - 1) < 2 ^ 32 }
+    requires strides { deal.share.stride * (workers - 1) < 2 ^ 32 }
     requires few { length variables.now < 2 ^ 32 }
+    requires size { 0 < deal.size }
     requires searchable { AreSearchable (length variables.now) conditions.now }
-    ensures left { IfOk result.0 (λ v. v.items ≡ marks (setting components.now variables.now) (dealt (left_half share) (drop share.stride conditions.now))) }
-    ensures right { IfOk result.1 (λ v. v.items ≡ marks (setting components.now variables.now) (dealt (right_half share) conditions.now)) }
-    ensures left_ended { EachPiece first (workers / 2) (share.count / 2) (G.ended gate.now) }
-    ensures right_ended { EachPiece (first + workers / 2) (workers - workers / 2) (share.count - share.count / 2) (G.ended gate.now) }
+    ensures left { IfOk result.0 (λ v. v.items ≡ group_marks (setting components.now variables.now) (dealt (left_half deal.share) (groups deal.size (drop (deal.share.stride * deal.size) conditions.now)))) }
+    ensures right { IfOk result.1 (λ v. v.items ≡ group_marks (setting components.now variables.now) (dealt (right_half deal.share) (groups deal.size conditions.now))) }
+    ensures left_ended { EachPiece first (workers / 2) (deal.share.count / 2) (G.ended gate.now) }
+    ensures right_ended { EachPiece (first + workers / 2) (workers - workers / 2) (deal.share.count - deal.share.count / 2) (G.ended gate.now) }
 {
     let half = workers / 2;
     let rest = workers - half;
     let up = first + half as usize;
-    let (left, right) = halves(share, workers);
-    let between = behind(conditions, share.stride);
+    let size = deal.size;
+    let both = halves(deal.share, workers);
+    let left = Deal {
+        size,
+        share: both.0,
+    };
+    let right = Deal {
+        size,
+        share: both.1,
+    };
+    let between = behind_groups(conditions, deal.share.stride, size);
     join(
         rt,
         || -> Result<Vec<bool>, Memory>
-            requires { IsSync R.row × IsSync G.row × (first + half < 2 ^ 32) × (left.stride * (half - 1) < 2 ^ 32) × (length variables.now < 2 ^ 32) × AreSearchable (length variables.now) between.now }
-            ensures marks { IfOk result (λ v. v.items ≡ marks (setting components.entry.now variables.entry.now) (dealt left between.entry.now)) }
-            ensures ended { EachPiece first half left.count (G.ended gate.entry.now) }
+            requires { IsSync R.row × IsSync G.row × (first + half < 2 ^ 32) × (left.share.stride * (half - 1) < 2 ^ 32) × (length variables.now < 2 ^ 32) × (0 < left.size) × AreSearchable (length variables.now) between.now }
+            ensures marks { IfOk result (λ v. v.items ≡ group_marks (setting components.entry.now variables.entry.now) (dealt left.share (groups left.size between.entry.now))) }
+            ensures ended { EachPiece first half left.share.count (G.ended gate.entry.now) }
         {
             search_range(
                 rt, alloc, gate, first, half, components, variables, between, left,
             )
         },
         || -> Result<Vec<bool>, Memory>
-            requires { IsSync R.row × IsSync G.row × (up + rest < 2 ^ 32) × (right.stride * (rest - 1) < 2 ^ 32) × (length variables.now < 2 ^ 32) × AreSearchable (length variables.now) conditions.now }
-            ensures marks { IfOk result (λ v. v.items ≡ marks (setting components.entry.now variables.entry.now) (dealt right conditions.entry.now)) }
-            ensures ended { EachPiece up rest right.count (G.ended gate.entry.now) }
+            requires { IsSync R.row × IsSync G.row × (up + rest < 2 ^ 32) × (right.share.stride * (rest - 1) < 2 ^ 32) × (length variables.now < 2 ^ 32) × (0 < right.size) × AreSearchable (length variables.now) conditions.now }
+            ensures marks { IfOk result (λ v. v.items ≡ group_marks (setting components.entry.now variables.entry.now) (dealt right.share (groups right.size conditions.entry.now))) }
+            ensures ended { EachPiece up rest right.share.count (G.ended gate.entry.now) }
         {
             search_range(
                 rt, alloc, gate, up, rest, components, variables, conditions, right,
             )
         },
     )
-}
-
-/// The first place that isn't marked.
-fn first_open(found: &[bool]) -> Option<usize>
-    ensures { result ≡ first_false found.now }
-{
-    for (place, valid) in found.iter().enumerate() {
-        if !*valid {
-            return Some(place);
-        }
-    }
-    None
 }
 
 /// The first condition that isn't decided valid; `None` exactly where all are. Each piece of the work stands between the
@@ -176,12 +128,9 @@ pub fn verify_all<R: Threads + Sync, G: Gate + Sync>(
     ensures first_open { IfOk result (λ o. IsFirstOpen (setting components.now variables.now) conditions.now o) }
     ensures ended { EachPiece 0 workers (length conditions.now) (G.ended gate.now) }
 {
-    let share = Share {
-        stride: 1,
-        count: conditions.len(),
-    };
+    let deal = all_groups(conditions.len(), workers);
     let found = search_range(
-        rt, alloc, gate, 0, workers, components, variables, conditions, share,
+        rt, alloc, gate, 0, workers, components, variables, conditions, deal,
     )?;
-    Ok(first_open(&found))
+    first_of_groups(alloc, components, variables, conditions, deal.size, &found)
 }

@@ -3,3 +3,4 @@ pub mod Grouping
 pub mod Halves
 pub mod Numbers
 pub mod Marking
+pub mod Opening

@@ -5,7 +5,7 @@ ghost use Rattle.std.specs.Prelude.{◌≡◌, ◌+◌, ◌*◌, ◌<◌, ◌≤
 
 use crate::shares::{Share, behind};
 
-/// How many groups a worker has, where there are as many items.
+/// How many groups a worker has at least, where there are as many items.
 const GROUPS: usize = 8;
 
 /// A share of the groups of a slice, with the size of a group.

@@ -5,7 +5,7 @@ use Rattle.farkas_check.specs.Problem.{Setting}
 use Rattle.farkas_check.specs.PlainProblem.{setting}
 use Rattle.discharge.specs.Verdicts.{AreSearchable}
 use Rattle.discharge.proofs.Halves.{left-searchable, right-searchable}
-use Rattle.discharge.proofs.Marking.{first_opened, opened_by, group_there, place_there}
+use Rattle.discharge.proofs.Opening.{first_opened, opened_by, group_there, place_there}
 use Rattle.discharge.proofs.opened.first_of_groups.Goals as goal
 
 pub overflow_mul-start : goal.overflow_mul-start

@@ -1,4 +1,4 @@
-use Rattle.discharge.proofs.Marking.{false_begun}
+use Rattle.discharge.proofs.Opening.{false_begun}
 use Rattle.discharge.proofs.opened.first_open.Goals as goal
 
 pub loop-place-init : goal.loop-place-init

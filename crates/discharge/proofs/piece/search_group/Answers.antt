@@ -2,7 +2,7 @@ use Rattle.std.proofs.Common.{◌+◌, length, drop, subst}
 use Rattle.farkas_check.specs.PlainProblem.{setting}
 use Rattle.discharge.specs.Searched.{first_false, marks}
 use Rattle.discharge.specs.Verdicts.{IsSearchable, AreSearchable}
-use Rattle.discharge.proofs.Marking.{item_at, none_before, open_next, open_here}
+use Rattle.discharge.proofs.Opening.{item_at, none_before, open_next, open_here}
 use Rattle.discharge.proofs.piece.search_group.Goals as goal
 
 pub loop-place-init : goal.loop-place-init

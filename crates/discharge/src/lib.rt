@@ -9,11 +9,12 @@
 mod checking;
 mod deciding;
 mod gates;
-mod groups;
 mod guards;
 pub mod laws;
+mod marks;
 mod opened;
 mod piece;
+mod queue;
 mod searching;
 mod shares;
 mod validity;

@@ -1,15 +1,14 @@
-//! The search over one piece of the work, by a book of its own.
+//! The search of one worker, by a book of its own.
 
-ghost use Rattle.std.specs.Prelude.{◌≡◌, ◌<◌, ◌^◌, IfOk, IsTrue, length};
+ghost use Rattle.std.specs.Prelude.{◌≡◌, ◌<◌, ◌≤◌, ◌^◌, IfOk, IsTrue, length};
 ghost use Rattle.farkas_check.specs.PlainProblem.{setting};
 ghost use Rattle.shared_search.specs.Books.{Knows};
-ghost use Rattle.discharge.specs.Dealt.{dealt};
-ghost use Rattle.discharge.specs.Grouped.{groups, group_marks};
+ghost use Rattle.discharge.specs.Marked.{AreMarks};
 ghost use Rattle.discharge.specs.Verdicts.{AreSearchable};
-ghost use Rattle.discharge.specs.Searched.{marks, first_false};
 
 use crate::gates::at_gate;
-use crate::groups::{Deal, behind_groups, first_group};
+use crate::marks::no_marks;
+use crate::queue::Queue;
 use control_states::Components;
 use linear_prover::{Book, is_decided_valid};
 use st_form::{Condition, Variable};
@@ -17,56 +16,61 @@ use st_memory::Memory;
 use st_outside::Gate;
 use std::alloc::Global;
 
-/// The first place of a group that isn't decided valid. None behind it is searched.
-pub(crate) fn search_group(
+/// Marks the conditions from one place to before another, up to the first that isn't decided valid. Whether all are.
+fn search_group(
     alloc: Global,
     book: &mut Book,
     components: &Components,
     variables: &[Variable],
-    group: &[Condition],
-) -> Result<Option<usize>, Memory>
+    conditions: &[Condition],
+    from: usize,
+    to: usize,
+    marks: &mut Vec<bool>,
+) -> Result<bool, Memory>
     requires few { length variables.now < 2 ^ 32 }
-    requires searchable { AreSearchable (length variables.now) group.now }
+    requires places { to ≤ length conditions.now }
+    requires searchable { AreSearchable (length variables.now) conditions.now }
     requires knows { Knows (setting components.now variables.now) book.old }
+    requires marks { AreMarks (setting components.now variables.now) conditions.now marks.old.items }
     ensures knows { Knows (setting components.now variables.now) book.new }
-    ensures first { IfOk result (λ o. o ≡ first_false (marks (setting components.now variables.now) group.now)) }
+    ensures marks { AreMarks (setting components.now variables.now) conditions.now marks.new.items }
 {
-    for (place, condition) in group.iter().enumerate() {
-        if !is_decided_valid(alloc, book, components, variables, condition)? {
-            return Ok(Some(place));
+    for place in from..to {
+        if !is_decided_valid(alloc, book, components, variables, &conditions[place])? {
+            return Ok(false);
         }
+        marks[place] = true;
     }
-    Ok(None)
+    Ok(true)
 }
 
-/// Which groups of one piece are decided valid.
-pub(crate) fn search_piece(
+/// Takes groups as long as there are some and all conditions in them are decided valid.
+fn search_piece(
     alloc: Global,
     components: &Components,
     variables: &[Variable],
     conditions: &[Condition],
-    deal: Deal,
+    queue: &Queue,
 ) -> Result<Vec<bool>, Memory>
     requires few { length variables.now < 2 ^ 32 }
-    requires some { 0 < deal.size }
     requires searchable { AreSearchable (length variables.now) conditions.now }
-    ensures { IfOk result (λ v. v.items ≡ group_marks (setting components.now variables.now) (dealt deal.share (groups deal.size conditions.now))) }
+    ensures { IfOk result (λ v. AreMarks (setting components.now variables.now) conditions.now v.items) }
 {
+    let count = conditions.len();
+    let mut marks = no_marks(alloc, count)?;
     let mut book = Book::new(alloc, components, variables)?;
-    let mut found = Vec::with_capacity(alloc, deal.share.count)?;
-    let mut rest = conditions;
-    let mut left = deal.share.count;
-    while left > 0 {
-        if rest.is_empty() {
-            return Ok(found);
+    for _ in 0..count {
+        let (from, to) = queue.take();
+        if count <= from {
+            return Ok(marks);
         }
-        let group = first_group(rest, deal.size);
-        let open = search_group(alloc, &mut book, components, variables, group)?;
-        found.push(open.is_none())?;
-        rest = behind_groups(rest, deal.share.stride, deal.size);
-        left -= 1;
+        let to = to.min(count);
+        if !search_group(alloc, &mut book, components, variables, conditions, from, to, &mut marks)? {
+            queue.close(count);
+            return Ok(marks);
+        }
     }
-    Ok(found)
+    Ok(marks)
 }
 
 /// The same, between the gate's begin and end of this piece.
@@ -77,17 +81,16 @@ pub(crate) fn search_at_gate<G: Gate>(
     components: &Components,
     variables: &[Variable],
     conditions: &[Condition],
-    deal: Deal,
+    queue: &Queue,
 ) -> Result<Vec<bool>, Memory>
     requires few { length variables.now < 2 ^ 32 }
-    requires some { 0 < deal.size }
     requires searchable { AreSearchable (length variables.now) conditions.now }
-    ensures marks { IfOk result (λ v. v.items ≡ group_marks (setting components.now variables.now) (dealt deal.share (groups deal.size conditions.now))) }
+    ensures marks { IfOk result (λ v. AreMarks (setting components.now variables.now) conditions.now v.items) }
     ensures ended { IsTrue (G.ended gate.now place) }
 {
     at_gate(
         gate,
         place,
-        || search_piece(alloc, components, variables, conditions, deal),
+        || search_piece(alloc, components, variables, conditions, queue),
     )
 }

@@ -24,19 +24,6 @@ use std::alloc::Global;
 use std::thread::Threads;
 use step_plan::{Ended, Stage};
 
-/// How many conditions are searched at least before a look whether one of them isn't valid.
-const FEWEST: usize = 256;
-
-/// The place behind the slice that begins at a place: it has as many conditions as lie before it. So at most twice as many
-/// are searched as lie before the first that isn't valid, and what a slice has found serves many conditions.
-fn slice_end(place: usize, size: usize) -> usize
-    requires { place < size }
-    ensures { (place < result) × (result ≤ size) }
-{
-    let count = if place < FEWEST { FEWEST } else { place };
-    place + count.min(size - place)
-}
-
 /// The first condition that isn't valid, from one place to before another, counted from there.
 fn first_open<R: Threads + Sync, G: Gate + Sync>(
     rt: &R,
@@ -101,7 +88,7 @@ fn searched<R: Threads + Sync, G: Gate + Sync>(
     requires place { place < length posed.now.conditions.items }
     ensures { IfOk result (λ s. PassesFrom (posed_view posed.now) place s) }
 {
-    let end = slice_end(place, posed.conditions.len());
+    let end = posed.conditions.len();
     match first_open(rt, alloc, gate, workers, components, posed, place, end)? {
         None => Ok(Stage::On(end)),
         Some(ahead) => at_open(alloc, components, posed, place + ahead),

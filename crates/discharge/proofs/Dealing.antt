@@ -1,10 +1,8 @@
 -- Items that are dealt out in turn, and woven again.
-use Rattle.std.proofs.Common.{◌≡◌, ◌∙◌, ℕ, zero, suc, ◌+◌, ◌-◌, ◌*◌, ◌/◌, ◌<◌, ◌≤◌, ◌^◌, List, [], ◌∷◌, ◌++◌, length, drop, refl, sym, ap, subst, arith}
-use Rattle.std.specs.Prelude.{slice_get, Option, Some, None, option_to_list}
-use Rattle.std.specs.declared.vec.IntoIter.{IntoIter}
-use Rattle.std.specs.Vec.Iter.{into_iter_items, into_iter_len, into_iter_steps}
+use Rattle.std.proofs.Common.{◌≡◌, ◌∙◌, ℕ, zero, suc, ◌+◌, ◌-◌, ◌*◌, ◌/◌, ◌<◌, ◌≤◌, ◌^◌, List, [], ◌∷◌, length, drop, refl, sym, ap, subst, arith}
+use Rattle.std.specs.Prelude.{slice_get, None}
 use Rattle.std.proofs.Math.Seq.{drop-nil}
-use Rattle.std.proofs.lemmas.List.{drop-drop, nil_from_length, append_assoc}
+use Rattle.std.proofs.lemmas.List.{drop-drop, nil_from_length}
 use Rattle.std.proofs.lemmas.Option.{slice_get_past}
 use Rattle.std.proofs.Math.Nat.{mul-le-mul_left}
 use Rattle.discharge.specs.declared.shares.Share.{Share}
@@ -18,11 +16,6 @@ every_none s (suc n) = refl
 pub every_all : {A : Type 0} (xs : List A) → every 1 (length xs) xs ≡ xs
 every_all [] = refl
 every_all (x ∷ xs) = ap (λ ys. x ∷ ys) (every_all xs)
-
-pub every_enough : {A : Type 0} (n : ℕ) (xs : List A) → length xs ≤ n → every 1 n xs ≡ xs
-every_enough n [] l = every_none 1 n
-every_enough zero (x ∷ xs) l = absurd (omega (arith, l))
-every_enough (suc n) (x ∷ xs) l = ap (λ ys. x ∷ ys) (every_enough n xs (omega (arith, l)))
 
 pub every_within : {A : Type 0} (s n : ℕ) (xs : List A) → length (every s n xs) ≤ n
 every_within s zero xs = omega arith
@@ -136,28 +129,6 @@ left_stride s w some = doubled s (w / 2 - 1) w (omega (arith, some))
 
 pub right_stride : (s w : ℕ) → 2 ≤ w → s * (w - 1) < 2 ^ 32 → (s + s) * (w - w / 2 - 1) < 2 ^ 32
 right_stride s w some = doubled s (w - w / 2 - 1) w (omega (arith, some))
-
--- ---- woven one by one
-woven_none : {A : Type 0} (xs : List A) → woven xs [] ≡ xs
-woven_none [] = refl
-woven_none (x ∷ xs) = refl
-
-module _ {A Z : Type 0} where
-  nothing_left : (s : IntoIter A Z) → into_iter_len s ≡ 0 → into_iter_items s ≡ []
-  nothing_left s h = nil_from_length (into_iter_items s) (sym s.rest.ok.0 ∙ h)
-
-  woven_next : (x : A) (xs : List A) (s t : IntoIter A Z) (o : Option A) → into_iter_steps s o t
-      → woven (x ∷ xs) (into_iter_items s) ≡ (x ∷ option_to_list o) ++ woven xs (into_iter_items t)
-  woven_next x xs s t None h =
-      ap (woven (x ∷ xs)) (nothing_left s h.0) ∙ ap (λ (l : List A). x ∷ l) (sym (woven_none xs)) ∙ ap (λ (l : List A). x ∷ woven xs l) (sym (nothing_left t h.1))
-  woven_next x xs s t (Some y) h = ap (woven (x ∷ xs)) h.0
-
-  -- an item of the first list is put behind what there is, and one of the second list, where there is one
-  pub woven_more : (before now whole xs ys : List A) (x : A) (s t : IntoIter A Z) (o : Option A) → now ≡ before ++ (x ∷ option_to_list o) → xs ≡ x ∷ ys → into_iter_steps s o t
-      → before ++ woven xs (into_iter_items s) ≡ whole → now ++ woven ys (into_iter_items t) ≡ whole
-  woven_more before now whole xs ys x s t o put is steps so =
-      ap (λ (l : List A). l ++ woven ys (into_iter_items t)) put ∙ append_assoc before (x ∷ option_to_list o) (woven ys (into_iter_items t))
-      ∙ ap (λ (l : List A). before ++ l) (sym (woven_next x ys s t o steps) ∙ ap (λ (l : List A). woven l (into_iter_items s)) (sym is)) ∙ so
 
 -- ---- one item of a share, and those behind it
 pub every_next : {A : Type 0} (s n : ℕ) (xs ys : List A) (x : A) → 0 < n → xs ≡ x ∷ ys → every s n xs ≡ x ∷ every s (n - 1) (drop s xs)

@@ -1,5 +1,5 @@
 -- The numbers of pieces.
-use Rattle.std.proofs.Common.{◌≡◌, ℕ, zero, suc, ◌+◌, ◌-◌, ◌/◌, ◌<◌, ◌≤◌, arith, inl, inr, ◌⊎◌, sym, subst, Bool}
+use Rattle.std.proofs.Common.{◌≡◌, ℕ, zero, suc, ◌+◌, ◌-◌, ◌/◌, ◌<◌, ◌≤◌, arith, inl, inr, ◌⊎◌, subst, Bool}
 use Rattle.std.specs.Prelude.{IsTrue}
 use Rattle.discharge.specs.Pieces.{IsPiece, EachPiece, whole, left, right}
 
@@ -61,13 +61,3 @@ each-both first workers count test some more h g piece (whole (inl w)) = absurd 
 each-both first workers count test some more h g piece (whole (inr w)) = absurd (omega (arith, w, more))
 each-both first workers count test some more h g piece (left w c p) = h piece p
 each-both first workers count test some more h g piece (right w c p) = g piece p
-
--- ---- pieces of groups are those of the items
-pub each-grouped : (workers count groups : ℕ) (test : ℕ → Bool) → 0 < workers → (workers ≤ count → workers ≤ groups) → (count < workers → groups ≡ count) → EachPiece 0 workers groups test
-    → EachPiece 0 workers count test
-each-grouped workers count groups test some enough single h piece p = by (below-or-from count workers) where
-  by : (count < workers) ⊎ (workers ≤ count) → IsTrue (test piece)
-  by (inl l) = h piece (subst (λ (n : ℕ). IsPiece 0 workers n piece) (sym (single l)) p)
-  by (inr l) =
-      let within = piece-within 0 workers count piece some p in
-      h piece (each-number 0 workers groups piece (enough l) within.0 within.1)

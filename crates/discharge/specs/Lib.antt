@@ -1,6 +1,6 @@
 pub mod Dealt
 pub mod First
-pub mod Grouped
+pub mod Marked
 pub mod Pieces
 pub mod Searched
 pub mod Verdicts

@@ -1,20 +1,6 @@
-//! Marks of conditions that are decided valid, of one worker and of several.
+//! Marks of conditions that are decided valid, of several workers.
 
-ghost use Rattle.std.specs.Prelude.{◌≡◌, ◌⊎◌, ℕ, IfOk, Some, true, false, length, replicate, slice_get};
-
-use st_memory::Memory;
-use std::alloc::Global;
-
-/// No mark, for so many conditions.
-pub(crate) fn no_marks(alloc: Global, count: usize) -> Result<Vec<bool>, Memory>
-    ensures { IfOk result (λ v. v.items ≡ replicate count false) }
-{
-    let mut marks = Vec::with_capacity(alloc, count)?;
-    for _ in 0..count {
-        marks.push(false)?;
-    }
-    Ok(marks)
-}
+ghost use Rattle.std.specs.Prelude.{◌≡◌, ◌⊎◌, ℕ, Some, true, length, slice_get};
 
 /// Takes over another worker's marks.
 pub(crate) fn take_over(marks: &mut Vec<bool>, others: &[bool])

@@ -27,7 +27,9 @@ pub(crate) fn first_open(
 {
     let mut book = Book::new(alloc, components, variables)?;
     for place in 0..conditions.len() {
-        if !marks[place] && !is_decided_valid(alloc, &mut book, components, variables, &conditions[place])? {
+        if !marks[place]
+            && !is_decided_valid(alloc, &mut book, components, variables, &conditions[place])?
+        {
             return Ok(Some(place));
         }
     }

@@ -7,7 +7,6 @@ ghost use Rattle.discharge.specs.Marked.{AreMarks};
 ghost use Rattle.discharge.specs.Verdicts.{AreSearchable};
 
 use crate::gates::at_gate;
-use crate::marks::no_marks;
 use crate::queue::Queue;
 use control_states::Components;
 use linear_prover::{Book, is_decided_valid};
@@ -57,7 +56,7 @@ fn search_piece(
     ensures { IfOk result (λ v. AreMarks (setting components.now variables.now) conditions.now v.items) }
 {
     let count = conditions.len();
-    let mut marks = no_marks(alloc, count)?;
+    let mut marks = vec![in alloc; false; count]?;
     let mut book = Book::new(alloc, components, variables)?;
     for _ in 0..count {
         let (from, to) = queue.take();
@@ -65,7 +64,9 @@ fn search_piece(
             return Ok(marks);
         }
         let to = to.min(count);
-        if !search_group(alloc, &mut book, components, variables, conditions, from, to, &mut marks)? {
+        if !search_group(
+            alloc, &mut book, components, variables, conditions, from, to, &mut marks,
+        )? {
             queue.close(count);
             return Ok(marks);
         }

@@ -4,6 +4,8 @@
 //!
 //! The counter is a hint: nothing is promised of what it gives, and what no worker has marked is searched at the end.
 
+ghost use Rattle.std.specs.Prelude.{◌<◌};
+
 use std::sync::atomic::AtomicUsize;
 use std::sync::atomic::Ordering::Relaxed;
 
@@ -18,7 +20,9 @@ pub(crate) struct Queue {
 }
 
 impl Queue {
-    pub fn new(count: usize, workers: u32) -> Queue {
+    pub fn new(count: usize, workers: u32) -> Queue
+        requires { 0 < workers }
+    {
         Queue {
             next: AtomicUsize::new(0),
             size: (count / GROUPS / workers as usize).max(1),

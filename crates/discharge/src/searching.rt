@@ -46,9 +46,19 @@ fn search_range<R: Threads + Sync, G: Gate + Sync>(
     ensures ended { EachPiece range.first range.workers range.count (G.ended gate.now) }
 {
     if range.workers < 2 || range.count < 2 {
-        return search_at_gate(alloc, gate, range.first, components, variables, conditions, queue);
+        return search_at_gate(
+            alloc,
+            gate,
+            range.first,
+            components,
+            variables,
+            conditions,
+            queue,
+        );
     }
-    let (left, right) = search_both(rt, alloc, gate, range, components, variables, conditions, queue);
+    let (left, right) = search_both(
+        rt, alloc, gate, range, components, variables, conditions, queue,
+    );
     let mut marks = left?;
     take_over(&mut marks, &right?);
     Ok(marks)
@@ -93,14 +103,18 @@ fn search_both<R: Threads + Sync, G: Gate + Sync>(
             ensures marks { IfOk result (λ v. AreMarks (setting components.entry.now variables.entry.now) conditions.entry.now v.items) }
             ensures ended { EachPiece left.first left.workers left.count (G.ended gate.entry.now) }
         {
-            search_range(rt, alloc, gate, left, components, variables, conditions, queue)
+            search_range(
+                rt, alloc, gate, left, components, variables, conditions, queue,
+            )
         },
         || -> Result<Vec<bool>, Memory>
             requires { IsSync R.row × IsSync G.row × (right.first + right.workers < 2 ^ 32) × (length variables.now < 2 ^ 32) × AreSearchable (length variables.now) conditions.now }
             ensures marks { IfOk result (λ v. AreMarks (setting components.entry.now variables.entry.now) conditions.entry.now v.items) }
             ensures ended { EachPiece right.first right.workers right.count (G.ended gate.entry.now) }
         {
-            search_range(rt, alloc, gate, right, components, variables, conditions, queue)
+            search_range(
+                rt, alloc, gate, right, components, variables, conditions, queue,
+            )
         },
     )
 }

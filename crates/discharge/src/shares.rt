@@ -1,11 +1,8 @@
 //! Work that is dealt out in turn. Conditions that stand together are often alike in weight; where each half of a share gets
 //! every second one, as cards are dealt, they go to different workers.
 
-ghost use Rattle.std.specs.Prelude.{◌≡◌, ◌+◌, ◌-◌, ◌*◌, ◌/◌, ◌<◌, ◌≤◌, ◌^◌, ◌++◌, ◌∷◌, List, drop, IfOk, IfSome, OnOk, option_to_list};
-ghost use Rattle.discharge.specs.Dealt.{left_half, right_half, woven, lesser_place};
-
-use st_memory::Memory;
-use std::alloc::Global;
+ghost use Rattle.std.specs.Prelude.{◌≡◌, ◌+◌, ◌-◌, ◌*◌, ◌/◌, ◌<◌, ◌≤◌, ◌^◌, drop, IfSome};
+ghost use Rattle.discharge.specs.Dealt.{left_half, right_half, lesser_place};
 
 /// Of a slice the first item and then each that stands a stride behind, so many of them.
 #[derive(Clone, Copy)]
@@ -46,32 +43,6 @@ pub(crate) fn behind<T>(items: &[T], stride: usize) -> &[T]
     } else {
         &[]
     }
-}
-
-/// Appends one item, and the other if there is one.
-fn push_both<T: Drop>(items: &mut Vec<T>, one: T, other: Option<T>) -> Result<(), Memory>
-    ensures { OnOk result (items.new.items ≡ items.old.items ++ (one ∷ option_to_list other)) }
-{
-    items.push(one)?;
-    if let Some(other) = other {
-        items.push(other)?;
-    }
-    Ok(())
-}
-
-/// The items of two lists in turn.
-pub(crate) fn weave<T: Drop>(alloc: Global, first: Vec<T>, second: Vec<T>) -> Result<Vec<T>, Memory>
-    ensures { IfOk result (λ v. v.items ≡ woven first.items second.items) }
-{
-    let mut items = Vec::with_capacity(alloc, first.len())?;
-    let mut second = second.into_iter();
-    for one in first {
-        push_both(&mut items, one, second.next())?;
-    }
-    for other in second {
-        items.push(other)?;
-    }
-    Ok(items)
 }
 
 /// The lesser of a place among the first half's items and one among the second's, as a place of the whole.

@@ -1,7 +1,10 @@
-use Rattle.std.proofs.Common.{◌≡◌, drop}
-use Rattle.discharge.specs.Searched.{first_false}
-use Rattle.discharge.proofs.Halves.{place_behind}
+use Rattle.farkas_check.specs.PlainProblem.{setting}
+use Rattle.shared_search.specs.Books.{Knows}
+use Rattle.discharge.specs.Searched.{ValidBefore}
 use Rattle.discharge.proofs.opened.first_open.Given as goal
 
 abbrev pub invariant-loop-place : goal.invariant-loop-place
-invariant-loop-place l = place_behind l.place (first_false (drop l.place l.found)) ≡ first_false l.found
+invariant-loop-place l = record {
+  knows : Knows (setting l.components l.variables) l.book;
+  before : ValidBefore (setting l.components l.variables) l.conditions l.place;
+}

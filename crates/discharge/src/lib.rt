@@ -2,8 +2,8 @@
 //! workers, with the answer of one.
 //!
 //! A range of conditions is cut into halves that run by a fork and a join (Blumofe and others, *Cilk: an efficient
-//! multithreaded runtime system*, 1995), until each piece has one worker or one condition. Each half gets every second
-//! condition of the check, and every second group of conditions of the search, so that heavy ones that stand together are shared out.
+//! multithreaded runtime system*, 1995), until each piece has one worker or one condition. Each half of a check gets every second
+//! condition, so that heavy ones that stand together are shared out; in a search each piece takes groups of conditions from a queue.
 #![tactic(auto)]
 
 mod checking;

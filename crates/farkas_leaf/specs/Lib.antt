@@ -1,3 +1,4 @@
 pub mod Leaf
 pub mod Lines
 pub mod Windows
+pub mod Lent

@@ -11,4 +11,5 @@ mod terms;
 mod window;
 
 pub use leaf::leaf_closes;
-pub use lines::linear_closes;
+pub use lines::{lent_closes, linear_closes};
+pub use terms::LentLine;

@@ -2,6 +2,7 @@
 
 ghost use Rattle.std.specs.Prelude.{◌≡◌, ℤ, pos};
 ghost use Rattle.farkas_leaf.specs.Leaf.{as_row};
+ghost use Rattle.farkas_leaf.specs.Lent.{lent_line};
 ghost use Rattle.st_linear.specs.declared.rows.Line.{Line};
 
 use st_linear::{Lin, Line};
@@ -34,6 +35,25 @@ impl Constraint for Line {
 
     fn form(&self) -> &Lin {
         &self.form
+    }
+
+    fn is_equation(&self) -> bool {
+        self.equal
+    }
+}
+
+/// A row or an equation whose form is lent.
+#[derive(Clone, Copy)]
+pub struct LentLine<'a> {
+    pub form: &'a Lin,
+    pub equal: bool,
+}
+
+impl Constraint for LentLine<'_> {
+    ghost line = { lent_line };
+
+    fn form(&self) -> &Lin {
+        self.form
     }
 
     fn is_equation(&self) -> bool {

@@ -50,8 +50,8 @@ list-within t n a b h = h.formed.within
 pub ruleset listing = (list-truth, list-row, list-equal, list-bool, list-at, list-or, list-and, list-below, list-within)
 
 -- ---- lines
-no-line : (out : List Line) (f g : Formula) → f ≡ g → lines_with g [] ≡ [] → out ≡ out ++ lines_with f []
-no-line out f g e h = sym (append-nil out) ∙ ap (λ l. out ++ l) (sym h) ∙ ap (λ x. out ++ lines_with x []) (sym e)
+no-line : (f g : Formula) → f ≡ g → lines_with g [] ≡ [] → [] ≡ lines_with f []
+no-line f g e h = sym h ∙ ap (λ x. lines_with x []) (sym e)
 
 signed-bool-line : (plus : Bool) (v : ℕ) → lines_with (signed plus (bool_var v)) [] ≡ []
 signed-bool-line true v = refl
@@ -61,28 +61,26 @@ signed-at-line : (plus : Bool) (l : ℕ) → lines_with (signed plus (at l)) [] 
 signed-at-line true l = refl
 signed-at-line false l = refl
 
-pub line-truth : (t : Kept) (n : ℕ) (b : Bool) (out : List Line) → IsNode t n (Truth b) → out ≡ out ++ lines_with (formula (formulas_in t) n) []
-line-truth t n b out h = no-line out _ (truth_value b) h.same refl
+pub line-truth : (t : Kept) (n : ℕ) (b : Bool) → IsNode t n (Truth b) → [] ≡ lines_with (formula (formulas_in t) n) []
+line-truth t n b h = no-line _ (truth_value b) h.same refl
 
-pub line-bool : (t : Kept) (n v : ℕ) (plus : Bool) (out : List Line) → IsNode t n (BoolVar v plus) → out ≡ out ++ lines_with (formula (formulas_in t) n) []
-line-bool t n v plus out h = no-line out _ (signed plus (bool_var v)) h.same (signed-bool-line plus v)
+pub line-bool : (t : Kept) (n v : ℕ) (plus : Bool) → IsNode t n (BoolVar v plus) → [] ≡ lines_with (formula (formulas_in t) n) []
+line-bool t n v plus h = no-line _ (signed plus (bool_var v)) h.same (signed-bool-line plus v)
 
-pub line-at : (t : Kept) (n l : ℕ) (plus : Bool) (out : List Line) → IsNode t n (At l plus) → out ≡ out ++ lines_with (formula (formulas_in t) n) []
-line-at t n l plus out h = no-line out _ (signed plus (at l)) h.same (signed-at-line plus l)
+pub line-at : (t : Kept) (n l : ℕ) (plus : Bool) → IsNode t n (At l plus) → [] ≡ lines_with (formula (formulas_in t) n) []
+line-at t n l plus h = no-line _ (signed plus (at l)) h.same (signed-at-line plus l)
 
-pub line-and : (t : Kept) (n a b : ℕ) (out : List Line) → IsNode t n (And a b) → out ≡ out ++ lines_with (formula (formulas_in t) n) []
-line-and t n a b out h = no-line out _ (every (listed (formulas_in t) (parts_at t.parts a b))) h.same refl
+pub line-and : (t : Kept) (n a b : ℕ) → IsNode t n (And a b) → [] ≡ lines_with (formula (formulas_in t) n) []
+line-and t n a b h = no-line _ (every (listed (formulas_in t) (parts_at t.parts a b))) h.same refl
 
-pub line-or : (t : Kept) (n a b : ℕ) (out : List Line) → IsNode t n (Or a b) → out ≡ out ++ lines_with (formula (formulas_in t) n) []
-line-or t n a b out h = no-line out _ (some (listed (formulas_in t) (parts_at t.parts a b))) h.same refl
+pub line-or : (t : Kept) (n a b : ℕ) → IsNode t n (Or a b) → [] ≡ lines_with (formula (formulas_in t) n) []
+line-or t n a b h = no-line _ (some (listed (formulas_in t) (parts_at t.parts a b))) h.same refl
 
-pub line-row : (t : Kept) (n l : ℕ) (out new : List Line) (f : Linear) → IsNode t n (Row l) → f ≡ line t.lines l → new ≡ out ++ record { form = f; equal = false } ∷ []
-    → new ≡ out ++ lines_with (formula (formulas_in t) n) []
-line-row t n l out new f h e k = k ∙ ap (λ g. out ++ lines_with (row g) []) e ∙ ap (λ x. out ++ lines_with x []) (sym h.same)
+pub line-row : (t : Kept) (n l : ℕ) (f : Linear) → IsNode t n (Row l) → f ≡ line t.lines l → record { form = f; equal = false } ∷ [] ≡ lines_with (formula (formulas_in t) n) []
+line-row t n l f h e = ap (λ g. lines_with (row g) []) e ∙ ap (λ x. lines_with x []) (sym h.same)
 
-pub line-equal : (t : Kept) (n l : ℕ) (out new : List Line) (f : Linear) → IsNode t n (Equal l) → f ≡ line t.lines l → new ≡ out ++ record { form = f; equal = true } ∷ []
-    → new ≡ out ++ lines_with (formula (formulas_in t) n) []
-line-equal t n l out new f h e k = k ∙ ap (λ g. out ++ lines_with (equal g) []) e ∙ ap (λ x. out ++ lines_with x []) (sym h.same)
+pub line-equal : (t : Kept) (n l : ℕ) (f : Linear) → IsNode t n (Equal l) → f ≡ line t.lines l → record { form = f; equal = true } ∷ [] ≡ lines_with (formula (formulas_in t) n) []
+line-equal t n l f h e = ap (λ g. lines_with (equal g) []) e ∙ ap (λ x. lines_with x []) (sym h.same)
 
 pub ruleset lining = (line-truth, line-bool, line-at, line-and, line-or, line-row, line-equal)
 

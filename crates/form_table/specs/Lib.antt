@@ -3,3 +3,4 @@ pub mod Nodes
 pub mod Contents
 pub mod Lists
 pub mod Memory
+pub mod Lent

@@ -1,14 +1,16 @@
 //! The conjuncts of a list, and the lines among them.
 
-ghost use Rattle.std.specs.Prelude.{◌≡◌, ◌<◌, ◌++◌, ◌∷◌, [], All, IfOk, OnOk, length};
+ghost use Rattle.std.specs.Prelude.{◌≡◌, ◌<◌, [], All, IfOk, length, map};
+ghost use Rattle.farkas_leaf.specs.Lent.{lent_line};
 ghost use Rattle.farkas_check.specs.Problem.{lines_of, lines_with};
 ghost use Rattle.form_table.specs.Table.{AreThere, formula, listed};
 ghost use Rattle.form_table.specs.Nodes.{formulas_in};
 ghost use Rattle.form_table.specs.Lists.{IsList, conjuncts_of};
+ghost use Rattle.form_table.specs.Lent.{lines_in};
 
 use crate::nodes::Node;
 use crate::stores::Store;
-use st_form::{Lin, Line};
+use farkas_leaf::LentLine;
 use st_memory::Memory;
 use std::alloc::Global;
 
@@ -30,39 +32,43 @@ pub fn conjuncts(store: &Store, list: u32) -> &[u32]
     }
 }
 
-fn push_copy(alloc: Global, out: &mut Vec<Line>, f: &Lin, equal: bool) -> Result<(), Memory>
-    ensures { OnOk result (out.new.items ≡ out.old.items ++ record { form = f.now; equal = equal } ∷ []) }
-{
-    let form = f.copy(alloc)?;
-    out.push(Line { form, equal })?;
-    Ok(())
-}
-
-/// Puts the line of a conjunct, where it is one, behind others.
+/// The line of a conjunct, where it is one, lent.
 #[tactic(auto, using(crate::proofs::Listing::lining))]
-fn push_line(alloc: Global, out: &mut Vec<Line>, store: &Store, number: u32) -> Result<(), Memory>
+fn line_of(store: &Store, number: u32) -> Option<LentLine<'_>>
     requires { number < length (formulas_in store.now) }
-    ensures { OnOk result (out.new.items ≡ out.old.items ++ lines_with (formula (formulas_in store.now) number) []) }
+    ensures { lines_in result ≡ lines_with (formula (formulas_in store.now) number) [] }
 {
     match store.node(number) {
-        Node::Truth(_) => Ok(()),
-        Node::Row(line) => push_copy(alloc, out, store.line(line), false),
-        Node::Equal(line) => push_copy(alloc, out, store.line(line), true),
-        Node::BoolVar(_, _) => Ok(()),
-        Node::At(_, _) => Ok(()),
-        Node::And(_, _) => Ok(()),
-        Node::Or(_, _) => Ok(()),
+        Node::Truth(_) => None,
+        Node::Row(line) => Some(LentLine {
+            form: store.line(line),
+            equal: false,
+        }),
+        Node::Equal(line) => Some(LentLine {
+            form: store.line(line),
+            equal: true,
+        }),
+        Node::BoolVar(_, _) => None,
+        Node::At(_, _) => None,
+        Node::And(_, _) => None,
+        Node::Or(_, _) => None,
     }
 }
 
-/// The lines of conjuncts.
-pub fn lines_of(alloc: Global, store: &Store, parts: &[u32]) -> Result<Vec<Line>, Memory>
+/// The lines of conjuncts, lent.
+pub fn lines_of<'a>(
+    alloc: Global,
+    store: &'a Store,
+    parts: &[u32],
+) -> Result<Vec<LentLine<'a>>, Memory>
     requires { AreThere (formulas_in store.now) parts.now }
-    ensures { IfOk result (λ v. v.items ≡ lines_of (listed (formulas_in store.now) parts.now)) }
+    ensures { IfOk result (λ v. map lent_line v.items ≡ lines_of (listed (formulas_in store.now) parts.now)) }
 {
     let mut out = Vec::with_capacity(alloc, parts.len())?;
     for part in parts {
-        push_line(alloc, &mut out, store, *part)?;
+        if let Some(line) = line_of(store, *part) {
+            out.push(line)?;
+        }
     }
     Ok(out)
 }

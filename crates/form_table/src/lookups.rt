@@ -1,6 +1,7 @@
 //! What stands in a table.
 
-ghost use Rattle.std.specs.Prelude.{◌≡◌, IfOk, length};
+ghost use Rattle.std.specs.Prelude.{◌≡◌, IfOk, length, map};
+ghost use Rattle.farkas_leaf.specs.Lent.{lent_line};
 ghost use Rattle.farkas_check.specs.Problem.{lines_of};
 ghost use Rattle.search_laws.specs.Moves.{first_place_of, first_truth_of};
 ghost use Rattle.form_table.specs.Table.{listed};
@@ -10,7 +11,7 @@ ghost use Rattle.form_table.specs.Lists.{IsList, conjuncts_of};
 use crate::conjuncts::{conjuncts, lines_of};
 use crate::firsts::{first_place_of, first_truth_of};
 use crate::tables::Table;
-use st_form::Line;
+use farkas_leaf::LentLine;
 use st_memory::Memory;
 use std::alloc::Global;
 
@@ -53,10 +54,10 @@ impl Table {
         first_truth_of(&self.pool.store, list, parts)
     }
 
-    /// The lines among the conjuncts.
-    pub fn lines(&self, alloc: Global, list: u32) -> Result<Vec<Line>, Memory>
+    /// The lines among the conjuncts, lent.
+    pub fn lines(&self, alloc: Global, list: u32) -> Result<Vec<LentLine<'_>>, Memory>
         requires { IsList (formulas_of self.now) list }
-        ensures { IfOk result (λ v. v.items ≡ lines_of (conjuncts_of (formulas_of self.now) list)) }
+        ensures { IfOk result (λ v. map lent_line v.items ≡ lines_of (conjuncts_of (formulas_of self.now) list)) }
     {
         lines_of(alloc, &self.pool.store, conjuncts(&self.pool.store, list))
     }

@@ -1,8 +1,9 @@
 -- The multiples of a row, and the answer that they are.
-use Rattle.std.proofs.Common.{◌≡◌, ℕ, zero, suc, ◌+◌, ◌<◌, ◌^◌, Bool, true, false, Some, List, [], ◌∷◌, length, get_or, take, drop, refl, ap, sym, ◌∙◌, arith, rules, ℤ, pos, negsuc}
+use Rattle.std.proofs.Common.{◌≡◌, ℕ, zero, suc, ◌+◌, ◌<◌, ◌^◌, Bool, true, false, Some, List, [], ◌∷◌, length, get_or, take, drop, map, refl, ap, sym, ◌∙◌, arith, rules, ℤ, pos, negsuc}
 use Rattle.std.specs.Prelude.{IsTrue, Result, Ok, Err, IfOk}
 use Rattle.std.proofs.lemmas.List.{drop_more}
-use Rattle.st_linear.specs.declared.rows.Line.{Line}
+use Rattle.farkas_leaf.specs.declared.terms.LentLine.{LentLine}
+use Rattle.farkas_leaf.specs.Lent.{lent_line}
 use Rattle.row_elimination.specs.Runs.{first_row}
 use lib.Signed.{lt_z}
 use Rattle.std.proofs.lemmas.Bool.Decides.{nat_tests}
@@ -57,8 +58,8 @@ if_ok (Ok a) P Q f h = f a h
 if_ok (Err e) P Q f h = tt
 
 -- the input's lines from a place on
-pub tracked-more : (lines : List Line) (i : ℕ) (d : Line) → i < length lines → tracked i (drop i lines) ≡ first_row i (get_or lines i d) ∷ tracked (i + 1) (drop (i + 1) lines)
-tracked-more lines i d h = ap (tracked i) (drop_more lines i d h)
+pub tracked-more : (lines : List LentLine) (i : ℕ) (d : LentLine) → i < length lines → tracked i (map lent_line (drop i lines)) ≡ first_row i (lent_line (get_or lines i d)) ∷ tracked (i + 1) (map lent_line (drop (i + 1) lines))
+tracked-more lines i d h = ap (λ ls. tracked i (map lent_line ls)) (drop_more lines i d h)
 
 pub mix-same : (n : ℕ) (x p y q : ℤ) (xs ps ys qs out : List (ℕ × ℤ)) → p ≡ x → q ≡ y → ps ≡ xs → qs ≡ ys → mixed_entries n p ps q qs ≡ Some out → mixed_entries n x xs y ys ≡ Some out
 mix-same n x p y q xs ps ys qs out e f g h m = rw (e, f, g, h) at m

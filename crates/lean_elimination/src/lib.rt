@@ -8,6 +8,7 @@ mod adding;
 mod arena;
 mod factors;
 mod fate;
+mod lent;
 mod making;
 mod merging;
 mod multiples;
@@ -17,4 +18,5 @@ mod stage;
 mod stop;
 mod top;
 
+pub use lent::copied;
 pub use top::refute;

@@ -2,6 +2,7 @@
 
 ghost use Rattle.std.specs.Prelude.{◌≡◌, ◌^◌, ◌+◌, ◌≤◌, ℕ, ℤ, List, IfOk, IfSome, IsTrue, Some, None, [], map, length};
 ghost use Rattle.st_linear.specs.Linear.{is_within, are_within};
+ghost use Rattle.farkas_leaf.specs.Lent.{lent_line};
 ghost use Rattle.elimination_laws.specs.Stages.{clashes, contradiction, ending, judged, stages, tracked, turned, Ending};
 ghost use Rattle.row_elimination.specs.Places.{sift_from};
 ghost use Rattle.elimination_laws.specs.Mixing.{Tracked};
@@ -16,8 +17,8 @@ use crate::placing::place;
 use crate::row::{Entries, Origin, Row};
 use crate::stage::{are_free, run_stage};
 use crate::stop::{Refusal, Stop};
+use farkas_leaf::LentLine;
 use smallvec::SmallVec;
-use st_linear::Line;
 use st_memory::Memory;
 use std::alloc::Global;
 
@@ -51,8 +52,8 @@ fn narrow_entries(alloc: Global, entries: &[(u32, i128)]) -> Result<Entries, Ref
 }
 
 /// An input line, as one times itself.
-fn first(alloc: Global, number: u32, line: &Line) -> Result<Row, Refusal>
-    ensures value { IfOk result (λ r. (ts : List Tracked) → tracked_row ts r ≡ first_row number line.now) }
+fn first(alloc: Global, number: u32, line: LentLine) -> Result<Row, Refusal>
+    ensures value { IfOk result (λ r. (ts : List Tracked) → tracked_row ts r ≡ first_row number (lent_line line.entry)) }
     ensures bounded { IfOk result (λ r. (ts : List Tracked) → IsTrue (are_within (r.bound + 1) (tracked_row ts r).picks)) }
 {
     Ok(Row {
@@ -65,13 +66,13 @@ fn first(alloc: Global, number: u32, line: &Line) -> Result<Row, Refusal>
 }
 
 /// The input's lines without the constant ones.
-fn first_rows(alloc: Global, arena: &mut Arena, lines: &[Line]) -> Result<Vec<usize>, Stop>
+fn first_rows(alloc: Global, arena: &mut Arena, lines: &[LentLine]) -> Result<Vec<usize>, Stop>
     requires { length lines.now ≤ 4096 }
-    ensures { GivesList result arena.old.rows.items arena.new.rows.items (sift_from [] (map Some (tracked 0 lines.now))) }
+    ensures { GivesList result arena.old.rows.items arena.new.rows.items (sift_from [] (map Some (tracked 0 (map lent_line lines.now)))) }
 {
     let mut next = Vec::with_capacity(alloc, lines.len())?;
     for i in 0..lines.len() {
-        let row = first(alloc, i as u32, &lines[i])?;
+        let row = first(alloc, i as u32, lines[i])?;
         let made = add(arena, row)?;
         place(arena, &mut next, made)?;
     }
@@ -101,8 +102,8 @@ fn all_stages(
 }
 
 /// All stages over the input's lines.
-fn run(alloc: Global, arena: &mut Arena, lines: &[Line], variables: u32) -> Result<(), Stop>
-    ensures { Ends result (tracks arena.new.rows.items) (ending lines.now variables) }
+fn run(alloc: Global, arena: &mut Arena, lines: &[LentLine], variables: u32) -> Result<(), Stop>
+    ensures { Ends result (tracks arena.new.rows.items) (ending (map lent_line lines.now) variables) }
 {
     if lines.len() > MOST_LINES {
         return Err(Stop::Unfit);
@@ -169,10 +170,10 @@ fn answered(alloc: Global, arena: &Arena, stop: Stop) -> Result<Option<Vec<(u32,
 /// there may be a contradiction, or none.
 pub fn refute(
     alloc: Global,
-    lines: &[Line],
+    lines: &[LentLine],
     variables: u32,
 ) -> Result<Option<Vec<(u32, i64)>>, Memory>
-    ensures { IfOk result (λ o. IfSome o (λ picks. ending lines.now variables ≡ contradiction picks.items)) }
+    ensures { IfOk result (λ o. IfSome o (λ picks. ending (map lent_line lines.now) variables ≡ contradiction picks.items)) }
 {
     let mut arena = Arena {
         rows: Vec::with_capacity(alloc, lines.len().saturating_mul(2))?,

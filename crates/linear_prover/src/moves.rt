@@ -23,7 +23,7 @@ use crate::shown::{case_at, state};
 use crate::verdict::Failure;
 use control_states::{Alternative, Component, Components, around_at};
 use farkas_check::decisions::{has_truth, may_case, truth_free};
-use lean_elimination::refute;
+use lean_elimination::{copied, refute};
 use row_elimination::{Elimination, eliminate};
 use st_form::Variable;
 use st_linear::Line;
@@ -165,7 +165,10 @@ fn by_lines<'a>(
     let lines = lines_of(alloc, fs)?;
     match refute(alloc, lines.as_slice(), variables.len() as u32)? {
         Some(picks) => Ok(Move::Closes(picks)),
-        None => by_elimination(alloc, components, variables, node, lines.as_slice()),
+        None => {
+            let own = copied(alloc, lines.as_slice())?;
+            by_elimination(alloc, components, variables, node, own.as_slice())
+        }
     }
 }
 

@@ -1,12 +1,14 @@
 //! The elimination of a list's lines: first in few bits, then the whole.
 
-ghost use Rattle.std.specs.Prelude.{◌≡◌, ◌^◌, IfOk, IfSome, IsTrue, true};
+ghost use Rattle.std.specs.Prelude.{◌≡◌, ◌^◌, IfOk, IfSome, IsTrue, map, true};
 ghost use Rattle.st_linear.specs.Linear.{AllBelow, are_within};
+ghost use Rattle.farkas_leaf.specs.Lent.{lent_line};
 ghost use Rattle.elimination_laws.specs.Stages.{contradiction, ending};
 ghost use Rattle.row_elimination.specs.Runs.{AllWithin};
 ghost use Rattle.row_elimination.specs.Eliminations.{AreBelow};
 
-use lean_elimination::refute;
+use farkas_leaf::LentLine;
+use lean_elimination::{copied, refute};
 use row_elimination::{Elimination, eliminate};
 use st_form::Lin;
 use st_linear::Line;
@@ -45,17 +47,14 @@ fn are_below(count: u32, lines: &[Line]) -> bool
     true
 }
 
-/// The multiples of the contradiction that elimination ends with, where it is found.
-pub fn refuted(
+/// The same by whole numbers, over lines of one's own.
+fn refuted_whole(
     alloc: Global,
     lines: &[Line],
     variables: u32,
 ) -> Result<Option<Vec<(u32, i64)>>, Memory>
     ensures { IfOk result (λ o. IfSome o (λ picks. ending lines.now variables ≡ contradiction picks.items)) }
 {
-    if let Some(picks) = refute(alloc, lines, variables)? {
-        return Ok(Some(picks));
-    }
     if !are_below(variables, lines) {
         return Ok(None);
     }
@@ -64,4 +63,18 @@ pub fn refuted(
         Elimination::NoContradiction(_) => Ok(None),
         Elimination::Wide(_) => Ok(None),
     }
+}
+
+/// The multiples of the contradiction that elimination ends with, where it is found.
+pub fn refuted(
+    alloc: Global,
+    lines: &[LentLine],
+    variables: u32,
+) -> Result<Option<Vec<(u32, i64)>>, Memory>
+    ensures { IfOk result (λ o. IfSome o (λ picks. ending (map lent_line lines.now) variables ≡ contradiction picks.items)) }
+{
+    if let Some(picks) = refute(alloc, lines, variables)? {
+        return Ok(Some(picks));
+    }
+    refuted_whole(alloc, &copied(alloc, lines)?, variables)
 }

@@ -1,11 +1,9 @@
 -- The conjuncts of a list, and their lines.
-use Rattle.std.proofs.Common.{◌≡◌, ℕ, ◌+◌, ◌<◌, ◌≤◌, Bool, true, false, List, [], ◌∷◌, ◌++◌, length, drop, get_or, refl, ap, ◌∙◌, sym, append_assoc, All}
-use Rattle.std.proofs.lemmas.List.{append-nil, drop_all, drop_more}
+use Rattle.std.proofs.Common.{◌≡◌, ℕ, ◌+◌, ◌<◌, ◌≤◌, Bool, true, false, [], ◌∷◌, length, refl, ap, ◌∙◌, sym, All}
 use Rattle.st_linear.specs.Linear.{Linear}
-use Rattle.st_linear.specs.declared.rows.Line.{Line}
-use Rattle.st_form.specs.Formula.{Formula, Formulas, truth_value, row, equal, bool_var, at, negation, every, some, none}
+use Rattle.st_form.specs.Formula.{Formula, Formulas, truth_value, row, equal, bool_var, at, every, some, none}
 use Rattle.st_form.specs.Simple.{opened, signed}
-use Rattle.farkas_check.specs.Problem.{lines_with, lines_of}
+use Rattle.farkas_check.specs.Problem.{lines_with}
 use Rattle.form_table.specs.Table.{formula, listed}
 use Rattle.form_table.specs.Nodes.{IsNode, Kept, formulas_in, parts_at, line}
 use Rattle.form_table.specs.Lists.{IsList, conjuncts_of}
@@ -83,24 +81,3 @@ pub line-equal : (t : Kept) (n l : ℕ) (f : Linear) → IsNode t n (Equal l) �
 line-equal t n l f h e = ap (λ g. lines_with (equal g) []) e ∙ ap (λ x. lines_with x []) (sym h.same)
 
 pub ruleset lining = (line-truth, line-bool, line-at, line-and, line-or, line-row, line-equal)
-
-lines_with-front : (f : Formula) (rest : List Line) → lines_with f rest ≡ lines_with f [] ++ rest
-lines_with-front (row f) rest = refl
-lines_with-front (equal f) rest = refl
-lines_with-front (truth_value b) rest = refl
-lines_with-front (bool_var v) rest = refl
-lines_with-front (at l) rest = refl
-lines_with-front (negation f) rest = refl
-lines_with-front (every fs) rest = refl
-lines_with-front (some fs) rest = refl
-
-pub lines-next : (ts : List Formula) (ns : List ℕ) (i : ℕ) (out m whole : List Line) → i < length ns → m ≡ out ++ lines_with (formula ts (get_or ns i 0)) []
-    → out ++ lines_of (listed ts (drop i ns)) ≡ whole → m ++ lines_of (listed ts (drop (i + 1) ns)) ≡ whole
-lines-next ts ns i out m whole l e h =
-    ap (λ x. x ++ lines_of (listed ts (drop (i + 1) ns))) e
-    ∙ append_assoc out (lines_with (formula ts (get_or ns i 0)) []) (lines_of (listed ts (drop (i + 1) ns)))
-    ∙ ap (λ x. out ++ x) (sym (lines_with-front (formula ts (get_or ns i 0)) (lines_of (listed ts (drop (i + 1) ns)))))
-    ∙ sym (ap (λ x. out ++ lines_of (listed ts x)) (drop_more ns i 0 l)) ∙ h
-
-pub lines-end : (ts : List Formula) (ns : List ℕ) (i : ℕ) (out whole : List Line) → length ns ≤ i → out ++ lines_of (listed ts (drop i ns)) ≡ whole → out ≡ whole
-lines-end ts ns i out whole l h = sym (append-nil out) ∙ sym (ap (λ x. out ++ lines_of (listed ts x)) (drop_all i ns l)) ∙ h

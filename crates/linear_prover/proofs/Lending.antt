@@ -1,13 +1,12 @@
 -- Lists of conjuncts as plain data.
-use Rattle.std.proofs.Common.{◌≡◌, ℕ, ◌+◌, ◌-◌, ◌<◌, ◌≤◌, Bool, true, false, List, [], ◌∷◌, ◌++◌, length, take, drop, get_or, refl, ap, ◌∙◌, sym, Option, Some, None, append_assoc, arith}
+use Rattle.std.proofs.Common.{◌≡◌, ℕ, ◌+◌, ◌-◌, ◌<◌, ◌≤◌, Bool, true, false, List, [], ◌∷◌, ◌++◌, length, take, drop, get_or, refl, ap, ◌∙◌, sym, Option, Some, None, arith}
 use Rattle.std.specs.Prelude.{option_and_then, ◌||◌}
 use Rattle.std.specs.Option.{option_map}
 use Rattle.std.proofs.lemmas.List.{drop_more, take_more, take_all, length-drop}
-use Rattle.st_linear.specs.declared.rows.Line.{Line}
 use Rattle.st_form.specs.Formula.{Formula, Formulas, truth_value, row, equal, bool_var, at, negation, every, some, none, more}
 use Rattle.st_form.specs.Simple.{append, parts, gathered, simple, simples, Decided}
 use Rattle.st_form.proofs.Simples.{append-none, append-assoc}
-use Rattle.farkas_check.specs.Problem.{disjuncts_of, split_by, split_from, lines_with, lines_of}
+use Rattle.farkas_check.specs.Problem.{disjuncts_of, split_by, split_from}
 use Rattle.std.proofs.Math.ListN.{drop_of_length-le}
 use Rattle.st_form.specs.Plain.{plain, plain_list}
 use Rattle.st_form.specs.declared.formulas.Form.{Form, True}
@@ -49,23 +48,6 @@ at-conjunct fs i f p h e q =
 pub past : (fs : List Conjunct) (i : ℕ) (f : Conjunct) (p : Formula) (whole : Option (List Formulas)) → i < length fs → f ≡ get_or fs i f → p ≡ plain_conjunct f → None ≡ disjuncts_of p
     → split_from (plain_each (take i fs)) 0 (plain_each (drop i fs)) ≡ whole → split_from (plain_each (take (i + 1) fs)) 0 (plain_each (drop (i + 1) fs)) ≡ whole
 past fs i f p whole h e q n g = let s = rw (← n) at (at-conjunct fs i f p h e q) in sym s ∙ g
-
-lines_with-front : (f : Formula) (rest : List Line) → lines_with f rest ≡ lines_with f [] ++ rest
-lines_with-front (row f) rest = refl
-lines_with-front (equal f) rest = refl
-lines_with-front (truth_value b) rest = refl
-lines_with-front (bool_var v) rest = refl
-lines_with-front (at l) rest = refl
-lines_with-front (negation f) rest = refl
-lines_with-front (every fs) rest = refl
-lines_with-front (some fs) rest = refl
-
-pub lines-next : (out m whole : List Line) (fs : List Conjunct) (i : ℕ) (f : Conjunct) (p : Formula) → i < length fs → f ≡ get_or fs i f → p ≡ plain_conjunct f → m ≡ lines_with p []
-    → out ++ lines_of (plain_each (drop i fs)) ≡ whole → (out ++ m) ++ lines_of (plain_each (drop (i + 1) fs)) ≡ whole
-lines-next out m whole fs i f p h e q a g =
-    append_assoc out m (lines_of (plain_each (drop (i + 1) fs)))
-    ∙ ap (λ l. out ++ (l ++ lines_of (plain_each (drop (i + 1) fs)))) (a ∙ ap (λ r. lines_with r []) q)
-    ∙ ap (λ l. out ++ l) (sym (ap lines_of (each-next fs i f h e) ∙ lines_with-front (plain_conjunct f) (lines_of (plain_each (drop (i + 1) fs))))) ∙ g
 
 -- ---- decided conjuncts
 none-there : {A : Type 0} (o : Option A) → is_there o ≡ false → o ≡ None

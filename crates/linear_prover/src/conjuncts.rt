@@ -75,10 +75,7 @@ fn line_of(f: &Form) -> Option<LentLine<'_>>
 }
 
 /// The lines of conjuncts, lent.
-pub fn lines_of<'b, 'x>(
-    alloc: Global,
-    fs: &'b [Conjunct<'x>],
-) -> Result<Vec<LentLine<'b>>, Memory>
+pub fn lines_of<'b, 'x>(alloc: Global, fs: &'b [Conjunct<'x>]) -> Result<Vec<LentLine<'b>>, Memory>
     ensures { IfOk result (λ v. map lent_line v.items ≡ lines_of (plain_each fs.now)) }
 {
     let mut out = Vec::with_capacity(alloc, fs.len())?;

@@ -2,14 +2,14 @@
 //! undecided component among its component and those around it. Else the first boolean variable is decided. Else the first
 //! disjunction is split. Else the lines are eliminated.
 
-ghost use Rattle.std.specs.Prelude.{◌≡◌, ◌<◌, ◌^◌, IfOk, List, length, None, slice_index_or};
+ghost use Rattle.std.specs.Prelude.{◌≡◌, ◌<◌, ◌^◌, IfOk, List, length};
 ghost use Rattle.control_states.specs.Control.{ControlFacts};
 ghost use Rattle.linear_prover.specs.declared.problems.Conjunct.{Conjunct};
 ghost use Rattle.linear_prover.specs.Plain.{plain_each, plain_node};
 ghost use Rattle.st_form.specs.declared.variables.Variable.{Variable};
 ghost use Rattle.farkas_check.specs.Problem.{lines_of, divided_into, truth_division};
 ghost use Rattle.farkas_check.specs.PlainProblem.{setting};
-ghost use Rattle.search_laws.specs.Moves.{or_else, if_undecided, outermost, component_for, first_place_of, first_truth_of, by_component, by_variable, by_disjunction, by_lines, by_place, divided};
+ghost use Rattle.search_laws.specs.Moves.{component_for, first_place_of, first_truth_of, by_component, by_variable, by_disjunction, by_lines, by_place, divided};
 ghost use Rattle.st_certificate.specs.Tree.{by_split, by_truth};
 ghost use Rattle.linear_prover.specs.Divisions.{plain_move, MoveApplies};
 ghost use Rattle.row_elimination.specs.Runs.{AllWithin};
@@ -19,12 +19,13 @@ ghost use Rattle.linear_prover.specs.Ready.{AreReady};
 use crate::conjuncts::{first_disjunction, first_place_among, first_truth_among, lines_of};
 use crate::divisions::Division;
 use crate::problems::{Conjunct, Node};
-use crate::shown::{case_at, state};
+use crate::shown::state;
 use crate::verdict::Failure;
-use control_states::{Alternative, Component, Components, around_at};
+use control_states::Components;
 use farkas_check::decisions::{has_truth, may_case, truth_free};
 use lean_elimination::{copied, refute};
 use row_elimination::{Elimination, eliminate};
+use shared_search::component_for;
 use st_form::Variable;
 use st_linear::Line;
 use st_memory::Memory;
@@ -37,59 +38,6 @@ pub enum Move<'a> {
     Closes(Vec<(u32, i64)>),
     Divides(Division<'a>),
     Fails(Failure),
-}
-
-fn or_else(first: Option<u32>, otherwise: Option<u32>) -> Option<u32>
-    ensures { result ≡ or_else first otherwise }
-{
-    match first {
-        Some(x) => Some(x),
-        None => otherwise,
-    }
-}
-
-/// The component, where it is undecided.
-fn if_undecided(cases: &[Option<Alternative>], component: u32) -> Option<u32>
-    ensures { result ≡ if_undecided component (slice_index_or cases.now component None) }
-{
-    match case_at(cases, component as usize) {
-        None => Some(component),
-        Some(_) => None,
-    }
-}
-
-/// The outermost undecided one among a component and those around it.
-fn outermost(parts: &[Component], cases: &[Option<Alternative>], component: u32) -> Option<u32>
-    ensures { result ≡ outermost parts.now cases.now (length parts.now) component }
-{
-    let mut best = None;
-    let mut inner = component;
-    let mut left = parts.len();
-    while left > 0 {
-        left -= 1;
-        best = or_else(if_undecided(cases, inner), best);
-        match around_at(parts, inner) {
-            None => return best,
-            Some(way) => {
-                inner = way.0;
-            }
-        }
-    }
-    best
-}
-
-/// The component that is decided next for a location.
-fn component_for(
-    components: &Components,
-    cases: &[Option<Alternative>],
-    location: u32,
-) -> Option<u32>
-    ensures { result ≡ component_for components.now cases.now location }
-{
-    match components.owners().get(location as usize) {
-        Some(owner) => outermost(components.parts(), cases, *owner),
-        None => None,
-    }
 }
 
 /// A component is decided, if it may be.

@@ -19,7 +19,7 @@ use st_program::Datum;
 use std::alloc::Global;
 
 /// What is decided of a component.
-pub fn case_at(cases: &[Option<Alternative>], component: usize) -> Option<Alternative>
+fn case_at(cases: &[Option<Alternative>], component: usize) -> Option<Alternative>
     ensures { result ≡ slice_index_or cases.now component None }
 {
     match cases.get(component) {

@@ -1,5 +1,5 @@
 -- What is found is the certificate that the search finds.
-use Rattle.std.proofs.Common.{◌≡◌, ℕ, ◌<◌, List, length, subst, ◌∙◌, sym, Option}
+use Rattle.std.proofs.Common.{◌≡◌, ℕ, ◌<◌, List, length, ap, subst, ◌∙◌, sym, Option}
 use Rattle.st_form.specs.Formula.{Formula}
 use Rattle.farkas_check.specs.Problem.{Setting}
 use Rattle.st_certificate.specs.Tree.{Tree}
@@ -7,23 +7,25 @@ use Rattle.search_laws.specs.Moves.{valid, decided}
 use Rattle.search_laws.specs.Sizes.{IsModestTree}
 use Rattle.form_table.specs.Lists.{IsListed, first_conjuncts}
 use Rattle.tree_table.specs.Table.{tree}
-use Rattle.sharing_laws.specs.Lists.{IsFlat, list_move}
+use Rattle.sharing_laws.specs.Contexts.{context_move, first_context, in_context}
 use Rattle.sharing_laws.specs.Finds.{Finds}
-use Rattle.sharing_laws.proofs.Flattening.{lists-find}
+use Rattle.sharing_laws.proofs.Moving.{contexts-find}
 use Rattle.shared_search.specs.declared.book.Book.{Book}
+use Rattle.shared_search.specs.Contexts.{ContextTable, IsContext, context_at}
 use Rattle.shared_search.specs.Lists.{HasTree, conjuncts_at}
 use Rattle.shared_search.specs.Books.{AreNumbered, GrowsTo, Knows, Remembers}
 use Rattle.shared_search.proofs.Listing.{handed-same}
 use Rattle.shared_search.proofs.Knowing.{numbered-later}
 
-pub knows-later : (k : Setting) (b c : Book) → c.decisions ≡ b.decisions → c.flat ≡ b.flat → GrowsTo b.memo c.memo → Remembers k c.memo → Knows k b → Knows k c
-knows-later k b c d f g r h = record {
-  flat = λ e. h.flat (sym f ∙ e);
+pub knows-later : (k : Setting) (b c : Book) → c.decisions ≡ b.decisions → GrowsTo b.memo c.memo → Remembers k c.memo → Knows k b → Knows k c
+knows-later k b c d g r h = record {
   decisions = subst (AreNumbered k c.memo.table.decisions) (sym d) (numbered-later k b.memo.table.decisions c.memo.table.decisions b.decisions g.table.decisions h.decisions);
   remembers = r;
 }
 
-pub found-by : (k : Setting) (given shown : Formula) (us : List Tree) (ts : List Formula) (list : Option ℕ) (t : ℕ) → IsFlat k.control → IsListed ts list (first_conjuncts given shown) → HasTree k us t (conjuncts_at ts list)
-    → IsModestTree (tree us t) → (t < length us) × (decided k given shown ≡ valid (tree us t))
-found-by k given shown us ts list t flat made has modest =
-    (has.there, lists-find k given shown (tree us t) flat modest (subst (Finds (list_move k) (tree us t)) (handed-same ts list (first_conjuncts given shown) made) has.finds))
+pub found-by : (k : Setting) (given shown : Formula) (us : List Tree) (ts : List Formula) (cs : ContextTable) (list : Option ℕ) (t : ℕ) → IsContext cs 0 (first_context k.control) → IsListed ts list (first_conjuncts given shown)
+    → HasTree k us t (in_context (context_at cs 0) (conjuncts_at ts list)) → IsModestTree (tree us t) → (t < length us) × (decided k given shown ≡ valid (tree us t))
+found-by k given shown us ts cs list t first made has modest =
+    let at : in_context (context_at cs 0) (conjuncts_at ts list) ≡ in_context (first_context k.control) (first_conjuncts given shown) =
+    ap (λ c. in_context c (conjuncts_at ts list)) first.1 ∙ ap (in_context (first_context k.control)) (handed-same ts list (first_conjuncts given shown) made) in
+    (has.there, contexts-find k given shown (tree us t) modest (subst (Finds (context_move k) (tree us t)) at has.finds))

@@ -10,7 +10,7 @@ use Rattle.control_states.specs.Place.{place}
 use Rattle.farkas_check.specs.Problem.{decided_by}
 use Rattle.form_table.specs.Contents.{Choice, decision_at}
 use Rattle.shared_search.specs.Books.{AreDecisions, AreKept, IsDecision, IsLonger}
-use Rattle.shared_search.proofs.Listing.{map-push}
+use Rattle.shared_search.proofs.Entering.{map-push}
 
 pub longer-refl : (ds : List Choice) → IsLonger ds ds
 longer-refl ds = record { longer = omega arith; same = λ n h. refl }

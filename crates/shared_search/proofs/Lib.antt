@@ -1,5 +1,7 @@
+pub mod Entering
 pub mod Listing
 pub mod Knowing
 pub mod Moving
 pub mod Deciding
+pub mod Choosing
 pub mod Certifying

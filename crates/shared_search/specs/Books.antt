@@ -1,5 +1,5 @@
 -- What is remembered from one search to the next.
-use Rattle.std.specs.Prelude.{◌≡◌, ℕ, ◌<◌, ◌≤◌, true, false, List, [], ◌∷◌, length, map, All, slice_get, slice_index_or, Option, Some, None}
+use Rattle.std.specs.Prelude.{◌≡◌, ℕ, ◌<◌, ◌≤◌, true, false, List, [], ◌∷◌, length, map, All, slice_get, Option, Some, None}
 use Rattle.std.specs.declared.vec.Vec.{Vec}
 use Rattle.std.specs.declared.alloc.Global.{Global}
 use Rattle.st_form.specs.Formula.{Formula}
@@ -9,14 +9,14 @@ use Rattle.st_certificate.specs.Tree.{Tree}
 use Rattle.farkas_check.specs.Problem.{Setting}
 use Rattle.search_laws.specs.Moves.{valid, decided}
 use Rattle.form_table.specs.Contents.{Choice, Grows, decision_at, formulas_of}
-use Rattle.form_table.specs.Lists.{IsList, conjuncts_of}
 use Rattle.tree_table.specs.Table.{tree, Extends}
 use Rattle.tree_table.specs.Nodes.{trees_in}
-use Rattle.sharing_laws.specs.Lists.{IsFlat, by_case_alone, by_truth_alone}
+use Rattle.sharing_laws.specs.Lists.{by_case_alone, by_truth_alone}
 use Rattle.shared_search.specs.declared.decisions.Decisions.{Decisions}
 use Rattle.shared_search.specs.declared.memo.Memo.{Memo}
 use Rattle.shared_search.specs.declared.book.Book.{Book}
-use Rattle.shared_search.specs.Lists.{HasTree}
+use Rattle.shared_search.specs.Contexts.{AreInside, Keeps}
+use Rattle.shared_search.specs.Found.{Holds}
 
 -- these numbers are those of these decisions
 pub record AreDecisions (ds : List Choice) (ns : List ℕ) (xs : List Decided) : Type 0 where
@@ -44,26 +44,23 @@ truth_decisions k v = by_truth_alone k v true ∷ by_truth_alone k v false ∷ [
 abbrev pub AreKept : List Choice → (ℕ → List Decided) → List (Vec ℕ Global) → Type 0
 AreKept ds decisions kept = (n : ℕ) (v : Vec ℕ Global) → slice_get kept n ≡ Some v → AreDecisions ds v.items (decisions n)
 
--- the numbers of the decisions of each component and of each variable
+-- the numbers of the decisions of each component and of each variable, and which components have others inside
 pub record AreNumbered (k : Setting) (ds : List Choice) (d : Decisions) : Type 0 where
   pub cases : AreKept ds (case_decisions k) d.cases.items
   pub truths : AreKept ds (truth_decisions k) d.truths.items
-
--- each tree that is remembered for a list is found for it
-abbrev pub AreFound : Setting → List Formula → List Tree → List (Option ℕ) → Type 0
-AreFound k ts us known = (n t : ℕ) → slice_index_or known n None ≡ Some t → IsList ts n × HasTree k us t (Some (conjuncts_of ts n))
+  pub insides : AreInside k.control d.insides.items
 
 abbrev pub Remembers : Setting → Memo → Type 0
-Remembers k m = AreFound k (formulas_of m.table) (trees_in m.trees) m.known.items
+Remembers k m = Holds k (formulas_of m.table) (trees_in m.trees) m.contexts.kept.items m.found
 
--- numbers keep their formulas and trees
+-- numbers keep their formulas, trees and contexts
 pub record GrowsTo (old new : Memo) : Type 0 where
   pub table : Grows old.table new.table
   pub trees : Extends (trees_in old.trees) (trees_in new.trees)
+  pub contexts : Keeps old.contexts.kept.items new.contexts.kept.items
 
 -- what a book says is so for this setting
 pub record Knows (k : Setting) (b : Book) : Type 0 where
-  pub flat : b.flat ≡ true → IsFlat k.control
   pub decisions : AreNumbered k b.memo.table.decisions b.decisions
   pub remembers : Remembers k b.memo
 

@@ -1,46 +1,25 @@
 //! What is remembered from one search to the next, for the conditions of one program.
 
-ghost use Rattle.std.specs.Prelude.{◌≡◌, ℕ, IfOk, true, false, None};
-ghost use Rattle.control_states.specs.Control.{component_at};
+ghost use Rattle.std.specs.Prelude.{IfOk};
 ghost use Rattle.farkas_check.specs.PlainProblem.{setting};
 ghost use Rattle.shared_search.specs.Books.{Knows};
 
+use crate::contexts::first_contexts;
 use crate::decisions::{Decisions, all_decisions};
-use crate::memo::Memo;
-use control_states::{Component, Components};
+use crate::entries::no_entries;
+use crate::memo::{Found, Memo};
+use control_states::Components;
 use form_table::Table;
 use st_form::Variable;
 use st_memory::Memory;
 use std::alloc::Global;
 use tree_table::TreeTable;
 
-/// Lists of conjuncts and trees by number, which tree was found for a list, and the decisions of the program.
+/// Lists of conjuncts, trees and contexts by number, which tree was found for a list in a context, and the decisions of the program.
 #[derive(Drop)]
 pub struct Book {
-    pub(crate) memo: Memo,
-    pub(crate) decisions: Decisions,
-    pub(crate) flat: bool,
-}
-
-fn has_around(component: &Component) -> bool
-    ensures { result ≡ false → component.now.around ≡ None }
-{
-    match component.around() {
-        Some(_) => true,
-        None => false,
-    }
-}
-
-/// Whether no component stands inside another.
-fn are_flat(parts: &[Component]) -> bool
-    ensures { result ≡ true → (c : ℕ) → (component_at parts.now c).around ≡ None }
-{
-    for part in parts {
-        if has_around(part) {
-            return false;
-        }
-    }
-    true
+    pub memo: Memo,
+    pub decisions: Decisions,
 }
 
 impl Book {
@@ -58,11 +37,14 @@ impl Book {
             memo: Memo {
                 table,
                 trees: TreeTable::new(alloc)?,
-                known: Vec::new(alloc),
+                contexts: first_contexts(alloc, components)?,
+                found: Found {
+                    known: Vec::new(alloc),
+                    others: no_entries(alloc),
+                },
                 left: 0,
             },
             decisions,
-            flat: are_flat(components.parts()),
         })
     }
 }

@@ -1,5 +1,5 @@
 //! The decisions of a program, by number: of each component to be at each of its alternatives, and of each variable to be
-//! true or false.
+//! true or false; and which components have others inside, whose decisions make another context.
 
 ghost use Rattle.std.specs.Prelude.{◌≡◌, ◌<◌, IfOk, ℕ, List, Bool, length, map, true, false};
 ghost use Rattle.control_states.specs.Control.{ControlFacts, component_at};
@@ -8,6 +8,7 @@ ghost use Rattle.farkas_check.specs.PlainProblem.{setting};
 ghost use Rattle.sharing_laws.specs.Lists.{by_case_alone, by_truth_alone};
 ghost use Rattle.shared_search.specs.Books.{AreDecisions, AreKept, AreNumbered, IsDecision, IsLonger, case_decisions, truth_decisions};
 
+use crate::insides::all_insides;
 use control_states::{Alternative, Components};
 use farkas_check::problems::{undecided_cases, undecided_truths};
 use form_table::Table;
@@ -15,11 +16,13 @@ use st_form::Variable;
 use st_memory::Memory;
 use std::alloc::Global;
 
-/// The numbers of the decisions of each component, one for each alternative, and of both decisions of each variable.
+/// The numbers of the decisions of each component, one for each alternative, and of both decisions of each variable; and of each
+/// component, whether it has others inside.
 #[derive(Drop)]
 pub struct Decisions {
     pub cases: Vec<Vec<u32>>,
     pub truths: Vec<Vec<u32>>,
+    pub insides: Vec<bool>,
 }
 
 /// The decision of a component.
@@ -142,5 +145,10 @@ pub fn all_decisions(
 {
     let cases = all_cases(alloc, table, components)?;
     let truths = all_truths(alloc, table, components, variables)?;
-    Ok(Decisions { cases, truths })
+    let insides = all_insides(alloc, components)?;
+    Ok(Decisions {
+        cases,
+        truths,
+        insides,
+    })
 }

@@ -8,6 +8,7 @@ ghost use Rattle.farkas_check.specs.Limits.{IsNarrow};
 ghost use Rattle.shared_search.specs.Books.{Knows, IsFound, IsThere, tree_in};
 
 use crate::book::Book;
+use crate::lists::Child;
 use crate::walk::walk;
 use control_states::Components;
 use st_certificate::Certificate;
@@ -17,14 +18,22 @@ use std::alloc::Global;
 
 const MOST_LEVELS: u32 = 400;
 
-/// A book with more formulas, or more parts of them, is long: a new one is quicker.
+/// A book with more formulas, more parts of them, more contexts or more entries is long: a new one is quicker.
 const LONG: usize = 20000;
 
 const LONG_PARTS: usize = 2_000_000;
 
+const LONG_CONTEXTS: usize = 10000;
+
+const LONG_ENTRIES: usize = 200_000;
+
 /// Whether a new book is quicker than this one.
 fn is_long(book: &Book) -> bool {
-    book.memo.table.size() > LONG || book.memo.table.part_count() > LONG_PARTS
+    let memo = &book.memo;
+    memo.table.size() > LONG
+        || memo.table.part_count() > LONG_PARTS
+        || memo.contexts.kept.len() > LONG_CONTEXTS
+        || memo.found.others.kept.len() > LONG_ENTRIES
 }
 
 /// Begins a new book where this one is long.
@@ -58,9 +67,6 @@ fn find_in(
     ensures knows { Knows (setting components.now variables.now) book.new }
     ensures found { IfOk result (λ o. IsFound (setting components.now variables.now) (given_of condition.now) (shown_of condition.now) book.new o) }
 {
-    if !book.flat {
-        return Ok(None);
-    }
     book.memo.left = most;
     let list = book
         .memo
@@ -72,7 +78,7 @@ fn find_in(
         &book.decisions,
         components,
         variables,
-        list,
+        Child { context: 0, list },
         MOST_LEVELS,
     )? {
         None => Ok(None),

@@ -1,19 +1,27 @@
 //! The search for certificates over lists of conjuncts, each of which is searched once.
 //!
-//! Where no component stands inside another, what is done at a problem hangs on its conjuncts alone (`sharing_laws`). So
-//! lists of conjuncts are numbers of a table, and what was found for a list is remembered, as in the apply operation on
-//! binary decision diagrams (Bryant, 1986), from one condition to the next too. Where it gives up nothing is said.
+//! What is done at a problem hangs on its conjuncts alone, and on what is decided of the components that have others inside, which
+//! is its context (`sharing_laws`). So lists of conjuncts and contexts are numbers, and what was found for a list in a context is
+//! remembered, as in the apply operation on binary decision diagrams (Bryant, 1986), from one condition to the next too. Where it
+//! gives up nothing is said.
 #![tactic(auto)]
 
 mod book;
 mod choices;
+mod contexts;
 mod decisions;
+mod entries;
 mod finding;
+mod insides;
 mod lines;
 mod lists;
 mod memo;
 mod moves;
+mod next_component;
 mod walk;
 
 pub use book::Book;
+pub use decisions::Decisions;
 pub use finding::{certificate, find, is_same};
+pub use memo::Memo;
+pub use next_component::component_for;

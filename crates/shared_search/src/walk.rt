@@ -1,14 +1,14 @@
-//! The walk over lists, depth first, until one fails. A list whose tree is remembered isn't walked again.
+//! The walk over lists in contexts, depth first, until one fails. A list whose tree is remembered isn't walked again.
 
-ghost use Rattle.std.specs.Prelude.{◌≡◌, IfOk, IfSome, All, map, Some};
+ghost use Rattle.std.specs.Prelude.{◌≡◌, IfOk, IfSome, All, map};
 ghost use Rattle.farkas_check.specs.PlainProblem.{setting};
 ghost use Rattle.form_table.specs.Contents.{formulas_of};
-ghost use Rattle.form_table.specs.Lists.{IsList, conjuncts_of};
 ghost use Rattle.tree_table.specs.Nodes.{trees_in};
 ghost use Rattle.shared_search.specs.Books.{AreNumbered, Remembers, GrowsTo};
-ghost use Rattle.shared_search.specs.Lists.{IfList, HasTree, HaveTrees, conjuncts_at};
+ghost use Rattle.shared_search.specs.Lists.{HasTree, HaveTrees, IsChild, IsKey, child_of, key_of};
 
 use crate::decisions::Decisions;
+use crate::lists::{Child, Key};
 use crate::memo::{Memo, is_full, remember, remembered};
 use crate::moves::{Move, move_at};
 use control_states::Components;
@@ -24,22 +24,26 @@ pub fn walk(
     decisions: &Decisions,
     components: &Components,
     variables: &[Variable],
-    list: Option<u32>,
+    child: Child,
     levels: u32,
 ) -> Result<Option<u32>, Memory>
-    requires list { IfList (formulas_of memo.old.table) list }
+    requires child { IsChild (formulas_of memo.old.table) memo.old.contexts.kept.items child }
     requires numbered { AreNumbered (setting components.now variables.now) memo.old.table.decisions decisions.now }
     requires remembers { Remembers (setting components.now variables.now) memo.old }
     ensures grows { GrowsTo memo.old memo.new }
     ensures remembers { Remembers (setting components.now variables.now) memo.new }
     ensures found { IfOk result (λ o. IfSome o (λ t.
-        HasTree (setting components.now variables.now) (trees_in memo.new.trees) t (conjuncts_at (formulas_of memo.old.table) list))) }
+        HasTree (setting components.now variables.now) (trees_in memo.new.trees) t (child_of (formulas_of memo.old.table) memo.old.contexts.kept.items child))) }
 {
-    match list {
+    match child.list {
         None => Ok(Some(memo.trees.absurd())),
-        Some(number) => walk_list(
-            alloc, memo, decisions, components, variables, number, levels,
-        ),
+        Some(list) => {
+            let key = Key {
+                context: child.context,
+                list,
+            };
+            walk_list(alloc, memo, decisions, components, variables, key, levels)
+        }
     }
 }
 
@@ -51,18 +55,18 @@ fn walk_list(
     decisions: &Decisions,
     components: &Components,
     variables: &[Variable],
-    list: u32,
+    key: Key,
     levels: u32,
 ) -> Result<Option<u32>, Memory>
-    requires list { IsList (formulas_of memo.old.table) list }
+    requires key { IsKey (formulas_of memo.old.table) memo.old.contexts.kept.items key }
     requires numbered { AreNumbered (setting components.now variables.now) memo.old.table.decisions decisions.now }
     requires remembers { Remembers (setting components.now variables.now) memo.old }
     ensures grows { GrowsTo memo.old memo.new }
     ensures remembers { Remembers (setting components.now variables.now) memo.new }
     ensures found { IfOk result (λ o. IfSome o (λ t.
-        HasTree (setting components.now variables.now) (trees_in memo.new.trees) t (Some (conjuncts_of (formulas_of memo.old.table) list)))) }
+        HasTree (setting components.now variables.now) (trees_in memo.new.trees) t (key_of (formulas_of memo.old.table) memo.old.contexts.kept.items key))) }
 {
-    if let Some(tree) = remembered(memo.known.as_slice(), list) {
+    if let Some(tree) = remembered(&memo.found, key) {
         return Ok(Some(tree));
     }
     if levels == 0 {
@@ -78,12 +82,12 @@ fn walk_list(
         decisions,
         components,
         variables,
-        list,
+        key,
         levels - 1,
     )? {
         None => Ok(None),
         Some(tree) => {
-            remember(&mut memo.known, list, tree)?;
+            remember(alloc, &mut memo.found, key, tree)?;
             Ok(Some(tree))
         }
     }
@@ -97,35 +101,36 @@ fn search(
     decisions: &Decisions,
     components: &Components,
     variables: &[Variable],
-    list: u32,
+    key: Key,
     levels: u32,
 ) -> Result<Option<u32>, Memory>
-    requires list { IsList (formulas_of memo.old.table) list }
+    requires key { IsKey (formulas_of memo.old.table) memo.old.contexts.kept.items key }
     requires numbered { AreNumbered (setting components.now variables.now) memo.old.table.decisions decisions.now }
     requires remembers { Remembers (setting components.now variables.now) memo.old }
     ensures grows { GrowsTo memo.old memo.new }
     ensures remembers { Remembers (setting components.now variables.now) memo.new }
     ensures found { IfOk result (λ o. IfSome o (λ t.
-        HasTree (setting components.now variables.now) (trees_in memo.new.trees) t (Some (conjuncts_of (formulas_of memo.old.table) list)))) }
+        HasTree (setting components.now variables.now) (trees_in memo.new.trees) t (key_of (formulas_of memo.old.table) memo.old.contexts.kept.items key))) }
 {
     match move_at(
         alloc,
         &mut memo.table,
+        &mut memo.contexts,
         decisions,
         components,
         variables,
-        list,
+        key,
     )? {
         Move::Fails => Ok(None),
         Move::Closes(picks) => Ok(Some(memo.trees.linear(picks.as_slice())?)),
-        Move::Divides(step, lists) => {
+        Move::Divides(step, children) => {
             match walk_all(
                 alloc,
                 memo,
                 decisions,
                 components,
                 variables,
-                lists.as_slice(),
+                children.as_slice(),
                 levels,
             )? {
                 None => Ok(None),
@@ -143,20 +148,22 @@ fn walk_all(
     decisions: &Decisions,
     components: &Components,
     variables: &[Variable],
-    lists: &[Option<u32>],
+    children: &[Child],
     levels: u32,
 ) -> Result<Option<Vec<u32>>, Memory>
-    requires lists { All (IfList (formulas_of memo.old.table)) lists.now }
+    requires children { All (IsChild (formulas_of memo.old.table) memo.old.contexts.kept.items) children.now }
     requires numbered { AreNumbered (setting components.now variables.now) memo.old.table.decisions decisions.now }
     requires remembers { Remembers (setting components.now variables.now) memo.old }
     ensures grows { GrowsTo memo.old memo.new }
     ensures remembers { Remembers (setting components.now variables.now) memo.new }
     ensures found { IfOk result (λ o. IfSome o (λ v.
-        HaveTrees (setting components.now variables.now) (trees_in memo.new.trees) v.items (map (conjuncts_at (formulas_of memo.old.table)) lists.now))) }
+        HaveTrees (setting components.now variables.now) (trees_in memo.new.trees) v.items (map (child_of (formulas_of memo.old.table) memo.old.contexts.kept.items) children.now))) }
 {
-    let mut parts = Vec::with_capacity(alloc, lists.len())?;
-    for list in lists {
-        match walk(alloc, memo, decisions, components, variables, *list, levels)? {
+    let mut parts = Vec::with_capacity(alloc, children.len())?;
+    for child in children {
+        match walk(
+            alloc, memo, decisions, components, variables, *child, levels,
+        )? {
             None => return Ok(None),
             Some(tree) => parts.push(tree)?,
         }

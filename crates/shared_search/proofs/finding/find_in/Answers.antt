@@ -9,7 +9,8 @@ use Rattle.form_table.specs.Contents.{formulas_of}
 use Rattle.form_table.specs.Lists.{IsListed, first_conjuncts}
 use Rattle.tree_table.specs.Nodes.{trees_in}
 use Rattle.tree_table.proofs.Making.{extends-refl}
-use Rattle.shared_search.proofs.Knowing.{found-later}
+use Rattle.shared_search.proofs.Entering.{keeps-refl}
+use Rattle.shared_search.proofs.Knowing.{holds-later}
 use Rattle.shared_search.proofs.Certifying.{found-by, knows-later}
 use Rattle.shared_search.proofs.finding.find_in.Goals as goal
 
@@ -21,15 +22,20 @@ first_list-requires-clause-shown c = modest-narrow (shown_of c.args.condition.no
 
 pub returns-in_err-list-clause-knows : goal.returns-in_err-list-clause-knows
 returns-in_err-list-clause-knows c =
-    knows-later (setting c.args.components.now c.args.variables.now) c.args.book.now _ refl refl (record { table = c.in_err-list.ensures.grows; trees = extends-refl (trees_in c.args.book.now.memo.trees) })
-    (found-later (setting c.args.components.now c.args.variables.now) (formulas_of c.args.book.now.memo.table) (formulas_of c.first_list.new.self) (trees_in c.args.book.now.memo.trees) (trees_in c.args.book.now.memo.trees) c.args.book.now.memo.known.items c.in_err-list.ensures.grows.formulas (extends-refl (trees_in c.args.book.now.memo.trees)) c.requires.knows.remembers) c.requires.knows
+    let trees = extends-refl (trees_in c.args.book.now.memo.trees) in
+    let contexts = keeps-refl c.args.book.now.memo.contexts.kept.items in
+    knows-later (setting c.args.components.now c.args.variables.now) c.args.book.now _ refl (record { table = c.in_err-list.ensures.grows; trees = trees; contexts = contexts })
+    (holds-later (setting c.args.components.now c.args.variables.now) (formulas_of c.args.book.now.memo.table) (formulas_of c.first_list.new.self) (trees_in c.args.book.now.memo.trees) (trees_in c.args.book.now.memo.trees) c.args.book.now.memo.contexts.kept.items c.args.book.now.memo.contexts.kept.items c.args.book.now.memo.found
+    c.in_err-list.ensures.grows.formulas trees contexts c.requires.knows.remembers) c.requires.knows
 
 pub walk-requires-clause-remembers : goal.walk-requires-clause-remembers
-walk-requires-clause-remembers c = found-later (setting c.args.components.now c.args.variables.now) (formulas_of c.args.book.now.memo.table) (formulas_of c.first_list.new.self) (trees_in c.args.book.now.memo.trees) (trees_in c.args.book.now.memo.trees) c.args.book.now.memo.known.items c.in_ok-list.ensures.grows.formulas (extends-refl (trees_in c.args.book.now.memo.trees)) c.requires.knows.remembers
+walk-requires-clause-remembers c =
+    holds-later (setting c.args.components.now c.args.variables.now) (formulas_of c.args.book.now.memo.table) (formulas_of c.first_list.new.self) (trees_in c.args.book.now.memo.trees) (trees_in c.args.book.now.memo.trees) c.args.book.now.memo.contexts.kept.items c.args.book.now.memo.contexts.kept.items c.args.book.now.memo.found
+    c.in_ok-list.ensures.grows.formulas (extends-refl (trees_in c.args.book.now.memo.trees)) (keeps-refl c.args.book.now.memo.contexts.kept.items) c.requires.knows.remembers
 
 pub returns-then-is_modest-clause-found : goal.returns-then-is_modest-clause-found
 returns-then-is_modest-clause-found c =
     let made =
     subst (λ fs. IsListed (formulas_of c.first_list.new.self) c.in_ok-list.list (first_conjuncts (every (plain_list fs)) (shown_of c.args.condition.now))) c.as_slice.ensures.value c.in_ok-list.ensures.made in
-    found-by (setting c.args.components.now c.args.variables.now) (given_of c.args.condition.now) (shown_of c.args.condition.now) (trees_in c.walk.new.memo.trees) (formulas_of c.first_list.new.self) c.in_ok-list.list c.in-Some.tree (c.requires.knows.flat c.if-not-book.false) made
-    (rw c.in-Some.is at c.in_ok-walk.ensures.found) (c.is_modest.ensures c.if-is_modest.true)
+    found-by (setting c.args.components.now c.args.variables.now) (given_of c.args.condition.now) (shown_of c.args.condition.now) (trees_in c.walk.new.memo.trees) (formulas_of c.first_list.new.self) c.args.book.now.memo.contexts.kept.items c.in_ok-list.list c.in-Some.tree
+    c.requires.knows.remembers.first made (rw c.in-Some.is at c.in_ok-walk.ensures.found) (c.is_modest.ensures c.if-is_modest.true)

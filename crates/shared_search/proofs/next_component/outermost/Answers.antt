@@ -1,7 +1,7 @@
 use Rattle.std.proofs.Common.{◌-◌, arith, sym, ◌∙◌, ap}
 use Rattle.search_laws.specs.Moves.{or_else}
-use Rattle.linear_prover.proofs.Choices.{outer}
-use Rattle.linear_prover.proofs.moves.outermost.Goals as goal
+use Rattle.shared_search.proofs.Choosing.{outer}
+use Rattle.shared_search.proofs.next_component.outermost.Goals as goal
 
 pub loop-left-preserved : goal.loop-left-preserved
 loop-left-preserved c =

@@ -1,6 +1,7 @@
 pub mod Entering
 pub mod Listing
 pub mod Knowing
+pub mod Dividing
 pub mod Moving
 pub mod Deciding
 pub mod Choosing

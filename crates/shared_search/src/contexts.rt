@@ -5,6 +5,7 @@ ghost use Rattle.std.specs.Prelude.{◌≡◌, ◌<◌, IfOk, IfSome, length, ma
 ghost use Rattle.sharing_laws.specs.Contexts.{first_context};
 ghost use Rattle.shared_search.specs.Contexts.{AreContexts, IsContext, Keeps, context_at, entered};
 
+use crate::sameness::is_same_context;
 use control_states::{Alternative, Components};
 use farkas_check::problems::undecided_cases;
 use hint_index::{Index, enter, folded, hint, mixed, no_index};
@@ -42,50 +43,6 @@ pub fn context_at(kept: &[Vec<Option<Alternative>>], number: u32) -> &[Option<Al
         Some(context) => context.as_slice(),
         None => &[],
     }
-}
-
-fn is_same_alternative(x: &Alternative, y: &Alternative) -> bool
-    ensures { result ≡ true → x.now ≡ y.now }
-{
-    match *x {
-        Alternative::Location(l) => match *y {
-            Alternative::Location(m) => l == m,
-            Alternative::Inside(_) => false,
-        },
-        Alternative::Inside(l) => match *y {
-            Alternative::Location(_) => false,
-            Alternative::Inside(m) => l == m,
-        },
-    }
-}
-
-fn is_same_case(x: &Option<Alternative>, y: &Option<Alternative>) -> bool
-    ensures { result ≡ true → x.now ≡ y.now }
-{
-    match x {
-        None => match y {
-            None => true,
-            Some(_) => false,
-        },
-        Some(a) => match y {
-            None => false,
-            Some(b) => is_same_alternative(a, b),
-        },
-    }
-}
-
-fn is_same_context(xs: &[Option<Alternative>], ys: &[Option<Alternative>]) -> bool
-    ensures { result ≡ true → xs.now ≡ ys.now }
-{
-    if xs.len() != ys.len() {
-        return false;
-    }
-    for (place, x) in xs.iter().enumerate() {
-        if !is_same_case(x, &ys[place]) {
-            return false;
-        }
-    }
-    true
 }
 
 /// Whether a number is this context's.

@@ -18,6 +18,7 @@ mod lists;
 mod memo;
 mod moves;
 mod next_component;
+mod sameness;
 mod walk;
 
 pub use book::Book;

@@ -8,7 +8,8 @@ use Rattle.tree_table.proofs.Making.{extends-refl}
 use Rattle.shared_search.specs.Lists.{HasTree, child_of, key_of}
 use Rattle.shared_search.proofs.Entering.{keeps-refl}
 use Rattle.shared_search.proofs.Listing.{key-later, key-same}
-use Rattle.shared_search.proofs.Knowing.{has-branch, have-there, holds-later, numbered-later, to-trans, walk-step}
+use Rattle.shared_search.proofs.Knowing.{holds-later, numbered-later, to-trans}
+use Rattle.shared_search.proofs.Dividing.{has-branch, have-there, walk-step}
 use Rattle.shared_search.proofs.walk.+walk.Goals as goal
 
 pub search-returns-in_err-move_at-clause-remembers : goal.search-returns-in_err-move_at-clause-remembers

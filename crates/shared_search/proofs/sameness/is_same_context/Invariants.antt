@@ -1,5 +1,5 @@
 use Rattle.std.proofs.Common.{◌≡◌, length, take}
-use Rattle.shared_search.proofs.contexts.is_same_context.Given as goal
+use Rattle.shared_search.proofs.sameness.is_same_context.Given as goal
 
 abbrev pub invariant-loop-place : goal.invariant-loop-place
 invariant-loop-place l = record {

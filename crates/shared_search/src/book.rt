@@ -17,8 +17,8 @@ use tree_table::TreeTable;
 /// Lists of conjuncts and trees by number, which tree was found for a list, and the decisions of the program.
 #[derive(Drop)]
 pub struct Book {
-    pub(crate) memo: Memo,
-    pub(crate) decisions: Decisions,
+    pub memo: Memo,
+    pub decisions: Decisions,
     pub(crate) flat: bool,
 }
 

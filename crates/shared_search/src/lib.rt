@@ -16,4 +16,6 @@ mod moves;
 mod walk;
 
 pub use book::Book;
+pub use decisions::Decisions;
 pub use finding::{certificate, find, is_same};
+pub use memo::Memo;

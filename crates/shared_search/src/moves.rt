@@ -69,7 +69,7 @@ fn by_disjunction(
         (by_disjunction (setting components.now variables.now) (conjuncts_of (formulas_of table.old) list)
         (split_from none 0 (conjuncts_of (formulas_of table.old) list)))) }
 {
-    match table.split(alloc, list)? {
+    match table.split(alloc, list, 0)? {
         Some(lists) => Ok(Move::Divides(Step::Split(0), none_false(alloc, lists.as_slice())?)),
         None => by_lines(alloc, table, components, variables, list),
     }

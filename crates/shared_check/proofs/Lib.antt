@@ -1,0 +1,4 @@
+pub mod Keeping
+pub mod Deciding
+pub mod Placing
+pub mod Answering

@@ -1,5 +1,6 @@
--- The first disjunction among conjuncts, and the parts of a disjunct.
+-- Disjunctions among conjuncts, and the parts of a disjunct.
 use Rattle.std.proofs.Common.{◌≡◌, ℕ, ◌+◌, ◌<◌, ◌≤◌, Bool, true, false, List, [], ◌∷◌, length, take, drop, get_or, refl, ap, ◌∙◌, sym, Option, Some, None, arith}
+use Rattle.std.specs.Prelude.{◌-◌, ◌==◌}
 use Rattle.std.proofs.lemmas.List.{drop_more, drop_all, take_more}
 use Rattle.st_form.specs.Formula.{Formula, Formulas, truth_value, row, equal, bool_var, at, some, none, more}
 use Rattle.st_form.specs.Simple.{append, opened, signed}
@@ -88,27 +89,34 @@ open-there t n a b h l = below-there n (formulas_in t) (parts_at t.parts a b) (o
 
 pub ruleset opening = (open-truth, open-row, open-equal, open-bool, open-at, open-or, open-and, open-within, open-there)
 
--- ---- the loop that looks for the first disjunction
+-- ---- the loop that looks for a disjunction
 next : (ts : List Formula) (ns : List ℕ) (i : ℕ) → i < length ns → listed ts (drop i ns) ≡ more (formula ts (get_or ns i 0)) (listed ts (drop (i + 1) ns))
 next ts ns i l = ap (listed ts) (drop_more ns i 0 l)
 
 front : (ts : List Formula) (ns : List ℕ) (i : ℕ) → i < length ns → append (listed ts (take i ns)) (more (formula ts (get_or ns i 0)) none) ≡ listed ts (take (i + 1) ns)
 front ts ns i l = sym (ap (listed ts) (take_more ns i 0 l) ∙ listed-append ts (take i ns) (get_or ns i 0 ∷ []))
 
-at-part : (ts : List Formula) (ns : List ℕ) (i : ℕ) → i < length ns
-    → split_from (listed ts (take i ns)) 0 (listed ts (drop i ns)) ≡ split_by (listed ts (take i ns)) 0 (listed ts (drop (i + 1) ns)) (λ j. split_from (listed ts (take (i + 1) ns)) j (listed ts (drop (i + 1) ns))) (disjuncts_of (formula ts (get_or ns i 0)))
-at-part ts ns i l =
-    ap (split_from (listed ts (take i ns)) 0) (next ts ns i l)
-    ∙ ap (λ b. split_by (listed ts (take i ns)) 0 (listed ts (drop (i + 1) ns)) (λ j. split_from b j (listed ts (drop (i + 1) ns))) (disjuncts_of (formula ts (get_or ns i 0)))) (front ts ns i l)
+at-part : (ts : List Formula) (ns : List ℕ) (i k : ℕ) → i < length ns
+    → split_from (listed ts (take i ns)) k (listed ts (drop i ns)) ≡ split_by (listed ts (take i ns)) k (listed ts (drop (i + 1) ns)) (λ j. split_from (listed ts (take (i + 1) ns)) j (listed ts (drop (i + 1) ns))) (disjuncts_of (formula ts (get_or ns i 0)))
+at-part ts ns i k l =
+    ap (split_from (listed ts (take i ns)) k) (next ts ns i l)
+    ∙ ap (λ b. split_by (listed ts (take i ns)) k (listed ts (drop (i + 1) ns)) (λ j. split_from b j (listed ts (drop (i + 1) ns))) (disjuncts_of (formula ts (get_or ns i 0)))) (front ts ns i l)
 
-pub past : (ts : List Formula) (ns : List ℕ) (i : ℕ) (whole : Option (List Formulas)) → i < length ns → None ≡ disjuncts_of (formula ts (get_or ns i 0))
-    → split_from (listed ts (take i ns)) 0 (listed ts (drop i ns)) ≡ whole → split_from (listed ts (take (i + 1) ns)) 0 (listed ts (drop (i + 1) ns)) ≡ whole
-past ts ns i whole l e h = let s = rw (← e) at (at-part ts ns i l) in sym s ∙ h
+-- no disjunction: on to the next
+pub past : (ts : List Formula) (ns : List ℕ) (i k : ℕ) (whole : Option (List Formulas)) → i < length ns → None ≡ disjuncts_of (formula ts (get_or ns i 0))
+    → split_from (listed ts (take i ns)) k (listed ts (drop i ns)) ≡ whole → split_from (listed ts (take (i + 1) ns)) k (listed ts (drop (i + 1) ns)) ≡ whole
+past ts ns i k whole l e h = let s = rw (← e) at (at-part ts ns i k l) in sym s ∙ h
 
-pub here : (ts : List Formula) (ns : List ℕ) (i : ℕ) (gs : Formulas) (whole : Option (List Formulas)) → i < length ns → Some gs ≡ disjuncts_of (formula ts (get_or ns i 0))
-    → split_from (listed ts (take i ns)) 0 (listed ts (drop i ns)) ≡ whole → Some (in_place (listed ts (take i ns)) gs (listed ts (drop (i + 1) ns))) ≡ whole
-here ts ns i gs whole l e h = let s = rw (← e) at (at-part ts ns i l) in sym s ∙ h
+-- an earlier disjunction: on to the next
+pub beyond : (ts : List Formula) (ns : List ℕ) (i k : ℕ) (gs : Formulas) (whole : Option (List Formulas)) → i < length ns → Some gs ≡ disjuncts_of (formula ts (get_or ns i 0)) → (k == 0) ≡ false
+    → split_from (listed ts (take i ns)) k (listed ts (drop i ns)) ≡ whole → split_from (listed ts (take (i + 1) ns)) (k - 1) (listed ts (drop (i + 1) ns)) ≡ whole
+beyond ts ns i k gs whole l e z h = let s = rw (← e, z) at (at-part ts ns i k l) in sym s ∙ h
 
-pub finished : (ts : List Formula) (ns : List ℕ) (i : ℕ) (before : Formulas) (whole : Option (List Formulas)) → length ns ≤ i
-    → split_from before 0 (listed ts (drop i ns)) ≡ whole → None ≡ whole
-finished ts ns i before whole l h = sym (ap (λ x. split_from before 0 (listed ts x)) (drop_all i ns l)) ∙ h
+-- the disjunction
+pub here : (ts : List Formula) (ns : List ℕ) (i k : ℕ) (gs : Formulas) (whole : Option (List Formulas)) → i < length ns → Some gs ≡ disjuncts_of (formula ts (get_or ns i 0)) → (k == 0) ≡ true
+    → split_from (listed ts (take i ns)) k (listed ts (drop i ns)) ≡ whole → Some (in_place (listed ts (take i ns)) gs (listed ts (drop (i + 1) ns))) ≡ whole
+here ts ns i k gs whole l e z h = let s = rw (← e, z) at (at-part ts ns i k l) in sym s ∙ h
+
+pub finished : (ts : List Formula) (ns : List ℕ) (i k : ℕ) (before : Formulas) (whole : Option (List Formulas)) → length ns ≤ i
+    → split_from before k (listed ts (drop i ns)) ≡ whole → None ≡ whole
+finished ts ns i k before whole l h = sym (ap (λ x. split_from before k (listed ts x)) (drop_all i ns l)) ∙ h

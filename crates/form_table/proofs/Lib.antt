@@ -13,3 +13,4 @@ pub mod Calling
 pub mod Pushing
 pub mod Beginning
 pub mod Recalling
+pub mod Rowing

@@ -1,4 +1,4 @@
-//! The first disjunction among conjuncts.
+//! Disjunctions among conjuncts, by their order.
 
 ghost use Rattle.std.specs.Prelude.{◌≡◌, ◌+◌, ◌<◌, IfSome, length, take, drop};
 ghost use Rattle.std.specs.Option.{option_map};
@@ -28,17 +28,21 @@ fn disjuncts(store: &Store, number: u32) -> Option<&[u32]>
     }
 }
 
-/// The place of the first disjunction, and its disjuncts.
-pub fn first_disjunction<'a>(store: &'a Store, parts: &[u32]) -> Option<(usize, &'a [u32])>
+/// The place of the k-th disjunction, and its disjuncts.
+pub fn find_disjunction<'a>(store: &'a Store, parts: &[u32], k: u32) -> Option<(usize, &'a [u32])>
     requires { AreThere (formulas_in store.now) parts.now }
     ensures found { option_map (λ p. in_place (listed (formulas_in store.now) (take p.0 parts.now)) (listed (formulas_in store.now) p.1.now) (listed (formulas_in store.now) (drop (p.0 + 1) parts.now))) result
-        ≡ split_from none 0 (listed (formulas_in store.now) parts.now) }
+        ≡ split_from none k (listed (formulas_in store.now) parts.now) }
     ensures within { IfSome result (λ p. p.0 < length parts.now) }
     ensures there { IfSome result (λ p. AreThere (formulas_in store.now) p.1.now) }
 {
+    let mut left = k;
     for (place, part) in parts.iter().enumerate() {
         if let Some(disjuncts) = disjuncts(store, *part) {
-            return Some((place, disjuncts));
+            if left == 0 {
+                return Some((place, disjuncts));
+            }
+            left -= 1;
         }
     }
     None

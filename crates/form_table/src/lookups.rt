@@ -2,7 +2,7 @@
 
 ghost use Rattle.std.specs.Prelude.{◌≡◌, IfOk, length, map};
 ghost use Rattle.farkas_leaf.specs.Lent.{lent_line};
-ghost use Rattle.farkas_check.specs.Problem.{lines_of};
+ghost use Rattle.farkas_check.specs.Problem.{lines_of, rows_of};
 ghost use Rattle.search_laws.specs.Moves.{first_place_of, first_truth_of};
 ghost use Rattle.form_table.specs.Table.{listed};
 ghost use Rattle.form_table.specs.Contents.{formulas_of};
@@ -10,8 +10,10 @@ ghost use Rattle.form_table.specs.Lists.{IsList, conjuncts_of};
 
 use crate::conjuncts::{conjuncts, lines_of};
 use crate::firsts::{first_place_of, first_truth_of};
+use crate::rows::rows_of;
 use crate::tables::Table;
 use farkas_leaf::LentLine;
+use st_form::Lin;
 use st_memory::Memory;
 use std::alloc::Global;
 
@@ -60,5 +62,13 @@ impl Table {
         ensures { IfOk result (λ v. map lent_line v.items ≡ lines_of (conjuncts_of (formulas_of self.now) list)) }
     {
         lines_of(alloc, &self.pool.store, conjuncts(&self.pool.store, list))
+    }
+
+    /// The rows among the conjuncts: of an equation its form, and its form times -1.
+    pub fn rows(&self, alloc: Global, list: u32) -> Result<Vec<Lin>, Memory>
+        requires { IsList (formulas_of self.now) list }
+        ensures { IfOk result (λ v. v.items ≡ rows_of (conjuncts_of (formulas_of self.now) list)) }
+    {
+        rows_of(alloc, &self.pool.store, conjuncts(&self.pool.store, list))
     }
 }

@@ -1,5 +1,5 @@
-//! The lists that a list is split into by its first disjunction: in each, one disjunct, or its parts, stands in the disjunction's
-//! place.
+//! The lists that a list is split into by one of its disjunctions: in each, one disjunct, or its parts, stands in the
+//! disjunction's place.
 
 ghost use Rattle.std.specs.Prelude.{◌≡◌, ◌+◌, ◌<◌, IfOk, OnOk, length, take, drop};
 ghost use Rattle.st_form.specs.Formula.{more, none};
@@ -10,7 +10,7 @@ ghost use Rattle.form_table.specs.Nodes.{formulas_in, parts_at};
 ghost use Rattle.form_table.specs.Lists.{AreLists, AreSplit, IsList, conjuncts_of};
 
 use crate::conjuncts::conjuncts;
-use crate::disjunctions::first_disjunction;
+use crate::disjunctions::find_disjunction;
 use crate::nodes::Node;
 use crate::pools::{Pool, join};
 use crate::stores::Store;
@@ -85,14 +85,14 @@ fn split_by(
     Ok(out)
 }
 
-/// The lists that a list is split into, or None where no conjunct is a disjunction.
-pub fn split(alloc: Global, pool: &mut Pool, list: u32) -> Result<Option<Vec<u32>>, Memory>
+/// The lists that the k-th disjunction splits a list into, or None where there are fewer.
+pub fn split(alloc: Global, pool: &mut Pool, list: u32, k: u32) -> Result<Option<Vec<u32>>, Memory>
     requires { IsList (formulas_in pool.old.store) list }
     ensures extends { Extends (formulas_in pool.old.store) (formulas_in pool.new.store) }
-    ensures made { IfOk result (λ o. AreSplit (formulas_in pool.new.store) o (split_from none 0 (conjuncts_of (formulas_in pool.old.store) list))) }
+    ensures made { IfOk result (λ o. AreSplit (formulas_in pool.new.store) o (split_from none k (conjuncts_of (formulas_in pool.old.store) list))) }
 {
     let parts = Vec::from_slice(alloc, conjuncts(&pool.store, list))?;
-    match first_disjunction(&pool.store, parts.as_slice()) {
+    match find_disjunction(&pool.store, parts.as_slice(), k) {
         None => Ok(None),
         Some((place, found)) => {
             let disjuncts = Vec::from_slice(alloc, found)?;

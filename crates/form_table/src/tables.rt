@@ -1,11 +1,13 @@
 //! Formulas and lists of conjuncts by number. Equal formulas get equal numbers as far as the index finds them, so the work for a list
 //! of conjuncts is done once.
 
-ghost use Rattle.std.specs.Prelude.{◌≡◌, ◌<◌, ◌∷◌, ◌++◌, [], IfOk, length, true};
+ghost use Rattle.std.specs.Prelude.{◌≡◌, ◌<◌, ◌^◌, ◌∷◌, ◌++◌, [], IfOk, length, true, unsigned_abs, if◌then◌else◌};
+ghost use Rattle.std.specs.Option.{option_map};
+ghost use Rattle.st_linear.specs.Simple.{complement};
 ghost use Rattle.st_form.specs.Formula.{every, none};
 ghost use Rattle.st_form.specs.Plain.{plain_list};
 ghost use Rattle.st_form.specs.Shared.{consequent_of};
-ghost use Rattle.st_form.specs.Simple.{AreModest, IsModest, gathered, simples};
+ghost use Rattle.st_form.specs.Simple.{AreModest, IsModest, append, gathered, parts, simple_row, simples};
 ghost use Rattle.farkas_check.specs.Problem.{split_from};
 ghost use Rattle.form_table.specs.Table.{Extends};
 ghost use Rattle.form_table.specs.Contents.{Grows, decision_at, formulas_of};
@@ -13,13 +15,14 @@ ghost use Rattle.form_table.specs.Lists.{AreSplit, IsList, IsListed, conjuncts_o
 
 use crate::beginnings::first_list;
 use crate::choices::Decision;
+use crate::joining::with_row;
 use crate::lists::under_list;
 use crate::memos::{Memo, forget, no_memo};
 use crate::pools::{Pool, new_pool};
 use crate::readings::{Readings, no_readings};
 use crate::splitting::split;
 use crate::stores::number_of;
-use st_form::{Consequent, SharedForm};
+use st_form::{Consequent, Lin, SharedForm};
 use st_memory::Memory;
 use std::alloc::Global;
 use std::marker::Model;
@@ -108,12 +111,29 @@ impl Table {
         )
     }
 
-    /// The lists that the first disjunction splits a list into, or None where no conjunct is a disjunction.
-    pub fn split(&mut self, alloc: Global, list: u32) -> Result<Option<Vec<u32>>, Memory>
+    /// The lists that the k-th disjunction splits a list into, or None where there are fewer.
+    pub fn split(&mut self, alloc: Global, list: u32, k: u32) -> Result<Option<Vec<u32>>, Memory>
         requires { IsList (formulas_of self.old) list }
         ensures grows { Grows self.old self.new }
-        ensures made { IfOk result (λ o. AreSplit (formulas_of self.new) o (split_from none 0 (conjuncts_of (formulas_of self.old) list))) }
+        ensures made { IfOk result (λ o. AreSplit (formulas_of self.new) o (split_from none k (conjuncts_of (formulas_of self.old) list))) }
     {
-        split(alloc, &mut self.pool, list)
+        split(alloc, &mut self.pool, list, k)
+    }
+
+    /// The list with a simplified row at its end, or with its complement where the sign is minus; None where that is false.
+    pub fn with_row(
+        &mut self,
+        alloc: Global,
+        list: u32,
+        f: &Lin,
+        plus: bool,
+    ) -> Result<Option<u32>, Memory>
+        requires list { IsList (formulas_of self.old) list }
+        requires small { unsigned_abs f.now.constant < 2 ^ 99 }
+        ensures grows { Grows self.old self.new }
+        ensures made { IfOk result (λ o. IsListed (formulas_of self.new) o
+            (option_map (append (conjuncts_of (formulas_of self.old) list)) (parts true (simple_row (if plus then f.now else complement f.now))))) }
+    {
+        with_row(alloc, &mut self.pool, list, f, plus)
     }
 }

@@ -75,7 +75,7 @@ fn by_disjunction(
         (moved_in (context_at cs key.context) (by_disjunction (setting components.now variables.now) (conjuncts_of (formulas_of table.old) key.list)
         (split_from none 0 (conjuncts_of (formulas_of table.old) key.list))))) }
 {
-    match table.split(alloc, key.list)? {
+    match table.split(alloc, key.list, 0)? {
         Some(lists) => Ok(Move::Divides(
             Step::Split(0),
             none_false(alloc, key.context, lists.as_slice())?,

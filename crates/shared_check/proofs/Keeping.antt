@@ -1,5 +1,6 @@
 -- The problems of lists stay as they are while the table grows.
 use Rattle.std.proofs.Common.{◌≡◌, ℕ, List, [], ◌∷◌, ◌++◌, map, refl, ap, subst, ◌∙◌, sym, All, Option, Some, None}
+use Rattle.std.proofs.lemmas.List.{map_push}
 use Rattle.std.proofs.lemmas.List.Elements.{All-head, All-tail, All-push, All-weaker, All-nil}
 use Rattle.st_form.specs.Formula.{Formula}
 use Rattle.farkas_check.specs.Problem.{Setting, Problem}
@@ -8,7 +9,7 @@ use Rattle.form_table.specs.Table.{Extends}
 use Rattle.form_table.specs.Lists.{IsList}
 use Rattle.sharing_laws.proofs.Starting.{IsFresh}
 use Rattle.shared_search.specs.Lists.{conjuncts_at, IfList}
-use Rattle.shared_search.proofs.Listing.{at-later, if-list-later, map-push}
+use Rattle.shared_search.proofs.Listing.{at-later, if-list-later}
 use Rattle.shared_check.specs.declared.problems.Listed.{Listed}
 use Rattle.shared_check.specs.declared.problems.Division.{Division}
 use Rattle.shared_check.specs.declared.problems.Division.TheVariants.{Refused, Into, Unknown}
@@ -49,7 +50,7 @@ none-ready k us = record { ready = All-nil (IsReady k us); same = refl }
 pub are-push : (k : Setting) (us : List Formula) (ps : List Listed) (qs : List Problem) (p : Listed) (q : Problem) → AreReady k us ps qs → IsReady k us p → problem_of us p ≡ q → AreReady k us (ps ++ p ∷ []) (qs ++ q ∷ [])
 are-push k us ps qs p q h r e = record {
   ready = All-push (IsReady k us) ps p h.ready r;
-  same = map-push (problem_of us) ps p ∙ ap (λ xs. xs ++ problem_of us p ∷ []) h.same ∙ ap (λ x. qs ++ x ∷ []) e;
+  same = map_push (problem_of us) ps p ∙ ap (λ xs. xs ++ problem_of us p ∷ []) h.same ∙ ap (λ x. qs ++ x ∷ []) e;
 }
 
 -- what a step divides a problem into may be checked

@@ -10,7 +10,7 @@ use Rattle.control_states.specs.Place.{place}
 use Rattle.farkas_check.specs.Problem.{decided_by}
 use Rattle.form_table.specs.Contents.{Choice, decision_at}
 use Rattle.shared_search.specs.Books.{AreDecisions, AreKept, IsDecision, IsLonger}
-use Rattle.shared_search.proofs.Entering.{map-push}
+use Rattle.std.proofs.lemmas.List.{map_push}
 
 pub longer-refl : (ds : List Choice) → IsLonger ds ds
 longer-refl ds = record { longer = omega arith; same = λ n h. refl }
@@ -46,14 +46,14 @@ decisions-push ds es ns xs n d h k i =
     let later = decisions-later ds es ns xs h k in
     record {
       there = All-push (λ m. m < length es) ns n later.there i.0;
-      same = map-push (decision_at es) ns n ∙ ap (λ ys. ys ++ decision_at es n ∷ []) later.same ∙ ap (λ y. xs ++ y ∷ []) i.1;
+      same = map_push (decision_at es) ns n ∙ ap (λ ys. ys ++ decision_at es n ∷ []) later.same ∙ ap (λ y. xs ++ y ∷ []) i.1;
     }
 
 -- one alternative more
 pub cases-step : {A : Type 0} (f : A → Decided) (ds es : List Choice) (ns : List ℕ) (choices : List A) (i n : ℕ) (d : A) → i < length choices → IsLonger ds es → AreDecisions ds ns (map f (take i choices))
     → IsDecision es n (f (get_or choices i d)) → AreDecisions es (ns ++ n ∷ []) (map f (take (i + 1) choices))
 cases-step f ds es ns choices i n d at h k j =
-    subst (AreDecisions es (ns ++ n ∷ [])) (sym (ap (map f) (take_more choices i d at) ∙ map-push f (take i choices) (get_or choices i d)))
+    subst (AreDecisions es (ns ++ n ∷ [])) (sym (ap (map f) (take_more choices i d at) ∙ map_push f (take i choices) (get_or choices i d)))
     (decisions-push ds es ns (map f (take i choices)) n (f (get_or choices i d)) h k j)
 
 pub kept-later : (ds es : List Choice) (f : ℕ → List Decided) (kept : List (Vec ℕ Global)) → IsLonger ds es → AreKept ds f kept → AreKept es f kept

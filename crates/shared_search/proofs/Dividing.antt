@@ -15,7 +15,7 @@ use Rattle.shared_search.specs.declared.lists.Child.{Child}
 use Rattle.shared_search.specs.Contexts.{Context}
 use Rattle.shared_search.specs.Lists.{HasTree, HaveTrees, IsChild, child_of}
 use Rattle.shared_search.specs.Books.{GrowsTo}
-use Rattle.shared_search.proofs.Entering.{map-push}
+use Rattle.std.proofs.lemmas.List.{map_push}
 use Rattle.shared_search.proofs.Listing.{child-same}
 use Rattle.shared_search.proofs.Knowing.{has-later}
 
@@ -53,7 +53,7 @@ walk-step k old mid new xs i d parts t g h l at have one =
     let x : Child = get_or xs i d in
     let same : child_of (formulas_of mid.table) mid.contexts.kept.items x ≡ f x = child-same (formulas_of old.table) (formulas_of mid.table) old.contexts.kept.items mid.contexts.kept.items x g.table.formulas g.contexts (l i d at) in
     let pushed = have-push k (trees_in new.trees) parts (map f (take i xs)) t (f x) (have-later k (trees_in mid.trees) (trees_in new.trees) parts _ h.trees have) (subst (HasTree k (trees_in new.trees) t) same one) in
-    subst (HaveTrees k (trees_in new.trees) (parts ++ t ∷ [])) (sym (ap (map f) (take_more xs i d at) ∙ map-push f (take i xs) x)) pushed
+    subst (HaveTrees k (trees_in new.trees) (parts ++ t ∷ [])) (sym (ap (map f) (take_more xs i d at) ∙ map_push f (take i xs) x)) pushed
 
 -- the tree of a leaf, of a false problem and of a division
 pub has-by : (k : Setting) (us : List Tree) (n : ℕ) (t : Tree) (x : InContext) → Is us n t → Finds (context_move k) t x → HasTree k us n x

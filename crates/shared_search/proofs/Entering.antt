@@ -1,5 +1,6 @@
 -- Contexts keep their numbers, and a context more has its own.
 use Rattle.std.proofs.Common.{◌≡◌, ℕ, zero, suc, ◌+◌, ◌<◌, List, [], ◌∷◌, ◌++◌, length, map, take, get_or, slice_get, refl, ap, subst, ◌∙◌, sym, All, Option, Some, Vec, arith}
+use Rattle.std.proofs.lemmas.List.{map_push}
 use Rattle.std.specs.Global.{Global}
 use Rattle.std.proofs.lemmas.List.{take_more, length-append}
 use Rattle.std.proofs.lemmas.List.Elements.{All-weaker, All-push, All-head, All-tail}
@@ -40,14 +41,10 @@ same-later cs ds [] h k = refl
 same-later cs ds (n ∷ ns) h k =
     ap (λ x. x ∷ map (context_at ds) ns) (h.same n (All-head (λ m. m < length cs) n ns k)) ∙ ap (λ xs. context_at cs n ∷ xs) (same-later cs ds ns h (All-tail (λ m. m < length cs) n ns k))
 
-pub map-push : {A B : Type 0} (f : A → B) (xs : List A) (x : A) → map f (xs ++ x ∷ []) ≡ map f xs ++ f x ∷ []
-map-push f [] x = refl
-map-push f (y ∷ ys) x = ap (λ zs. f y ∷ zs) (map-push f ys x)
-
 contexts-push : (cs ds : ContextTable) (ns : List ℕ) (contexts : List Context) (n : ℕ) (context : Context) → Keeps cs ds → AreContexts cs ns contexts → IsContext ds n context → AreContexts ds (ns ++ n ∷ []) (contexts ++ context ∷ [])
 contexts-push cs ds ns contexts n context h k i = record {
   there = All-push (λ m. m < length ds) ns n (All-weaker (λ m. m < length cs) (λ m. m < length ds) (λ m l. omega (arith, l, h.longer)) ns k.there) i.0;
-  same = map-push (context_at ds) ns n ∙ ap (λ xs. xs ++ context_at ds n ∷ []) (same-later cs ds ns h k.there ∙ k.same) ∙ ap (λ x. contexts ++ x ∷ []) i.1;
+  same = map_push (context_at ds) ns n ∙ ap (λ xs. xs ++ context_at ds n ∷ []) (same-later cs ds ns h k.there ∙ k.same) ∙ ap (λ x. contexts ++ x ∷ []) i.1;
 }
 
 -- one alternative more
@@ -58,4 +55,4 @@ entered-step old mid new context c i n ns choices d l at g h k made =
     let f : Alternative → Context = entered (context_at old context) c in
     let one : IsContext new n (f (get_or choices i d)) = (made.0, made.1 ∙ ap (λ x. entered x c (get_or choices i d)) (g.same context l)) in
     let pushed = contexts-push mid new ns (map f (take i choices)) n (f (get_or choices i d)) h k one in
-    subst (AreContexts new (ns ++ n ∷ [])) (sym (ap (map f) (take_more choices i d at) ∙ map-push f (take i choices) (get_or choices i d))) pushed
+    subst (AreContexts new (ns ++ n ∷ [])) (sym (ap (map f) (take_more choices i d at) ∙ map_push f (take i choices) (get_or choices i d))) pushed

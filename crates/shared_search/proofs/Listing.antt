@@ -1,5 +1,6 @@
 -- Lists in contexts stay as they are while the tables grow.
 use Rattle.std.proofs.Common.{◌≡◌, ℕ, zero, suc, ◌+◌, ◌<◌, ◌≤◌, List, [], ◌∷◌, ◌++◌, length, map, take, drop, get_or, refl, ap, append-nil, subst, ◌∙◌, sym, All, Option, Some, None, arith}
+use Rattle.std.proofs.lemmas.List.{map_push}
 use Rattle.std.proofs.lemmas.List.{take_more}
 use Rattle.std.proofs.lemmas.List.Elements.{All-weaker, All-cons, All-head, All-tail, All-push}
 use Rattle.st_form.specs.Formula.{Formula, Formulas, every}
@@ -14,7 +15,7 @@ use Rattle.shared_search.specs.declared.lists.Child.{Child}
 use Rattle.shared_search.specs.declared.lists.Key.{Key}
 use Rattle.shared_search.specs.Contexts.{ContextTable, Keeps, context_at}
 use Rattle.shared_search.specs.Lists.{AreChildren, IfList, IsChild, IsKey, child_at, child_of, conjuncts_at, key_of, moved, under_each}
-use Rattle.shared_search.proofs.Entering.{keeps-refl, map-push}
+use Rattle.shared_search.proofs.Entering.{keeps-refl}
 
 pub conjuncts-later : (ts us : List Formula) (n : ℕ) → Extends ts us → IsList ts n → conjuncts_of us n ≡ conjuncts_of ts n
 conjuncts-later ts us n h k = ap opened (h.same n k.0)
@@ -58,7 +59,7 @@ are-later ts us cs ds xs ys g h k = record { there = children-later ts us cs ds 
 children-push : (ts : List Formula) (cs : ContextTable) (xs : List Child) (ys : List InContext) (x : Child) → AreChildren ts cs xs ys → IsChild ts cs x → AreChildren ts cs (xs ++ x ∷ []) (ys ++ child_of ts cs x ∷ [])
 children-push ts cs xs ys x h k = record {
   there = All-push (IsChild ts cs) xs x h.there k;
-  same = map-push (child_of ts cs) xs x ∙ ap (λ zs. zs ++ child_of ts cs x ∷ []) h.same;
+  same = map_push (child_of ts cs) xs x ∙ ap (λ zs. zs ++ child_of ts cs x ∷ []) h.same;
 }
 
 -- a number that is handed over
@@ -99,7 +100,7 @@ under-step old mid new cs context list i ns xs o g h l c at k made =
     (c, handed-list (formulas_of new) o _ made) in
     let more : before ++ under (decision_at old.decisions n) fs ∷ [] ≡ under_each old.decisions fs (take (i + 1) ns) = sym (under-push old.decisions fs (take i ns) n) ∙ sym (ap (under_each old.decisions fs) (take_more ns i 0 at)) in
     let whole : map within before ++ within (conjuncts_at (formulas_of new) o) ∷ [] ≡ map within (under_each old.decisions fs (take (i + 1) ns)) =
-    ap (λ y. map within before ++ within y ∷ []) same ∙ sym (map-push within before (under (decision_at old.decisions n) fs)) ∙ ap (map within) more in
+    ap (λ y. map within before ++ within y ∷ []) same ∙ sym (map_push within before (under (decision_at old.decisions n) fs)) ∙ ap (map within) more in
     subst (AreChildren (formulas_of new) cs (xs ++ record { context = context; list = o } ∷ [])) whole pushed
 
 -- lists that aren't false

@@ -22,7 +22,7 @@ import time
 from pathlib import Path
 
 HERE = Path(__file__).resolve().parent
-PROOFS = ["semaphore2", "semaphore4", "semaphore6", "filter3", "dekker"]
+PROOFS = ["semaphore2", "semaphore4", "semaphore6", "children5", "filter3", "dekker"]
 TREES = [
     "case 1 { linear [1*1, 2*1] absurd absurd }",
     "linear [1*1, 2*1]",

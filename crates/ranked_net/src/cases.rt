@@ -43,6 +43,14 @@ fn drop_case(alloc: Global, node: &Node, next: &Node) -> Result<Case, Memory>
     })
 }
 
+/// Two forms, copied. What a function holds at several ends is dear to prove, so a pair is made by one call.
+fn copied_pair(alloc: Global, first: &Lin, second: &Lin) -> Result<(Lin, Lin), Memory>
+    ensures { IfOk result (λ p. p ≡ (first.now, second.now)) }
+{
+    let first = first.copy(alloc)?;
+    Ok((first, second.copy(alloc)?))
+}
+
 /// Neither base nor top is raised.
 fn push_kept(
     alloc: Global,
@@ -52,10 +60,8 @@ fn push_kept(
 ) -> Result<(), Memory>
     ensures { OnOk result (falls.new.items ≡ falls.old.items ++ kept_pairs (plain_node node.now) (plain_node next.now)) }
 {
-    let base = (next.base.copy(alloc)?, node.base.copy(alloc)?);
-    falls.push(base)?;
-    let top = (next.top.copy(alloc)?, node.top.copy(alloc)?);
-    falls.push(top)?;
+    falls.push(copied_pair(alloc, &next.base, &node.base)?)?;
+    falls.push(copied_pair(alloc, &next.top, &node.top)?)?;
     Ok(())
 }
 
@@ -91,7 +97,7 @@ fn inner_case(alloc: Global, node: &Node, next: &Node) -> Result<Case, Memory>
 fn stay_case(alloc: Global, node: &Node) -> Result<Case, Memory>
     ensures { IfOk result (λ c. plain_case c ≡ case_stay (plain_node node.now)) }
 {
-    let fall = (node.delay.copy(alloc)?, node.delay.copy(alloc)?);
+    let fall = copied_pair(alloc, &node.delay, &node.delay)?;
     let mut falls = vec![in alloc; fall]?;
     push_kept(alloc, node, node, &mut falls)?;
     Ok(Case {

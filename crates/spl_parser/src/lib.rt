@@ -7,6 +7,7 @@ mod item;
 pub mod laws;
 mod limits;
 mod lists;
+mod made;
 mod program;
 mod raw;
 mod sign;

@@ -10,6 +10,7 @@ ghost use Rattle.spl_parser.specs.ProgramTree.{action_view};
 ghost use Rattle.spl_parser.specs.Statements.{right_side_of, listed_of, all_assigned_of};
 ghost use Rattle.spl_parser.specs.Programs.{value_of, usual};
 
+use crate::made::one;
 use crate::raw::RawKind;
 use expression_parser::{LEVELS, RawExpr, expression};
 use st_reading::{Mark, ParseFault, RawName, advance, ahead, expect, is, name};
@@ -58,10 +59,9 @@ fn listed_names<'a>(alloc: Global, tokens: &mut Tokens<'a>) -> Result<Vec<RawNam
     ensures shrinks { size (stream tokens.new) ≤ size (stream tokens.old) }
 {
     let first = name(tokens)?;
+    let mut names = one(alloc, first)?;
     expect(tokens, Mark::Comma)?;
     let second = name(tokens)?;
-    let mut names = Vec::new(alloc);
-    names.push(first)?;
     names.push(second)?;
     let names = further_names(names, tokens)?;
     expect(tokens, Mark::Close)?;
@@ -92,10 +92,9 @@ fn listed_values<'a>(alloc: Global, tokens: &mut Tokens<'a>) -> Result<Vec<RawEx
     ensures shrinks { size (stream tokens.new) ≤ size (stream tokens.old) }
 {
     let first = value(alloc, tokens)?;
+    let mut values = one(alloc, first)?;
     expect(tokens, Mark::Comma)?;
     let second = value(alloc, tokens)?;
-    let mut values = Vec::new(alloc);
-    values.push(first)?;
     values.push(second)?;
     let values = further_values(alloc, values, tokens)?;
     expect(tokens, Mark::Close)?;

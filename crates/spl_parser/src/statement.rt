@@ -1,21 +1,22 @@
 //! Statements and bodies. `count` is the number of statements so far, `room` how many more may stand round the statement
 //! that is read: the recursion ends since it falls. The statements of a list are read by a loop.
 
-ghost use Rattle.std.specs.Prelude.{◌≡◌, ℕ, ◌≤◌};
+ghost use Rattle.std.specs.Prelude.{◌≡◌, ℕ, ◌≤◌, true};
 ghost use Rattle.st_tokens.specs.Stream.{stream};
 ghost use Rattle.st_reading.specs.declared.mark.Mark.TheVariants as marks;
-ghost use Rattle.st_reading.specs.Reading.{Reads, size, linked};
+ghost use Rattle.st_reading.specs.Reading.{Reads, size, linked, expected, then_reads};
 ghost use Rattle.st_reading.specs.Faults.{see, name_view};
 ghost use Rattle.spl_parser.specs.Begun.{begun_view, fresh};
 ghost use Rattle.spl_parser.specs.Item.{item_view};
-ghost use Rattle.spl_parser.specs.ProgramTree.{statement_view, statement_views, action_view, label_view, body_view, body_views, option_branch};
-ghost use Rattle.spl_parser.specs.Statements.{sequence_of, selection_of, item_of, rest_of_body, body_of, child_of, children_of, branch_of, conditional_of, action_of, bare_of, named_of, assigned_of, statement_of};
+ghost use Rattle.spl_parser.specs.ProgramTree.{statement_view, statement_views, action_view, label_view, body_view, body_views, option_branch, while_do, forever, block, select, cooperate, group, statements, bodies};
+ghost use Rattle.spl_parser.specs.Statements.{sequence_of, selection_of, item_of, rest_of_body, body_of, child_of, children_of, branch_of, conditional_of, action_of, bare_of, named_of, assigned_of, statement_of, doing, enclosed};
 ghost use Rattle.spl_parser.specs.Programs.{value_of, lower_of, usual};
 
 use crate::begun::{Begun, front_place, goes_on};
 use crate::item::Item;
 use crate::limits::STATEMENTS;
 use crate::lists::{all_assigned, right_side, value};
+use crate::made::one;
 use crate::raw::{RawBody, RawKind, RawStatement};
 use crate::sign::{Start, start_of};
 use st_reading::{
@@ -67,6 +68,21 @@ pub fn inside<'a>(
     }
     *count += 1;
     statement(alloc, room - 1, begun, count, tokens)
+}
+
+/// A statement inside others, of which nothing was read before.
+#[cycle(statement)]
+fn anew<'a>(
+    alloc: Global,
+    room: u32,
+    grouped: bool,
+    count: &mut u32,
+    tokens: &mut Tokens<'a>,
+) -> Result<RawStatement<'a>, ParseFault>
+    ensures reads { Reads see (λ x. (statement_view x, count.new)) result (stream tokens.new) (lower_of usual room (fresh grouped) count.old (stream tokens.old)) }
+    ensures shrinks { size (stream tokens.new) ≤ size (stream tokens.old) }
+{
+    inside(alloc, room, Begun::Fresh(grouped), count, tokens)
 }
 
 /// A statement, of which something may have been read before.
@@ -169,41 +185,132 @@ fn action<'a>(
         Start::Request => Ok(RawKind::Request(st_reading::name(tokens)?)),
         Start::Release => Ok(RawKind::Release(st_reading::name(tokens)?)),
         Start::If => conditional(alloc, room, grouped, count, tokens),
-        Start::While => {
-            let test = value(alloc, tokens)?;
-            expect(tokens, Mark::Do)?;
-            let body = inside(alloc, room, Begun::Fresh(false), count, tokens)?;
-            let body = Box::new(alloc, body)?;
-            Ok(RawKind::While { test, body })
-        }
-        Start::Loop => {
-            expect(tokens, Mark::Forever)?;
-            expect(tokens, Mark::Do)?;
-            let body = inside(alloc, room, Begun::Fresh(false), count, tokens)?;
-            Ok(RawKind::Loop(Box::new(alloc, body)?))
-        }
-        Start::Block => {
-            let statements = sequence(alloc, room, grouped, count, tokens)?;
-            expect(tokens, Mark::CloseBlock)?;
-            Ok(RawKind::Block(statements))
-        }
-        Start::Select => {
-            expect(tokens, Mark::OpenBlock)?;
-            let branches = selection(alloc, room, count, tokens)?;
-            expect(tokens, Mark::CloseBlock)?;
-            Ok(RawKind::Select(branches))
-        }
-        Start::Cooperate => {
-            let bodies = children(alloc, room, count, tokens)?;
-            expect(tokens, Mark::Coend)?;
-            Ok(RawKind::Cooperate(bodies))
-        }
-        Start::Group => {
-            let statements = sequence(alloc, room, true, count, tokens)?;
-            expect(tokens, Mark::CloseGroup)?;
-            Ok(RawKind::Group(statements))
-        }
+        Start::While => while_loop(alloc, room, count, tokens),
+        Start::Loop => endless_loop(alloc, room, count, tokens),
+        Start::Block => block(alloc, room, grouped, count, tokens),
+        Start::Select => select(alloc, room, count, tokens),
+        Start::Cooperate => cooperation(alloc, room, count, tokens),
+        Start::Group => group(alloc, room, count, tokens),
     }
+}
+
+/// A statement inside others, as the one round it holds it.
+#[cycle(statement)]
+fn boxed<'a>(
+    alloc: Global,
+    room: u32,
+    grouped: bool,
+    count: &mut u32,
+    tokens: &mut Tokens<'a>,
+) -> Result<Box<RawStatement<'a>>, ParseFault>
+    ensures reads { Reads see (λ x. (statement_view x.value, count.new)) result (stream tokens.new) (lower_of usual room (fresh grouped) count.old (stream tokens.old)) }
+    ensures shrinks { size (stream tokens.new) ≤ size (stream tokens.old) }
+{
+    let statement = anew(alloc, room, grouped, count, tokens)?;
+    Ok(Box::new(alloc, statement)?)
+}
+
+/// A loop with a test, behind `while`.
+#[cycle(statement)]
+fn while_loop<'a>(
+    alloc: Global,
+    room: u32,
+    count: &mut u32,
+    tokens: &mut Tokens<'a>,
+) -> Result<RawKind<'a>, ParseFault>
+    ensures reads { Reads see (λ x. (action_view x, count.new)) result (stream tokens.new) (then_reads (value_of usual) (λ e. doing (value_of usual) (lower_of usual room) (while_do e) count.old) (stream tokens.old)) }
+    ensures shrinks { size (stream tokens.new) ≤ size (stream tokens.old) }
+{
+    let test = value(alloc, tokens)?;
+    expect(tokens, Mark::Do)?;
+    let body = boxed(alloc, room, false, count, tokens)?;
+    Ok(RawKind::While { test, body })
+}
+
+/// A loop without end, behind `loop`.
+#[cycle(statement)]
+fn endless_loop<'a>(
+    alloc: Global,
+    room: u32,
+    count: &mut u32,
+    tokens: &mut Tokens<'a>,
+) -> Result<RawKind<'a>, ParseFault>
+    ensures reads { Reads see (λ x. (action_view x, count.new)) result (stream tokens.new) (then_reads (expected marks.Forever) (λ m. doing (value_of usual) (lower_of usual room) forever count.old) (stream tokens.old)) }
+    ensures shrinks { size (stream tokens.new) ≤ size (stream tokens.old) }
+{
+    expect(tokens, Mark::Forever)?;
+    expect(tokens, Mark::Do)?;
+    Ok(RawKind::Loop(boxed(alloc, room, false, count, tokens)?))
+}
+
+/// A block, behind `[`.
+#[cycle(statement)]
+#[tactic(auto, using(crate::proofs::StatementRows::actions))]
+fn block<'a>(
+    alloc: Global,
+    room: u32,
+    grouped: bool,
+    count: &mut u32,
+    tokens: &mut Tokens<'a>,
+) -> Result<RawKind<'a>, ParseFault>
+    ensures reads { Reads see (λ x. (action_view x, count.new)) result (stream tokens.new) (enclosed (λ xs. block (statements xs)) marks.CloseBlock (sequence_of (value_of usual) (lower_of usual room) grouped count.old) (stream tokens.old)) }
+    ensures shrinks { size (stream tokens.new) ≤ size (stream tokens.old) }
+{
+    let statements = sequence(alloc, room, grouped, count, tokens)?;
+    expect(tokens, Mark::CloseBlock)?;
+    Ok(RawKind::Block(statements))
+}
+
+/// A group, behind `<`.
+#[cycle(statement)]
+#[tactic(auto, using(crate::proofs::StatementRows::actions))]
+fn group<'a>(
+    alloc: Global,
+    room: u32,
+    count: &mut u32,
+    tokens: &mut Tokens<'a>,
+) -> Result<RawKind<'a>, ParseFault>
+    ensures reads { Reads see (λ x. (action_view x, count.new)) result (stream tokens.new) (enclosed (λ xs. group (statements xs)) marks.CloseGroup (sequence_of (value_of usual) (lower_of usual room) true count.old) (stream tokens.old)) }
+    ensures shrinks { size (stream tokens.new) ≤ size (stream tokens.old) }
+{
+    let statements = sequence(alloc, room, true, count, tokens)?;
+    expect(tokens, Mark::CloseGroup)?;
+    Ok(RawKind::Group(statements))
+}
+
+/// A selection with its brackets.
+#[cycle(statement)]
+#[tactic(auto, using(crate::proofs::StatementRows::actions))]
+fn select<'a>(
+    alloc: Global,
+    room: u32,
+    count: &mut u32,
+    tokens: &mut Tokens<'a>,
+) -> Result<RawKind<'a>, ParseFault>
+    ensures reads { Reads see (λ x. (action_view x, count.new)) result (stream tokens.new) (then_reads (expected marks.OpenBlock) (λ m. enclosed (λ xs. select (statements xs)) marks.CloseBlock (selection_of (value_of usual) (lower_of usual room) count.old)) (stream tokens.old)) }
+    ensures shrinks { size (stream tokens.new) ≤ size (stream tokens.old) }
+{
+    expect(tokens, Mark::OpenBlock)?;
+    let branches = selection(alloc, room, count, tokens)?;
+    expect(tokens, Mark::CloseBlock)?;
+    Ok(RawKind::Select(branches))
+}
+
+/// A cooperation, behind its first token.
+#[cycle(statement)]
+#[tactic(auto, using(crate::proofs::StatementRows::actions))]
+fn cooperation<'a>(
+    alloc: Global,
+    room: u32,
+    count: &mut u32,
+    tokens: &mut Tokens<'a>,
+) -> Result<RawKind<'a>, ParseFault>
+    ensures reads { Reads see (λ x. (action_view x, count.new)) result (stream tokens.new) (enclosed (λ xs. cooperate (bodies xs)) marks.Coend (children_of (value_of usual) (lower_of usual room) count.old) (stream tokens.old)) }
+    ensures shrinks { size (stream tokens.new) ≤ size (stream tokens.old) }
+{
+    let bodies = children(alloc, room, count, tokens)?;
+    expect(tokens, Mark::Coend)?;
+    Ok(RawKind::Cooperate(bodies))
 }
 
 /// A conditional, behind `if`.
@@ -221,10 +328,9 @@ fn conditional<'a>(
 {
     let test = value(alloc, tokens)?;
     expect(tokens, Mark::Then)?;
-    let yes = inside(alloc, room, Begun::Fresh(grouped), count, tokens)?;
+    let yes = boxed(alloc, room, grouped, count, tokens)?;
     let no = branch(alloc, room, grouped, count, tokens)?;
     expect(tokens, Mark::Fi)?;
-    let yes = Box::new(alloc, yes)?;
     Ok(RawKind::If { test, yes, no })
 }
 
@@ -245,8 +351,7 @@ fn branch<'a>(
         return Ok(None);
     }
     advance(tokens);
-    let no = inside(alloc, room, Begun::Fresh(grouped), count, tokens)?;
-    Ok(Some(Box::new(alloc, no)?))
+    Ok(Some(boxed(alloc, room, grouped, count, tokens)?))
 }
 
 /// Further statements behind a mark.
@@ -265,7 +370,7 @@ fn further<'a>(
 {
     'chain: while is(ahead(tokens), mark) {
         advance(tokens);
-        let next = inside(alloc, room, Begun::Fresh(grouped), count, tokens)?;
+        let next = anew(alloc, room, grouped, count, tokens)?;
         statements.push(next)?;
     }
     Ok(statements)
@@ -284,9 +389,8 @@ fn sequence<'a>(
     ensures reads { Reads see (λ v. (statement_views v.items, count.new)) result (stream tokens.new) (sequence_of (value_of usual) (lower_of usual room) grouped count.old (stream tokens.old)) }
     ensures shrinks { size (stream tokens.new) ≤ size (stream tokens.old) }
 {
-    let first = inside(alloc, room, Begun::Fresh(grouped), count, tokens)?;
-    let mut statements = Vec::new(alloc);
-    statements.push(first)?;
+    let first = anew(alloc, room, grouped, count, tokens)?;
+    let statements = one(alloc, first)?;
     further(
         alloc,
         room,
@@ -310,11 +414,10 @@ fn selection<'a>(
     ensures reads { Reads see (λ v. (statement_views v.items, count.new)) result (stream tokens.new) (selection_of (value_of usual) (lower_of usual room) count.old (stream tokens.old)) }
     ensures shrinks { size (stream tokens.new) ≤ size (stream tokens.old) }
 {
-    let first = inside(alloc, room, Begun::Fresh(false), count, tokens)?;
+    let first = anew(alloc, room, false, count, tokens)?;
+    let mut branches = one(alloc, first)?;
     expect(tokens, Mark::Either)?;
-    let second = inside(alloc, room, Begun::Fresh(false), count, tokens)?;
-    let mut branches = Vec::new(alloc);
-    branches.push(first)?;
+    let second = anew(alloc, room, false, count, tokens)?;
     branches.push(second)?;
     further(alloc, room, false, Mark::Either, branches, count, tokens)
 }
@@ -332,7 +435,7 @@ fn item<'a>(
     ensures shrinks { size (stream tokens.new) ≤ size (stream tokens.old) }
 {
     if !is_name(ahead(tokens)) {
-        let statement = inside(alloc, room, Begun::Fresh(false), count, tokens)?;
+        let statement = anew(alloc, room, false, count, tokens)?;
         return Ok(Item::Statement(statement));
     }
     let name = name_ahead(tokens);
@@ -393,9 +496,8 @@ pub fn body<'a>(
     ensures reads { Reads see (λ x. (body_view x, count.new)) result (stream tokens.new) (body_of (value_of usual) (lower_of usual room) count.old (stream tokens.old)) }
     ensures shrinks { size (stream tokens.new) ≤ size (stream tokens.old) }
 {
-    let first = inside(alloc, room, Begun::Fresh(false), count, tokens)?;
-    let mut statements = Vec::new(alloc);
-    statements.push(first)?;
+    let first = anew(alloc, room, false, count, tokens)?;
+    let statements = one(alloc, first)?;
     rest_of_body(alloc, room, statements, count, tokens)
 }
 
@@ -448,10 +550,9 @@ fn children<'a>(
     ensures shrinks { size (stream tokens.new) ≤ size (stream tokens.old) }
 {
     let first = child(alloc, room, count, tokens)?;
+    let mut bodies = one(alloc, first)?;
     expect(tokens, Mark::Bars)?;
     let second = child(alloc, room, count, tokens)?;
-    let mut bodies = Vec::new(alloc);
-    bodies.push(first)?;
     bodies.push(second)?;
     further_children(alloc, room, bodies, count, tokens)
 }

@@ -1,7 +1,7 @@
 //! The paths of a group. A path chooses a branch at each conditional that it meets; paths are ordered by their choices,
 //! the true branch before the false one, the first choice weighing most.
 
-ghost use Rattle.std.specs.Prelude.{◌≡◌, IfOk, OnOk, length, min, map, ◌++◌, ◌∷◌, flat_map};
+ghost use Rattle.std.specs.Prelude.{◌≡◌, IfOk, OnOk, length, min, map, ◌++◌, [], ◌∷◌, flat_map};
 ghost use Rattle.st_program.specs.Plain.{plain_inner, plain_pieces};
 ghost use Rattle.st_program.specs.Groups.{paths, paths_along};
 ghost use Rattle.spl_typer.specs.GroupViews.{link_view, path_view, path_views};
@@ -92,6 +92,14 @@ fn product<'a>(
     Ok(out)
 }
 
+/// One path, of one link.
+fn one_path<'a>(alloc: Global, link: Link<'a>) -> Result<Vec<Vec<Link<'a>>>, Memory>
+    ensures { IfOk result (λ v. path_views v.items ≡ (link_view link.entry ∷ []) ∷ []) }
+{
+    let path = vec![in alloc; link]?;
+    Ok(vec![in alloc; path]?)
+}
+
 /// The paths through a piece.
 #[cycle(paths)]
 #[tactic(auto, using(crate::proofs::Pieces::pieces))]
@@ -100,14 +108,8 @@ fn paths_of<'a>(alloc: Global, piece: &'a Inner) -> Result<Vec<Vec<Link<'a>>>, M
 {
     match piece {
         Inner::Skip => Ok(vec![in alloc; Vec::new(alloc)]?),
-        Inner::Assign(changes) => {
-            let path = vec![in alloc; Link::Given(changes)]?;
-            Ok(vec![in alloc; path]?)
-        }
-        Inner::Await(test) => {
-            let path = vec![in alloc; Link::Tested(test, true)]?;
-            Ok(vec![in alloc; path]?)
-        }
+        Inner::Assign(changes) => one_path(alloc, Link::Given(changes)),
+        Inner::Await(test) => one_path(alloc, Link::Tested(test, true)),
         Inner::If { test, yes, no } => {
             let yes = paths_along(alloc, yes)?;
             let no = paths_along(alloc, no)?;

@@ -1,12 +1,14 @@
 //! Statements.
 
 ghost use Rattle.expression_typer.specs.declared.fault.TypeFault.{TypeFault};
-ghost use Rattle.std.specs.Prelude.{◌≡◌, ◌++◌, [], ◌∷◌, true, false, Some, None, Ok, ℕ, Result, map, is_some};
+ghost use Rattle.std.specs.Prelude.{◌≡◌, ◌++◌, [], ◌∷◌, true, false, Some, None, Ok, ℕ, Result, map, is_some, IfOk};
 ghost use Rattle.st_form.specs.Formula.{truth_value};
 ghost use Rattle.st_form.specs.Plain.{plain};
 ghost use Rattle.st_program.specs.Plain.{plain_stmt, plain_kind, plain_stmts, plain_children, plain_child, plain_pieces};
 ghost use Rattle.st_program.specs.Tree as tree;
-ghost use Rattle.spl_parser.specs.ProgramTree.{statement_view, statement_views, statements, action_view, body_view, body_views, bodies, label_view, option_branch};
+ghost use Rattle.spl_parser.specs.ProgramTree.{statement_view, statement_views, statements, action_view, body_view, body_views, bodies, label_view, option_branch, assign, assign_all, await, request, release, group};
+ghost use Rattle.expression_parser.specs.ExpressionTree.{expr_view};
+ghost use Rattle.st_reading.specs.Faults.{name_view};
 ghost use Rattle.expression_typer.specs.Answers.{Gives};
 ghost use Rattle.expression_typer.specs.Scope.{scope_view};
 ghost use Rattle.spl_typer.specs.Walk.{state, State, Makes, Made, Moves, give};
@@ -20,10 +22,10 @@ use crate::parts::{assigned, counter, right_side, target, tested};
 use crate::shapes::{some_statement, something, two_bodies, two_statements};
 use crate::walk::{Mark, Walk};
 use expression_typer::{Known, TypeFault, truth};
-use spl_parser::{RawBody, RawKind, RawName, RawStatement};
+use spl_parser::{RawBody, RawExpr, RawKind, RawName, RawStatement};
 use st_form::Form;
 use st_program::{Child, Kind, Stmt};
-use std::alloc::Global;
+use std::alloc::{AllocError, Global};
 
 /// Where a statement stands: the location that it takes over, and whether a branch of a selection begins with it.
 #[derive(Clone, Copy, Debug)]
@@ -84,6 +86,113 @@ fn no_loop(head: bool, place: u64) -> Result<(), TypeFault>
     }
 }
 
+/// A statement in a box. Who makes a tree holds its parts so, since each of its ends drops what it holds.
+fn in_box(alloc: Global, stmt: Stmt) -> Result<Box<Stmt>, AllocError>
+    ensures { IfOk result (λ b. b.value ≡ stmt) }
+{
+    Ok(Box::new(alloc, stmt)?)
+}
+
+/// An assignment to one variable.
+#[tactic(auto, using(st_program::proofs::Rows::kinds))]
+fn assign_one<'a>(
+    alloc: Global,
+    scope: &[Known<'a>],
+    name: &RawName<'a>,
+    e: &RawExpr<'a>,
+) -> Result<Kind, TypeFault>
+    ensures { (st : State) → Makes plain_kind result st (acting (scope_view scope.now) 0 false 0 (assign (name_view name.now) (expr_view e.now)) st) }
+{
+    let known = target(scope, name)?;
+    let change = right_side(alloc, scope, &known, e)?;
+    Ok(Kind::Assign(vec![in alloc; change]?))
+}
+
+/// The pieces of a group, and its weight.
+#[tactic(auto, using(st_program::proofs::Rows::kinds))]
+fn group<'a>(
+    alloc: Global,
+    scope: &[Known<'a>],
+    walk: &mut Walk<'a>,
+    place: u64,
+    items: &[RawStatement<'a>],
+) -> Result<Kind, TypeFault>
+    ensures { Makes plain_kind result (state walk.new) (acting (scope_view scope.now) 0 false place (group (statements (statement_views items.now))) (state walk.old)) }
+{
+    something(some_statement(items), place)?;
+    let pieces = pieces_along(alloc, scope, items)?;
+    let weight = grouped(alloc, place, &pieces, walk.weight)?;
+    walk.weigh(weight);
+    Ok(Kind::Group(pieces))
+}
+
+/// An assignment to several variables.
+#[tactic(auto, using(st_program::proofs::Rows::kinds))]
+fn assign_all<'a>(
+    alloc: Global,
+    scope: &[Known<'a>],
+    names: &[RawName<'a>],
+    list: u64,
+    values: &[RawExpr<'a>],
+) -> Result<Kind, TypeFault>
+    ensures { (st : State) → Makes plain_kind result st (acting (scope_view scope.now) 0 false 0 (assign_all (map name_view names.now) list (map expr_view values.now)) st) }
+{
+    Ok(Kind::Assign(assigned(alloc, scope, names, list, values)?))
+}
+
+/// A statement that waits.
+#[tactic(auto, using(st_program::proofs::Rows::kinds))]
+fn awaiting<'a>(alloc: Global, scope: &[Known<'a>], e: &RawExpr<'a>) -> Result<Kind, TypeFault>
+    ensures { (st : State) → Makes plain_kind result st (acting (scope_view scope.now) 0 false 0 (await (expr_view e.now)) st) }
+{
+    Ok(Kind::Await(tested(alloc, scope, e)?))
+}
+
+/// A request.
+#[tactic(auto, using(st_program::proofs::Rows::kinds))]
+fn requesting<'a>(scope: &[Known<'a>], name: &RawName<'a>) -> Result<Kind, TypeFault>
+    ensures { (st : State) → Makes plain_kind result st (acting (scope_view scope.now) 0 false 0 (request (name_view name.now)) st) }
+{
+    Ok(Kind::Request(counter(scope, name)?))
+}
+
+/// A release.
+#[tactic(auto, using(st_program::proofs::Rows::kinds))]
+fn releasing<'a>(scope: &[Known<'a>], name: &RawName<'a>) -> Result<Kind, TypeFault>
+    ensures { (st : State) → Makes plain_kind result st (acting (scope_view scope.now) 0 false 0 (release (name_view name.now)) st) }
+{
+    Ok(Kind::Release(counter(scope, name)?))
+}
+
+/// A conditional with one branch.
+fn if_then(alloc: Global, test: Form, yes: Stmt) -> Result<Kind, TypeFault>
+    ensures { (st : State) → Makes plain_kind result st (give (tree.if_then (plain test) (plain_stmt yes)) st) }
+{
+    let yes = in_box(alloc, yes)?;
+    Ok(Kind::If {
+        test,
+        yes,
+        no: None,
+    })
+}
+
+/// A loop.
+fn while_do(alloc: Global, test: Form, body: Stmt) -> Result<Kind, TypeFault>
+    ensures { (st : State) → Makes plain_kind result st (give (tree.while_do (plain test) (plain_stmt body)) st) }
+{
+    let body = in_box(alloc, body)?;
+    Ok(Kind::While { test, body })
+}
+
+/// A conditional with two branches.
+fn both(alloc: Global, test: Form, yes: Stmt, no: Stmt) -> Result<Kind, TypeFault>
+    ensures { (st : State) → Makes plain_kind result st (give (tree.if_else (plain test) (plain_stmt yes) (plain_stmt no)) st) }
+{
+    let yes = in_box(alloc, yes)?;
+    let no = Some(in_box(alloc, no)?);
+    Ok(Kind::If { test, yes, no })
+}
+
 /// A conditional whose second branch was typed.
 fn if_else(
     alloc: Global,
@@ -95,11 +204,7 @@ fn if_else(
         → Makes plain_kind result st (with_else (plain test) (plain_stmt yes) r) }
 {
     match no {
-        Ok(no) => Ok(Kind::If {
-            test,
-            yes: Box::new(alloc, yes)?,
-            no: Some(Box::new(alloc, no)?),
-        }),
+        Ok(no) => both(alloc, test, yes, no),
         Err(fault) => Err(fault),
     }
 }
@@ -139,19 +244,15 @@ fn acting<'a>(
         RawKind::Skip => Ok(Kind::Skip),
         RawKind::Critical => Ok(Kind::Critical),
         RawKind::Noncritical => Ok(Kind::Noncritical),
-        RawKind::Assign(name, e) => {
-            let known = target(scope, name)?;
-            let change = right_side(alloc, scope, &known, e)?;
-            Ok(Kind::Assign(vec![in alloc; change]?))
-        }
+        RawKind::Assign(name, e) => assign_one(alloc, scope, name, e),
         RawKind::AssignAll {
             targets,
             list,
             values,
-        } => Ok(Kind::Assign(assigned(alloc, scope, targets, *list, values)?)),
-        RawKind::Await(e) => Ok(Kind::Await(tested(alloc, scope, e)?)),
-        RawKind::Request(name) => Ok(Kind::Request(counter(scope, name)?)),
-        RawKind::Release(name) => Ok(Kind::Release(counter(scope, name)?)),
+        } => assign_all(alloc, scope, targets, *list, values),
+        RawKind::Await(e) => awaiting(alloc, scope, e),
+        RawKind::Request(name) => requesting(scope, name),
+        RawKind::Release(name) => releasing(scope, name),
         RawKind::If {
             test,
             yes,
@@ -159,11 +260,7 @@ fn acting<'a>(
         } => {
             let test = tested(alloc, scope, test)?;
             let yes = statement(alloc, scope, walk, fresh(), yes)?;
-            Ok(Kind::If {
-                test,
-                yes: Box::new(alloc, yes)?,
-                no: None,
-            })
+            if_then(alloc, test, yes)
         }
         RawKind::If {
             test,
@@ -179,18 +276,12 @@ fn acting<'a>(
             no_loop(head, place)?;
             let test = tested(alloc, scope, test)?;
             let body = statement(alloc, scope, walk, fresh(), body)?;
-            Ok(Kind::While {
-                test,
-                body: Box::new(alloc, body)?,
-            })
+            while_do(alloc, test, body)
         }
         RawKind::Loop(body) => {
             no_loop(head, place)?;
             let body = statement(alloc, scope, walk, fresh(), body)?;
-            Ok(Kind::While {
-                test: truth(true),
-                body: Box::new(alloc, body)?,
-            })
+            while_do(alloc, truth(true), body)
         }
         RawKind::Block(items) => {
             something(some_statement(items), place)?;
@@ -207,13 +298,7 @@ fn acting<'a>(
             something(two_bodies(bodies), place)?;
             Ok(Kind::Cooperate(inside(alloc, scope, walk, bodies)?))
         }
-        RawKind::Group(items) => {
-            something(some_statement(items), place)?;
-            let pieces = pieces_along(alloc, scope, items)?;
-            let weight = grouped(alloc, place, &pieces, walk.weight)?;
-            walk.weigh(weight);
-            Ok(Kind::Group(pieces))
-        }
+        RawKind::Group(items) => { group(alloc, scope, walk, place, items) }
     }
 }
 

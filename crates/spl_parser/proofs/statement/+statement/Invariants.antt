@@ -13,49 +13,73 @@ abbrev pub decreases-inside : goal.decreases-inside
 decreases-inside l = 16 * l.room + 0
 
 abbrev pub decreases-further : goal.decreases-further
-decreases-further l = 16 * l.room + 1
+decreases-further l = 16 * l.room + 2
 
 abbrev pub decreases-branch : goal.decreases-branch
-decreases-branch l = 16 * l.room + 1
+decreases-branch l = 16 * l.room + 3
 
 abbrev pub decreases-item : goal.decreases-item
-decreases-item l = 16 * l.room + 1
+decreases-item l = 16 * l.room + 2
 
 abbrev pub decreases-sequence : goal.decreases-sequence
-decreases-sequence l = 16 * l.room + 2
+decreases-sequence l = 16 * l.room + 3
 
 abbrev pub decreases-selection : goal.decreases-selection
-decreases-selection l = 16 * l.room + 2
+decreases-selection l = 16 * l.room + 3
 
 abbrev pub decreases-conditional : goal.decreases-conditional
-decreases-conditional l = 16 * l.room + 2
+decreases-conditional l = 16 * l.room + 4
 
 abbrev pub decreases-rest_of_body : goal.decreases-rest_of_body
-decreases-rest_of_body l = 16 * l.room + 2
+decreases-rest_of_body l = 16 * l.room + 3
 
 abbrev pub decreases-body : goal.decreases-body
-decreases-body l = 16 * l.room + 3
+decreases-body l = 16 * l.room + 4
 
 abbrev pub decreases-child : goal.decreases-child
-decreases-child l = 16 * l.room + 4
+decreases-child l = 16 * l.room + 5
 
 abbrev pub decreases-further_children : goal.decreases-further_children
-decreases-further_children l = 16 * l.room + 5
+decreases-further_children l = 16 * l.room + 6
 
 abbrev pub decreases-children : goal.decreases-children
-decreases-children l = 16 * l.room + 6
+decreases-children l = 16 * l.room + 7
+
+abbrev pub decreases-anew : goal.decreases-anew
+decreases-anew l = 16 * l.room + 1
+
+abbrev pub decreases-boxed : goal.decreases-boxed
+decreases-boxed l = 16 * l.room + 2
+
+abbrev pub decreases-while_loop : goal.decreases-while_loop
+decreases-while_loop l = 16 * l.room + 3
+
+abbrev pub decreases-endless_loop : goal.decreases-endless_loop
+decreases-endless_loop l = 16 * l.room + 3
+
+abbrev pub decreases-block : goal.decreases-block
+decreases-block l = 16 * l.room + 4
+
+abbrev pub decreases-group : goal.decreases-group
+decreases-group l = 16 * l.room + 4
+
+abbrev pub decreases-select : goal.decreases-select
+decreases-select l = 16 * l.room + 4
+
+abbrev pub decreases-cooperation : goal.decreases-cooperation
+decreases-cooperation l = 16 * l.room + 8
 
 abbrev pub decreases-action : goal.decreases-action
-decreases-action l = 16 * l.room + 7
+decreases-action l = 16 * l.room + 9
 
 abbrev pub decreases-bare : goal.decreases-bare
-decreases-bare l = 16 * l.room + 8
+decreases-bare l = 16 * l.room + 10
 
 abbrev pub decreases-named : goal.decreases-named
-decreases-named l = 16 * l.room + 9
+decreases-named l = 16 * l.room + 11
 
 abbrev pub decreases-statement : goal.decreases-statement
-decreases-statement l = 16 * l.room + 10
+decreases-statement l = 16 * l.room + 12
 
 abbrev pub invariant-further-chain : goal.invariant-further-chain
 invariant-further-chain l = Running (only l.mark) (counting (λ o. lower_of usual l.room (fresh l.grouped))) gives (statement_views l.statements.items, l.count) (stream l.tokens) (stream l.fn.tokens) (linked l.mark (lower_of usual l.room (fresh l.grouped)) (statement_views l.fn.statements.items, l.fn.count) (stream l.fn.tokens))

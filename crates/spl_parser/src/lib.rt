@@ -2,6 +2,7 @@
 #![tactic(auto)]
 
 mod begun;
+mod bodies;
 mod declaration;
 mod item;
 pub mod laws;

@@ -10,10 +10,10 @@ ghost use Rattle.spl_parser.specs.Programs.{totals, process_name, process_of, pr
 ghost use Rattle.spl_parser.specs.Parsing.{Parses, parsed};
 ghost use Rattle.spl_parser.specs.Theorems.{IsReading};
 
+use crate::bodies::body;
 use crate::declaration::declarations;
 use crate::limits::{PROCESSES, ROUND};
 use crate::raw::{RawProcess, RawProgram};
-use crate::statement::body;
 use st_reading::{
     Mark, ParseFault, RawName, advance, ahead, at_end, expect, is, is_name, name_ahead, place_of,
     refusal,

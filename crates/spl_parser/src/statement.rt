@@ -1,4 +1,4 @@
-//! Statements and bodies. `count` is the number of statements so far, `room` how many more may stand round the statement
+//! Statements. `count` is the number of statements so far, `room` how many more may stand round the statement
 //! that is read: the recursion ends since it falls. The statements of a list are read by a loop.
 
 ghost use Rattle.std.specs.Prelude.{◌≡◌, ℕ, ◌≤◌, true};
@@ -8,16 +8,17 @@ ghost use Rattle.st_reading.specs.Reading.{Reads, size, linked, expected, then_r
 ghost use Rattle.st_reading.specs.Faults.{see, name_view};
 ghost use Rattle.spl_parser.specs.Begun.{begun_view, fresh};
 ghost use Rattle.spl_parser.specs.Item.{item_view};
-ghost use Rattle.spl_parser.specs.ProgramTree.{statement_view, statement_views, action_view, label_view, body_view, body_views, option_branch, while_do, forever, block, select, cooperate, group, statements, bodies};
-ghost use Rattle.spl_parser.specs.Statements.{sequence_of, selection_of, item_of, rest_of_body, body_of, child_of, children_of, branch_of, conditional_of, action_of, bare_of, named_of, assigned_of, statement_of, doing, enclosed};
+ghost use Rattle.spl_parser.specs.ProgramTree.{statement_view, statement_views, action_view, label_view, option_branch, while_do, forever, block, select, cooperate, group, statements, bodies};
+ghost use Rattle.spl_parser.specs.Statements.{sequence_of, selection_of, item_of, children_of, branch_of, conditional_of, action_of, bare_of, named_of, assigned_of, statement_of, doing, enclosed};
 ghost use Rattle.spl_parser.specs.Programs.{value_of, lower_of, usual};
 
 use crate::begun::{Begun, front_place, goes_on};
+use crate::bodies::children;
 use crate::item::Item;
 use crate::limits::STATEMENTS;
 use crate::lists::{all_assigned, right_side, value};
 use crate::made::one;
-use crate::raw::{RawBody, RawKind, RawStatement};
+use crate::raw::{RawKind, RawStatement};
 use crate::sign::{Start, start_of};
 use st_reading::{
     Mark, ParseFault, RawName, advance, ahead, expect, is, is_name, name_ahead, place_of, refusal,
@@ -72,7 +73,7 @@ pub fn inside<'a>(
 
 /// A statement inside others, of which nothing was read before.
 #[cycle(statement)]
-fn anew<'a>(
+pub fn anew<'a>(
     alloc: Global,
     room: u32,
     grouped: bool,
@@ -425,7 +426,7 @@ fn selection<'a>(
 /// What stands behind a `;` in a body. A name may be a label, the label of the end, or the left side of an assignment.
 #[cycle(statement)]
 #[tactic(auto, unfolding(crate::specs::Statements::item_of))]
-fn item<'a>(
+pub fn item<'a>(
     alloc: Global,
     room: u32,
     count: &mut u32,
@@ -451,108 +452,4 @@ fn item<'a>(
     }
     let statement = inside(alloc, room, Begun::AfterLabel(name), count, tokens)?;
     Ok(Item::Statement(statement))
-}
-
-/// The rest of a body, behind some of its statements.
-#[cycle(statement)]
-fn rest_of_body<'a>(
-    alloc: Global,
-    room: u32,
-    mut statements: Vec<RawStatement<'a>>,
-    count: &mut u32,
-    tokens: &mut Tokens<'a>,
-) -> Result<RawBody<'a>, ParseFault>
-    ensures reads { Reads see (λ x. (body_view x, count.new)) result (stream tokens.new) (rest_of_body (value_of usual) (lower_of usual room) (statement_views statements.entry.items, count.old) (stream tokens.old)) }
-    ensures shrinks { size (stream tokens.new) ≤ size (stream tokens.old) }
-{
-    'chain: while is(ahead(tokens), Mark::Semicolon) {
-        advance(tokens);
-        match item(alloc, room, count, tokens)? {
-            Item::Last(name) => {
-                return Ok(RawBody {
-                    statements,
-                    end: Some(name),
-                });
-            }
-            Item::Statement(statement) => statements.push(statement)?,
-        }
-    }
-    expect(tokens, Mark::CloseBlock)?;
-    Ok(RawBody {
-        statements,
-        end: None,
-    })
-}
-
-/// Statements up to a `]`, with the label of their end.
-#[cycle(statement)]
-#[tactic(auto, unfolding(crate::specs::Statements::body_of))]
-pub fn body<'a>(
-    alloc: Global,
-    room: u32,
-    count: &mut u32,
-    tokens: &mut Tokens<'a>,
-) -> Result<RawBody<'a>, ParseFault>
-    ensures reads { Reads see (λ x. (body_view x, count.new)) result (stream tokens.new) (body_of (value_of usual) (lower_of usual room) count.old (stream tokens.old)) }
-    ensures shrinks { size (stream tokens.new) ≤ size (stream tokens.old) }
-{
-    let first = anew(alloc, room, false, count, tokens)?;
-    let statements = one(alloc, first)?;
-    rest_of_body(alloc, room, statements, count, tokens)
-}
-
-/// A child of a cooperation.
-#[cycle(statement)]
-#[tactic(auto, unfolding(crate::specs::Statements::child_of))]
-fn child<'a>(
-    alloc: Global,
-    room: u32,
-    count: &mut u32,
-    tokens: &mut Tokens<'a>,
-) -> Result<RawBody<'a>, ParseFault>
-    ensures reads { Reads see (λ x. (body_view x, count.new)) result (stream tokens.new) (child_of (value_of usual) (lower_of usual room) count.old (stream tokens.old)) }
-    ensures shrinks { size (stream tokens.new) ≤ size (stream tokens.old) }
-{
-    expect(tokens, Mark::OpenBlock)?;
-    body(alloc, room, count, tokens)
-}
-
-/// Further children behind `||`.
-#[cycle(statement)]
-fn further_children<'a>(
-    alloc: Global,
-    room: u32,
-    mut bodies: Vec<RawBody<'a>>,
-    count: &mut u32,
-    tokens: &mut Tokens<'a>,
-) -> Result<Vec<RawBody<'a>>, ParseFault>
-    ensures reads { Reads see (λ v. (body_views v.items, count.new)) result (stream tokens.new) (linked marks.Bars (child_of (value_of usual) (lower_of usual room)) (body_views bodies.entry.items, count.old) (stream tokens.old)) }
-    ensures shrinks { size (stream tokens.new) ≤ size (stream tokens.old) }
-{
-    'chain: while is(ahead(tokens), Mark::Bars) {
-        advance(tokens);
-        let next = child(alloc, room, count, tokens)?;
-        bodies.push(next)?;
-    }
-    Ok(bodies)
-}
-
-/// At least two children with `||` between them.
-#[cycle(statement)]
-#[tactic(auto, unfolding(crate::specs::Statements::children_of))]
-fn children<'a>(
-    alloc: Global,
-    room: u32,
-    count: &mut u32,
-    tokens: &mut Tokens<'a>,
-) -> Result<Vec<RawBody<'a>>, ParseFault>
-    ensures reads { Reads see (λ v. (body_views v.items, count.new)) result (stream tokens.new) (children_of (value_of usual) (lower_of usual room) count.old (stream tokens.old)) }
-    ensures shrinks { size (stream tokens.new) ≤ size (stream tokens.old) }
-{
-    let first = child(alloc, room, count, tokens)?;
-    let mut bodies = one(alloc, first)?;
-    expect(tokens, Mark::Bars)?;
-    let second = child(alloc, room, count, tokens)?;
-    bodies.push(second)?;
-    further_children(alloc, room, bodies, count, tokens)
 }

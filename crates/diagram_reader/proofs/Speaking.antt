@@ -13,7 +13,7 @@ use Rattle.transition_system.specs.Systems.{System}
 use Rattle.temporal_goals.specs.Texts.{PlainDrawnNode, PlainDiagram}
 use Rattle.temporal_goals.specs.declared.diagrams.DiagramKind.{DiagramKind}
 use Rattle.temporal_goals.specs.declared.diagrams.DiagramKind.TheVariants.{Wait, Chain, Rank}
-use Rattle.rule_laws.specs.Fitting.{DrawnFits, DrawnNodesFit, LevelsExist}
+use Rattle.rule_fits.specs.Fitting.{DrawnFits, DrawnNodesFit, LevelsExist}
 use Rattle.expression_typer.specs.Naming.{names_of}
 use Rattle.expression_typer.specs.Naming.{NamesOver}
 use Rattle.assertions.specs.Over.{FormulaOver}

@@ -6,11 +6,12 @@ use Rattle.std.proofs.lemmas.Bool.Decides.{nat_tests}
 use Rattle.st_form.specs.declared.conditions.Condition.{Condition}
 use Rattle.cert_text.specs.declared.reader.Block.{Block}
 use Rattle.farkas_check.specs.Problem.{Setting}
-use Rattle.linear_prover.specs.declared.verdict.Verdict.{Verdict}
+use Rattle.search_verdicts.specs.declared.verdict.Verdict.{Verdict}
 use Rattle.discharge.specs.declared.shares.Share.{Share}
 use Rattle.discharge.specs.Dealt.{every, dealt, left_half, right_half, lesser_place}
-use Rattle.discharge.specs.First.{AreCheckable, Proves, ProveBefore, Fails, IsFirstFailing}
-use Rattle.discharge.specs.Verdicts.{AreSearchable, IsAnswer, AreAnswers}
+use Rattle.block_validity.specs.First.{AreCheckable, Proves, ProveBefore, Fails, IsFirstFailing}
+use Rattle.discharge.specs.Verdicts.{IsAnswer, AreAnswers}
+use Rattle.search_laws.specs.Searchable.{AreSearchable}
 use Rattle.discharge.proofs.Dealing.{InTurn, dealt_in_turn, first_there, between_there, every_all, every_within}
 
 -- ---- what is asked

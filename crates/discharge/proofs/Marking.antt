@@ -8,7 +8,7 @@ use Rattle.st_form.specs.declared.conditions.Condition.{Condition}
 use Rattle.farkas_check.specs.Problem.{Setting}
 use Rattle.discharge.specs.Marked.{AreMarks}
 use Rattle.discharge.specs.Searched.{mark, ValidBefore}
-use Rattle.discharge.specs.Verdicts.{IsSearchable, AreSearchable}
+use Rattle.search_laws.specs.Searchable.{IsSearchable, AreSearchable}
 use Rattle.discharge.proofs.Numbers.{below-or-from}
 
 some-same : {A : Type 0} (x y : A) → Some x ≡ Some y → x ≡ y

@@ -3,7 +3,8 @@
 ghost use Rattle.std.specs.Prelude.{◌≡◌, ◌<◌, ◌^◌, IfOk, length};
 ghost use Rattle.farkas_check.specs.PlainProblem.{setting};
 ghost use Rattle.discharge.specs.Dealt.{dealt};
-ghost use Rattle.discharge.specs.Verdicts.{AreSearchable, AreAnswers};
+ghost use Rattle.discharge.specs.Verdicts.{AreAnswers};
+ghost use Rattle.search_laws.specs.Searchable.{AreSearchable};
 
 use crate::shares::{Share, behind};
 use control_states::Components;

@@ -2,8 +2,8 @@
 //! of it.
 
 ghost use Rattle.std.specs.Prelude.{◌≡◌, true};
-ghost use Rattle.discharge.specs.First.{IsCheckable, AreCheckable};
-ghost use Rattle.discharge.specs.Verdicts.{IsSearchable, AreSearchable};
+ghost use Rattle.block_validity.specs.First.{IsCheckable, AreCheckable};
+ghost use Rattle.search_laws.specs.Searchable.{IsSearchable, AreSearchable};
 
 use cert_text::Block;
 use farkas_check::{is_condition_narrow, is_limited};

@@ -3,7 +3,7 @@
 ghost use Rattle.std.specs.Prelude.{◌≡◌, ◌<◌, ◌^◌, IfOk, length};
 ghost use Rattle.farkas_check.specs.PlainProblem.{setting};
 ghost use Rattle.discharge.specs.Marked.{AreMarks};
-ghost use Rattle.discharge.specs.Verdicts.{AreSearchable};
+ghost use Rattle.search_laws.specs.Searchable.{AreSearchable};
 ghost use Rattle.discharge.specs.Searched.{IsFirstOpen};
 
 use control_states::Components;

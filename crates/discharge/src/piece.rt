@@ -4,7 +4,7 @@ ghost use Rattle.std.specs.Prelude.{◌≡◌, ◌<◌, ◌≤◌, ◌^◌, IfOk
 ghost use Rattle.farkas_check.specs.PlainProblem.{setting};
 ghost use Rattle.shared_search.specs.Books.{Knows};
 ghost use Rattle.discharge.specs.Marked.{AreMarks};
-ghost use Rattle.discharge.specs.Verdicts.{AreSearchable};
+ghost use Rattle.search_laws.specs.Searchable.{AreSearchable};
 
 use crate::gates::at_gate;
 use crate::queue::Queue;

@@ -5,7 +5,7 @@ ghost use Rattle.std.specs.Thread.{IsSync};
 ghost use Rattle.farkas_check.specs.PlainProblem.{setting};
 ghost use Rattle.discharge.specs.Marked.{AreMarks};
 ghost use Rattle.discharge.specs.Pieces.{EachPiece};
-ghost use Rattle.discharge.specs.Verdicts.{AreSearchable};
+ghost use Rattle.search_laws.specs.Searchable.{AreSearchable};
 ghost use Rattle.discharge.specs.Searched.{IsFirstOpen};
 
 use crate::marks::take_over;

@@ -7,9 +7,9 @@ use Rattle.search_laws.specs.Forms.{IsInOrder}
 use Rattle.search_laws.specs.Moves as moves
 use Rattle.search_laws.specs.Laws.{IsProved, IsCounterexample}
 use Rattle.search_laws.specs.Sizes.{IsShort}
-use Rattle.linear_prover.specs.declared.verdict.Verdict.{Verdict}
-use Rattle.linear_prover.specs.declared.verdict.Verdict.TheVariants.{Valid, Open, Wide}
-use Rattle.linear_prover.specs.Plain.{plain_path, plain_shown}
+use Rattle.search_verdicts.specs.declared.verdict.Verdict.{Verdict}
+use Rattle.search_verdicts.specs.declared.verdict.Verdict.TheVariants.{Valid, Open, Wide}
+use Rattle.search_verdicts.specs.Plain.{plain_path, plain_shown}
 
 -- a certificate is valid and within the limits, so the condition holds; a state that is shown is one of control states
 -- in which the condition is false; and paths are short

@@ -21,7 +21,7 @@ use Rattle.proof_script.specs.declared.fault.ScriptFault.{ScriptFault}
 use Rattle.proof_script.specs.Listing.{Setting, present, behind_mark}
 use Rattle.proof_script.specs.Steps.{Earlier, is_invariance, earlier_of, step_named, new_name_of, cited_of, citations_of, claimed_of, step_of}
 use Rattle.proof_script.specs.Script.{script_spelled}
-use Rattle.script_laws.specs.Obeying.{IsLemma, CiteLemmas}
+use Rattle.rule_fits.specs.Obeying.{IsLemma, CiteLemmas}
 use Rattle.proof_script.proofs.Inverses.{given, allowed, there, further_all}
 use Rattle.proof_script.proofs.Scripts.{setting_for, script_keeps}
 

@@ -3,7 +3,7 @@ use Rattle.st_form.specs.declared.conditions.Condition.{Condition}
 use Rattle.farkas_check.specs.Problem.{Setting}
 use Rattle.farkas_check.specs.PlainProblem.{setting}
 use Rattle.discharge.specs.Dealt.{every, dealt}
-use Rattle.discharge.specs.Verdicts.{AreSearchable}
+use Rattle.search_laws.specs.Searchable.{AreSearchable}
 use Rattle.discharge.proofs.Dealing.{every_next, every_empty, every_done}
 use Rattle.discharge.proofs.Halves.{AnswerSoFar, answers-more, answers-all, right-searchable}
 use Rattle.discharge.proofs.deciding.decide_share.Goals as goal

@@ -2,7 +2,7 @@ use Rattle.std.proofs.Common.{length}
 use Rattle.farkas_check.specs.PlainProblem.{setting}
 use Rattle.shared_search.specs.Books.{Knows}
 use Rattle.discharge.specs.Dealt.{every, dealt}
-use Rattle.discharge.specs.Verdicts.{AreSearchable}
+use Rattle.search_laws.specs.Searchable.{AreSearchable}
 use Rattle.discharge.proofs.Halves.{AnswerSoFar}
 use Rattle.discharge.proofs.deciding.decide_share.Given as goal
 

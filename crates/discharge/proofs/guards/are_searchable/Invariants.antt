@@ -1,5 +1,5 @@
 use Rattle.std.proofs.Common.{drop}
-use Rattle.discharge.specs.Verdicts.{AreSearchable}
+use Rattle.search_laws.specs.Searchable.{AreSearchable}
 use Rattle.discharge.proofs.guards.are_searchable.Given as goal
 
 abbrev pub invariant-loop-condition : goal.invariant-loop-condition

@@ -1,7 +1,7 @@
 //! What the search says of a condition.
 
 use control_states::Alternative;
-use row_elimination::WideStage;
+use elimination_laws::WideStage;
 use st_certificate::Certificate;
 use st_program::Datum;
 
@@ -39,11 +39,4 @@ pub enum Verdict {
     Open(Vec<PathStep>, Option<Shown>),
     /// The search gave up at the problem that the path leads to.
     Wide(Vec<PathStep>, WideStage),
-}
-
-/// Why the walk ends without a certificate.
-#[derive(Drop)]
-pub enum Failure {
-    Open(Option<Shown>),
-    Wide(WideStage),
 }

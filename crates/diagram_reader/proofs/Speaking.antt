@@ -29,7 +29,7 @@ use Rattle.diagram_reader.specs.Obeying.{NumberFits, HelperFits, NodeObeys, Obey
 use Rattle.diagram_reader.proofs.Inverses.{both, given}
 use Rattle.diagram_reader.proofs.Obeying.{NodeRead, node_read, drawn, diagram_obeys}
 
-unit_is : {A : Type 0} (a : Answer A) (x : A) (rest : Stream) → unit_of a ≡ Ok (x, rest) → a ≡ Ok (x, rest)
+pub unit_is : {A : Type 0} (a : Answer A) (x : A) (rest : Stream) → unit_of a ≡ Ok (x, rest) → a ≡ Ok (x, rest)
 unit_is (Ok y) x rest h = cc
 unit_is (Err f) x rest h = absurd cc
 

@@ -18,7 +18,7 @@ use Rattle.expression_parser.proofs.ExpressionLaw.{larger, lawful_formula}
 use Rattle.expression_parser.proofs.ExpressionSoundness.{expression_sound, below_sound}
 use Rattle.expression_parser.proofs.ExpressionCompleteness.{formula_complete}
 
-quiet : calm signs.Nothing ≡ true
+pub quiet : calm signs.Nothing ≡ true
 unfolding calm
 quiet = refl
 

@@ -21,6 +21,7 @@ use Rattle.spl_parser.specs.Statements.{Lower, an_item, labelled_item, named_ite
 use Rattle.expression_parser.proofs.Quiet.{but_calm, but_none, but2_but, but2_other, but2_none, name_token}
 use Rattle.spl_parser.proofs.Witnesses.{witness_is, witness_in, lawful_mark, close_block_mark, open_block_mark, colon_mark, bars_mark}
 use Rattle.spl_parser.proofs.ListLaw.{any_of, same}
+use Rattle.expression_parser.proofs.FormulaTheorems.{quiet}
 
 pub name_is : is_name (sign_of name_token) ≡ true
 unfolding name_token
@@ -29,10 +30,6 @@ name_is = refl
 pub name_calm : calm (sign_of name_token) ≡ true
 unfolding name_token calm
 name_calm = refl
-
-pub quiet : calm signs.Nothing ≡ true
-unfolding calm
-quiet = refl
 
 close_calm : calm (sign_of close_block_mark.token) ≡ true
 unfolding number calm

@@ -30,7 +30,8 @@ use Rattle.expression_parser.proofs.Quiet.{and_parts, but_calm, but_none, but_fa
 use Rattle.expression_parser.proofs.ExpressionLaw.{larger, lawful_formula}
 use Rattle.spl_parser.proofs.Witnesses.{witness_in, lawful_mark, colon_mark, colons_mark, semicolon_mark, open_block_mark, integer_mark, skip_mark}
 use Rattle.spl_parser.proofs.ListLaw.{any_of, same}
-use Rattle.spl_parser.proofs.BodyLaw.{in_body, apart, quiet, name_is, name_calm, lawful_rest_of_body}
+use Rattle.spl_parser.proofs.BodyLaw.{in_body, apart, name_is, name_calm, lawful_rest_of_body}
+use Rattle.expression_parser.proofs.FormulaTheorems.{quiet}
 use Rattle.spl_parser.proofs.ProgramSoundness.{Value, value_sound}
 use Rattle.spl_parser.proofs.InsideLaw.{unlimited, deeper, fresh_completes}
 use Rattle.spl_parser.proofs.LevelLaw.{inside_ends, lawful_inside}

@@ -25,7 +25,8 @@ use Rattle.expression_parser.proofs.Quiet.{but_calm, name_token}
 use Rattle.spl_parser.proofs.Witnesses.{Witness, witness_is, witness_in, lawful_mark, close_block_mark, close_group_mark, open_block_mark, colon_mark, do_mark, forever_mark, coend_mark, skip_mark}
 use Rattle.spl_parser.proofs.ListLaw.{any_of, same, lawful_name, lawful_right_side, lawful_all_assigned}
 use Rattle.spl_parser.proofs.StatementLaw.{lawful_sequence, lawful_selection, lawful_enclosed, lawful_conditional}
-use Rattle.spl_parser.proofs.BodyLaw.{in_body, apart, apart_calm, lawful_children, quiet, name_is, name_calm, colon_calm}
+use Rattle.spl_parser.proofs.BodyLaw.{in_body, apart, apart_calm, lawful_children, name_is, name_calm, colon_calm}
+use Rattle.expression_parser.proofs.FormulaTheorems.{quiet}
 
 pub skip_starts : start (sign_of skip_mark.token) ≡ Some starts.Skip
 unfolding number

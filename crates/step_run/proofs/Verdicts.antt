@@ -29,9 +29,7 @@ use Rattle.step_plan.specs.Outcome.{Outcome, ended_view, IsDecided}
 use Rattle.step_run.specs.Conditions.{Posed}
 use Rattle.step_run.specs.Verified.{Verified, found_before, by_verdict, verdict_on, search_ended, undecided}
 use Rattle.step_run.specs.Deciding.{is_valid, tree_in, AreModest, EndsAt}
-
-no_truth : false ≡ true → ⊥
-no_truth e = cc
+use Rattle.basic_laws.proofs.Truths.{no_truth}
 
 pub verdict_is : (k : Setting) (c : Condition) (v : Verdict) → IsAnswer k c v → verdict_on k (plain_condition c) ≡ plain_verdict v
 unfolding verdict_on

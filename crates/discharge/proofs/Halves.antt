@@ -186,9 +186,6 @@ between-fits k share cs bs (Some j) h =
     omega (arith, failing-within k (dealt (left_half share) cs) bs j h, every_within (share.stride + share.stride) (share.count / 2) cs)
 
 -- ---- one share of all
-pub answers-of-all : (k : Setting) (cs : List Condition) (vs : List Verdict) → AreAnswers k (every 1 (length cs) cs) vs → AreAnswers k cs vs
-answers-of-all k cs vs h = subst (λ (l : List Condition). AreAnswers k l vs) (every_all cs) h
-
 pub first-of-all : (k : Setting) (cs : List Condition) (bs : List Block) → AreCheckable cs bs → (o : Option ℕ) → IsFirstFailing k (every 1 (length cs) cs) (every 1 (length cs) bs) o → IsFirstFailing k cs bs o
 first-of-all k cs bs asked o h =
     let blocks : every 1 (length cs) bs ≡ bs = ap (λ (n : ℕ). every 1 n bs) (checkable-sizes cs bs asked) ∙ every_all bs in

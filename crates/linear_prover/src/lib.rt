@@ -22,7 +22,7 @@ mod touching;
 mod walk;
 
 pub use control_states::{Alternative, Component, Components};
-pub use deciding::{decide, is_decided_valid};
+pub use deciding::{decide, unless_valid};
 pub use guards::is_condition_below;
 pub use sameness::is_found;
 pub use search_verdicts::{PathKind, PathStep, Shown, Verdict, WideStage};

@@ -1,7 +1,7 @@
 use Rattle.farkas_check.specs.PlainProblem.{setting}
 use Rattle.shared_search.specs.Books.{Knows}
 use Rattle.discharge.specs.Searched.{ValidBefore}
-use Rattle.discharge.proofs.opened.first_open.Given as goal
+use Rattle.discharge.proofs.opened.first_unmarked.Given as goal
 
 abbrev pub invariant-loop-place : goal.invariant-loop-place
 invariant-loop-place l = record {

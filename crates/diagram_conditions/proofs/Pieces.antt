@@ -10,7 +10,7 @@ use Rattle.vc_generator.specs.declared.faults.VcFault.{VcFault}
 use Rattle.vc_generator.specs.Refusing.{refusals, Grows}
 use Rattle.vc_generator.proofs.Growing.{conditions, conditions-append, refusals-then, Left, left-all, left-on, left-refused}
 use Rattle.rule_laws.specs.Diagrams.{drawn_rank, each_node}
-use Rattle.rule_laws.specs.Fitting.{CanFall}
+use Rattle.rule_fits.specs.Fitting.{CanFall}
 use Rattle.diagram_conditions.specs.Asked.{RanksCanFall}
 
 -- the pieces before are appended, and the others behind them

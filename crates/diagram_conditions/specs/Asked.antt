@@ -8,7 +8,7 @@ use Rattle.temporal_goals.specs.declared.diagrams.DiagramKind.{DiagramKind}
 use Rattle.temporal_goals.specs.declared.diagrams.DiagramKind.TheVariants.{Wait, Chain, Rank}
 use Rattle.vc_generator.specs.Building.{Draft}
 use Rattle.rule_laws.specs.Diagrams.{drawn_rank, wait_list, chain_list, rank_list}
-use Rattle.rule_laws.specs.Fitting.{CanFall, DrawnNodesFit, LevelsExist}
+use Rattle.rule_fits.specs.Fitting.{CanFall, DrawnNodesFit, LevelsExist}
 
 abbrev pub RanksCanFall : List PlainDrawnNode → Type 0
 RanksCanFall [] = ⊤

@@ -11,7 +11,7 @@ ghost use Rattle.vc_generator.specs.Plain.{plain_list};
 ghost use Rattle.vc_generator.specs.Refusing.{Grows};
 ghost use Rattle.vc_generator.specs.Walks.{plainly as plainly_named};
 ghost use Rattle.rule_laws.specs.Diagrams.{level_goal as level_goal_of, wait_forms, chain_starts, rank_starts};
-ghost use Rattle.rule_laws.specs.Fitting.{CanFall};
+ghost use Rattle.rule_fits.specs.Fitting.{CanFall};
 
 use crate::starts::{on_some_link, on_some_node, on_some_rank};
 use st_form::{Form, Premise};

@@ -7,7 +7,7 @@ ghost use Rattle.vc_generator.specs.Asked.{system_of, lemmas_of};
 ghost use Rattle.vc_generator.specs.Plain.{plain_list};
 ghost use Rattle.vc_generator.specs.Refusing.{Grows};
 ghost use Rattle.rule_laws.specs.Diagrams.{wait_list, chain_list, rank_list};
-ghost use Rattle.rule_laws.specs.Fitting.{CanFall};
+ghost use Rattle.rule_fits.specs.Fitting.{CanFall};
 ghost use Rattle.diagram_conditions.specs.Asked.{RanksCanFall, wait_diagram_asks, response_diagram_asks};
 
 use crate::ends::{covers_chain, covers_ranks, covers_waiting, ends_response, implies_level};

@@ -11,7 +11,7 @@ ghost use Rattle.vc_generator.specs.Plain.{plain_list, plain_case};
 ghost use Rattle.vc_generator.specs.Refusing.{Grows};
 ghost use Rattle.vc_generator.specs.Walks.{numbered_from};
 ghost use Rattle.rule_laws.specs.Diagrams.{drawn_rank};
-ghost use Rattle.rule_laws.specs.Fitting.{CanFall};
+ghost use Rattle.rule_fits.specs.Fitting.{CanFall};
 ghost use Rattle.diagram_conditions.specs.Leaving.{leaving_from, step_cases as step_cases_of};
 ghost use Rattle.diagram_conditions.specs.Moves.{leads_by, leads_of};
 ghost use Rattle.diagram_conditions.specs.Plain.{plain_leaving};

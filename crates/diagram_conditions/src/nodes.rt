@@ -18,7 +18,7 @@ pub trait PerNode {
     ghost use Rattle.vc_generator.specs.Plain.{plain_list};
     ghost use Rattle.vc_generator.specs.Refusing.{Grows};
     ghost use Rattle.rule_laws.specs.Diagrams.{drawn_rank};
-    ghost use Rattle.rule_laws.specs.Fitting.{CanFall};
+    ghost use Rattle.rule_fits.specs.Fitting.{CanFall};
 
     ghost asks: { Self → PlainDrawnNode → List Draft };
 

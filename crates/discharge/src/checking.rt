@@ -4,7 +4,7 @@ ghost use Rattle.std.specs.Prelude.{◌≡◌, ◌<◌, ◌≤◌, ◌+◌, ◌-
 ghost use Rattle.std.specs.Thread.{IsSync};
 ghost use Rattle.farkas_check.specs.PlainProblem.{setting};
 ghost use Rattle.discharge.specs.Dealt.{dealt, left_half, right_half};
-ghost use Rattle.discharge.specs.First.{AreCheckable, IsFirstFailing};
+ghost use Rattle.block_validity.specs.First.{AreCheckable, IsFirstFailing};
 ghost use Rattle.discharge.specs.Pieces.{EachPiece};
 
 use crate::gates::at_gate;

@@ -12,7 +12,7 @@ use Rattle.vc_generator.specs.Building.{at_least_both}
 use Rattle.vc_generator.specs.Plain.{plain_case}
 use Rattle.vc_generator.specs.declared.building.Case.{Case}
 use Rattle.rule_laws.specs.NestedNet.{top_at, base_at, group_at, agree, agreeing, pairs_below, ranked_forms}
-use Rattle.rule_laws.specs.Fitting.{CanFall}
+use Rattle.rule_fits.specs.Fitting.{CanFall}
 use Rattle.transition_system.specs.Systems.{System}
 use Rattle.rule_laws.specs.Names.{enabled_of}
 use Rattle.nested_net.specs.Asked.{LevelsCanFall}

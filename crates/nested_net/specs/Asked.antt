@@ -5,7 +5,7 @@ use Rattle.transition_system.specs.Systems.{System}
 use Rattle.temporal_goals.specs.Texts.{PlainGoal, invariant, waiting, response, PlainLevel, PlainNestedNode}
 use Rattle.vc_generator.specs.Building.{Draft}
 use Rattle.rule_laws.specs.NestedNet.{nested_list}
-use Rattle.rule_laws.specs.Fitting.{CanFall, NestedFit}
+use Rattle.rule_fits.specs.Fitting.{CanFall, NestedFit}
 
 abbrev pub LevelsCanFall : List PlainLevel → Type 0
 LevelsCanFall [] = ⊤

@@ -8,7 +8,7 @@ ghost use Rattle.temporal_goals.specs.Plain.{plain_level, plain_nested_node};
 ghost use Rattle.vc_generator.specs.Building.{at_least as at_least_of, at_least_both as at_least_both_of};
 ghost use Rattle.vc_generator.specs.Asked.{system_of};
 ghost use Rattle.rule_laws.specs.NestedNet.{top_at as top_at_of, nested_starts, ranked_forms as ranked_forms_of, enabled_groups, nested_helped};
-ghost use Rattle.rule_laws.specs.Fitting.{CanFall};
+ghost use Rattle.rule_fits.specs.Fitting.{CanFall};
 
 use crate::levels::top_at;
 use ranked_net::fairness::enabled_of;

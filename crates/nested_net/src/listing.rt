@@ -9,7 +9,7 @@ ghost use Rattle.vc_generator.specs.Plain.{plain_list};
 ghost use Rattle.vc_generator.specs.Refusing.{Grows};
 ghost use Rattle.vc_generator.specs.Walks.{numbered_from};
 ghost use Rattle.rule_laws.specs.NestedNet.{nested_rank, nested_help, nested_move, nested_list};
-ghost use Rattle.rule_laws.specs.Fitting.{CanFall};
+ghost use Rattle.rule_fits.specs.Fitting.{CanFall};
 ghost use Rattle.nested_net.specs.Asked.{NodesCanFall};
 
 use crate::forms::{cover_form, helped_form, ranked_form};

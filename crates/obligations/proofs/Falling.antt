@@ -5,7 +5,7 @@ use Rattle.st_linear.specs.Linear.{Linear, number}
 use Rattle.transition_system.specs.Systems.{System}
 use Rattle.temporal_goals.specs.Texts.{PlainNode, PlainLevel, PlainNestedNode, PlainDrawnNode}
 use Rattle.rule_laws.specs.Diagrams.{drawn_rank}
-use Rattle.rule_laws.specs.Fitting.{CanFall}
+use Rattle.rule_fits.specs.Fitting.{CanFall}
 use Rattle.ranked_net.specs.Asked.{NodesCanFall}
 use Rattle.nested_net.specs.Asked as nets
 use Rattle.diagram_conditions.specs.Asked.{RanksCanFall}

@@ -14,7 +14,7 @@ use Rattle.vc_generator.specs.Refusing.{refusal, Grows}
 use Rattle.vc_generator.specs.Walks.{plainly}
 use Rattle.rule_laws.specs.RankedNet.{starts_on, cover_of}
 use Rattle.vc_generator.proofs.Growing.{one_then}
-use Rattle.rule_laws.specs.Fitting.{CanFall}
+use Rattle.rule_fits.specs.Fitting.{CanFall}
 use Rattle.ranked_net.specs.Asked.{NodesCanFall}
 
 -- the numbers of each node can fall

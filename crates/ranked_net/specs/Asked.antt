@@ -5,7 +5,7 @@ use Rattle.transition_system.specs.Systems.{System}
 use Rattle.temporal_goals.specs.Texts.{PlainGoal, invariant, waiting, response, PlainNode}
 use Rattle.vc_generator.specs.Building.{Draft}
 use Rattle.rule_laws.specs.RankedNet.{ranked_list}
-use Rattle.rule_laws.specs.Fitting.{CanFall, NodesFit}
+use Rattle.rule_fits.specs.Fitting.{CanFall, NodesFit}
 
 -- the numbers of each node that a step may have to lower
 abbrev pub NodesCanFall : List PlainNode → Type 0

@@ -6,7 +6,7 @@ ghost use Rattle.st_form.specs.Plain.{plain};
 ghost use Rattle.temporal_goals.specs.Plain.{plain_node};
 ghost use Rattle.vc_generator.specs.Plain.{plain_case};
 ghost use Rattle.rule_laws.specs.RankedNet.{kept_pairs, case_end, case_drop, case_inner, case_stay};
-ghost use Rattle.rule_laws.specs.Fitting.{CanFall};
+ghost use Rattle.rule_fits.specs.Fitting.{CanFall};
 ghost use Rattle.ranked_net.specs.Walk.{free_under, stay_cases};
 
 use st_form::Form;

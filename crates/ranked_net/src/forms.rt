@@ -9,7 +9,7 @@ ghost use Rattle.temporal_goals.specs.Plain.{plain_node};
 ghost use Rattle.vc_generator.specs.Building.{at_least as at_least_of};
 ghost use Rattle.vc_generator.specs.Asked.{system_of};
 ghost use Rattle.rule_laws.specs.RankedNet.{starts_on as starts_on_of, ranked_form as ranked_form_of, helped_form as helped_form_of};
-ghost use Rattle.rule_laws.specs.Fitting.{CanFall};
+ghost use Rattle.rule_fits.specs.Fitting.{CanFall};
 
 use crate::fairness::enabled_of;
 use st_form::Form;

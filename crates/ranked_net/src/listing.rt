@@ -9,7 +9,7 @@ ghost use Rattle.vc_generator.specs.Plain.{plain_list};
 ghost use Rattle.vc_generator.specs.Refusing.{Grows};
 ghost use Rattle.vc_generator.specs.Walks.{numbered_from};
 ghost use Rattle.rule_laws.specs.RankedNet.{rank_of, help_of, move_of, ranked_list};
-ghost use Rattle.rule_laws.specs.Fitting.{CanFall};
+ghost use Rattle.rule_fits.specs.Fitting.{CanFall};
 ghost use Rattle.ranked_net.specs.Asked.{NodesCanFall};
 
 use crate::forms::{cover_form, helped_form, ranked_form};

@@ -10,7 +10,7 @@ ghost use Rattle.vc_generator.specs.Asked.{system_of, lemmas_of};
 ghost use Rattle.vc_generator.specs.Plain.{plain_list};
 ghost use Rattle.vc_generator.specs.Refusing.{Grows};
 ghost use Rattle.rule_laws.specs.RankedNet.{move_of};
-ghost use Rattle.rule_laws.specs.Fitting.{CanFall};
+ghost use Rattle.rule_fits.specs.Fitting.{CanFall};
 
 use crate::cases::push_stay;
 use crate::fairness::is_name;

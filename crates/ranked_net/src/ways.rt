@@ -7,7 +7,7 @@ ghost use Rattle.temporal_goals.specs.Plain.{plain_node};
 ghost use Rattle.vc_generator.specs.Plain.{plain_case};
 ghost use Rattle.rule_laws.specs.Names.{same_group as same_group_of};
 ghost use Rattle.rule_laws.specs.RankedNet.{case_free, case_inner, grouped, cases_if};
-ghost use Rattle.rule_laws.specs.Fitting.{CanFall};
+ghost use Rattle.rule_fits.specs.Fitting.{CanFall};
 ghost use Rattle.ranked_net.specs.Walk.{free_under, own_cases, group_cases};
 
 use crate::cases::{drop_case, end_case, free_case, inner_case};

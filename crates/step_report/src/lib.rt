@@ -16,10 +16,10 @@ mod usage;
 
 pub use conditions::{Reason, not_proved};
 pub use goals::{counted, proved, workload};
-pub use linear_prover::{PathStep, Shown, WideStage};
 pub use pushing::{push_number, push_text};
 pub use refusals::{FaultKind, FileRole, limited, read_fault, refused, trailing};
 pub use run_judging::Judged;
+pub use search_verdicts::{PathStep, Shown, WideStage};
 pub use searches::{open, wide};
 pub use st_certificate::Certificate;
 pub use st_form::CondName;

@@ -4,7 +4,7 @@ use Rattle.std.specs.Prelude.{Option}
 use Rattle.farkas_check.specs.Problem.{Setting}
 use Rattle.farkas_check.specs.PlainProblem.{setting}
 use Rattle.discharge.specs.Dealt.{dealt, right_half}
-use Rattle.discharge.specs.First.{AreCheckable, IsFirstFailing}
+use Rattle.block_validity.specs.First.{AreCheckable, IsFirstFailing}
 use Rattle.discharge.proofs.Numbers.{each-both}
 use Rattle.discharge.proofs.Halves.{failing-dealt, right-checkable, first-fits, between-fits, told}
 use Rattle.discharge.proofs.checking.+check_range.Goals as goal

@@ -10,7 +10,7 @@ use Rattle.nested_net.proofs.moving.move_from.Goals as goal
 
 pub returns : goal.returns
 returns c =
-    let moves = rw (c.deref.ensures.value, c.deref-2.ensures.value, c.deref-3.ensures.value, c.deref-4.ensures.value) at c.each_mode.ensures in
+    let moves = rw (c.deref.ensures.value, c.deref-2.ensures.value, c.deref-3.ensures.value) at c.each_mode.ensures in
     let levels = c.args.node.now.levels.items in
     let deep : c.len.result ≡ length (map plain_level levels) = omega (arith, c.len.ensures, length-map levels plain_level) in
     moves-by-lists c.each_mode.result (plain_list c.args.out.now) (plain_list c.each_mode.new.out) c.args.asking.now.step (system_of c.args.asking.now) (lemmas_of c.args.asking.now) (map plain_nested_node c.args.nodes.now) (plain c.args.end.now) c.args.index (plain_nested_node c.args.node.now)

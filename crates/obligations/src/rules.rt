@@ -21,9 +21,9 @@ use vc_generator::{Asking, Conditions, Rule, VcFault};
 use waiting_rules::WaitingFor;
 
 /// An invariance by itself.
-pub(crate) fn by_itself(
-    asking: &Asking<'_>,
-    goal: &Goal,
+pub(crate) fn by_itself<'a>(
+    asking: &Asking<'a>,
+    goal: &'a Goal,
     out: &mut Conditions,
 ) -> Result<(), VcFault>
     requires { RuleFits (system_of asking.now) (plain_goal goal.now) basic }

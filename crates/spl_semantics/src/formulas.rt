@@ -1,16 +1,16 @@
-//! Formulas in a store with control at some locations, each evaluated whole. The values of forms in them are exact, or too
-//! large where a product or a partial sum on the way has size 2^126 or more.
+//! Formulas in a store with control at some locations, each evaluated whole, so that whether a number on the way is too large
+//! doesn't depend on an order.
 
 ghost use Rattle.std.specs.Prelude.{◌≡◌};
 ghost use Rattle.st_form.specs.Exchange.{is_listed};
 ghost use Rattle.st_form.specs.Formula.{truth, every_truth, some_truth};
 ghost use Rattle.st_form.specs.Plain.{plain, plain_list};
-ghost use Rattle.spl_semantics.specs.Data.{store_of};
+ghost use Rattle.spl_semantics.specs.Data.{store_of, seen_at};
 ghost use Rattle.spl_semantics.specs.Limits.{wide_formula, wide_formulas};
 ghost use Rattle.spl_semantics.specs.Answers.{Answers};
-ghost use Rattle.trace_player.specs.Seen.{seen_at};
 
-use spl_semantics::{MoveFault, value_of};
+use crate::evaluation::value_of;
+use crate::faults::MoveFault;
 use st_form::Form;
 use st_program::Datum;
 
@@ -40,7 +40,7 @@ fn is_listed(location: u32, fronts: &[u32]) -> bool
 /// Whether a formula holds, with control at these locations.
 #[cycle(holds)]
 #[tactic(auto, using(st_form::proofs::Nodes::nodes))]
-pub fn is_true(form: &Form, store: &[Datum], fronts: &[u32]) -> Result<bool, MoveFault>
+pub fn is_true_at(form: &Form, store: &[Datum], fronts: &[u32]) -> Result<bool, MoveFault>
     ensures { Answers (λ b. b) result
         (wide_formula (plain form.now) (store_of store.now))
         (truth (seen_at store.now fronts.now) (plain form.now)) }
@@ -52,7 +52,7 @@ pub fn is_true(form: &Form, store: &[Datum], fronts: &[u32]) -> Result<bool, Mov
         Form::Equal(row) => Ok(value_of(row, store)? == 0),
         Form::BoolVar(variable) => Ok(truth_at(store, *variable)),
         Form::At(location) => Ok(is_listed(*location, fronts)),
-        Form::Not(inner) => Ok(!is_true(inner, store, fronts)?),
+        Form::Not(inner) => Ok(!is_true_at(inner, store, fronts)?),
         Form::And(parts) => all_true(parts, store, fronts),
         Form::Or(parts) => any_true(parts, store, fronts),
     }
@@ -67,7 +67,7 @@ fn all_true(forms: &[Form], store: &[Datum], fronts: &[u32]) -> Result<bool, Mov
 {
     let mut all = true;
     for form in forms {
-        let holds = is_true(form, store, fronts)?;
+        let holds = is_true_at(form, store, fronts)?;
         if !holds {
             all = false;
         }
@@ -84,7 +84,7 @@ fn any_true(forms: &[Form], store: &[Datum], fronts: &[u32]) -> Result<bool, Mov
 {
     let mut any = false;
     for form in forms {
-        let holds = is_true(form, store, fronts)?;
+        let holds = is_true_at(form, store, fronts)?;
         if holds {
             any = true;
         }

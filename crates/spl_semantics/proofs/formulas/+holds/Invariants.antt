@@ -2,10 +2,9 @@ use Rattle.std.proofs.Common.{◌≡◌, drop}
 use Rattle.std.specs.Prelude.{◌&&◌, ◌||◌}
 use Rattle.st_form.specs.Formula.{every_truth, some_truth}
 use Rattle.st_form.specs.Plain.{plain_list}
-use Rattle.trace_player.specs.Seen.{seen_at}
-use Rattle.spl_semantics.specs.Data.{store_of}
+use Rattle.spl_semantics.specs.Data.{store_of, seen_at}
 use Rattle.spl_semantics.specs.Limits.{wide_formulas}
-use Rattle.trace_player.proofs.values.+holds.Given as goal
+use Rattle.spl_semantics.proofs.formulas.+holds.Given as goal
 
 abbrev pub invariant-all_true-loop-form : goal.invariant-all_true-loop-form
 invariant-all_true-loop-form l = record {

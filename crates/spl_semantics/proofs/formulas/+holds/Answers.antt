@@ -2,7 +2,7 @@ use Rattle.std.proofs.Common.{sym, ◌∙◌, arith}
 use Rattle.spl_semantics.specs.Data.{store_of}
 use Rattle.spl_semantics.proofs.Exits.{handed}
 use Rattle.spl_semantics.proofs.Evaluating.{wide-form_here}
-use Rattle.trace_player.proofs.values.+holds.Goals as goal
+use Rattle.spl_semantics.proofs.formulas.+holds.Goals as goal
 
 pub all_true-returns-in_err-holds : goal.all_true-returns-in_err-holds
 all_true-returns-in_err-holds t c =

@@ -25,7 +25,7 @@ use Rattle.spl_semantics.specs.Runs.{State, LeadsBy, Leads, Follows, IsFirst, Re
 use Rattle.spl_semantics.specs.Runs.Reached.{first, next}
 use Rattle.spl_semantics.proofs.ByCases.{behind_act, listed as as_listed}
 use Rattle.spl_semantics.proofs.Members.{member_none, member_left, member_right, member_cases, at_member}
-use Rattle.spl_semantics.proofs.Texts.{either}
+use Rattle.basic_laws.proofs.Types.{either}
 use Rattle.spl_semantics.proofs.Fronts.{NoDup, no_dup_split, no_dup_right, no_dups, fronts_front}
 use Rattle.spl_semantics.proofs.Layouts.{layout_of, ends_of, apart_of}
 use Rattle.spl_semantics.proofs.Origins.{move_of}
@@ -37,6 +37,7 @@ use Rattle.spl_translation.proofs.Pairs.{Matches, paired}
 use Rattle.equation_laws.specs.Sums.{total, presence, passage, equation_value, moved_value, first_value}
 use Rattle.equation_laws.specs.Space.{equations, equations_among, places, places_among, start_forms, start_places, modes_of, variables_of, AreKept, combination, Starts, IsInductive}
 use Rattle.equation_laws.proofs.Totals.{total-same, total-sum}
+use Rattle.basic_laws.proofs.Truths.{same_bool}
 
 -- the value behind a change
 value-behind : (n locations : ℕ) (x : Vector) (change : Exchange) (s t : Situation) → ((v : ℕ) → t.numbers v ≡ changed s.numbers change.numbers v) → ((l : ℕ) → presence (t.located l) ≡ presence (s.located l) +ℤ passage change l)
@@ -163,11 +164,6 @@ in-transitions : (y : Spot) (t : PlainTransition) (ys : List Spot) → Member y 
 in-transitions y t [] i j = member_none i
 in-transitions y t (z ∷ ys) (here q) j = member_left (flat_map spot_transitions ys) (subst (λ z. Member t (spot_transitions z)) q j)
 in-transitions y t (z ∷ ys) (there i) j = member_right (spot_transitions z) (in-transitions y t ys i j)
-
-same_bool : (a b : Bool) → (a ≡ true → b ≡ true) → (b ≡ true → a ≡ true) → a ≡ b
-same_bool true b f g = sym (f refl)
-same_bool false true f g = g refl
-same_bool false false f g = refl
 
 module _ (vs : List Variable) (initial : Formula) (p : Processes) (locations : ℕ) (well : WellFormed p)
     (typed : (y : Spot) → Member y (all_spots p) → ActionFits vs (action y.stmt)) (both : Corresponds p initial (translation vs initial p locations))

@@ -35,6 +35,7 @@ use Rattle.schedule_reader.specs.Settings.{Settings, is_set, unset_variable, uns
 use Rattle.schedule_reader.specs.Moves.{opening_in, part_of, has_part, step_of, statement_of, named_by, move_of, next_move_of, too_many}
 use Rattle.schedule_reader.specs.Schedules.{PlainSchedule, all_set, only_name, settings_of, store_of, moves_of, schedule_of, told, schedule_spelled}
 use Rattle.schedule_reader.specs.Obeying.{IsName, Obeys}
+use Rattle.basic_laws.proofs.Truths.{not_false}
 
 module _ {E A B : Type 0} where
   -- both parts went through
@@ -159,10 +160,6 @@ module _ (s : Stream) (d : Datum) where
           let size : unsigned_abs (neg_ℤ (pos r.value.0)) ≤ 2 ^ 30 = omega (arith, unsigned_abs-neg (pos r.value.0), n) in
           subst IsWritten (given (Number (neg_ℤ (pos r.value.0))) d r.value.1 rest r.second) size
       at_minus false h = token_written (passed (value_in (ahead s)) (refusal s) s d rest h)
-
-not_false : (b : Bool) → not b ≡ false → b ≡ true
-not_false true h = refl
-not_false false h = cc
 
 -- what is set for a variable of the type
 abbrev Slot : Bool → Option Datum → Type 0

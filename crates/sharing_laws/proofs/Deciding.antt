@@ -30,10 +30,6 @@ pub record IsSeen (k : Setting) (p : Problem) (x : InContext) : Type 0 where
 abbrev pub AreFree : Setting → Problem → Formulas → Type 0
 AreFree k p fs = AllLiteralsOf (IsFreePlace k.control p.cases) (IsFreeTruth p.truths) fs
 
-pub if-true : {A : Type 0} (b : Bool) (x : A) → b ≡ true → (if b then Some x else None) ≡ Some x
-if-true true x h = refl
-if-true false x h = absurd (cc)
-
 pub cases-like : (k : Setting) (p : Problem) (context : List (Option Alternative)) (fs : Formulas) (c : ℕ) → IsFresh k p → length context ≡ length k.control.components → Keeps k.control context p.cases → AreFree k p fs → c < length k.control.components
     → (choices : List Alternative) → AreLike (IsSeen k) (case_problems k.control p fs c choices) (case_lists_in k.control context fs c choices)
 cases-like k p context fs c g e keeps h l [] = tt

@@ -12,7 +12,7 @@ use Rattle.st_certificate.specs.Tree.{by_case}
 use Rattle.farkas_check.specs.Problem.{Setting, is_free, known_active, may_case, first_problem}
 use Rattle.search_laws.specs.Walks.{Move, left_open, closes, divides, fails}
 use Rattle.search_laws.specs.Moves.{first_place_of, first_truth_of, or_else, if_undecided, outermost, component_for}
-use Rattle.search_laws.proofs.Refuting.{less}
+use Rattle.basic_laws.proofs.Numbers.{less}
 use Rattle.sharing_laws.specs.Lists.{IsFlat, by_case_alone, under, case_lists, list_move}
 use Rattle.sharing_laws.specs.Lists as lists
 use Rattle.sharing_laws.specs.Finds.{ListsFindTheSame}

@@ -15,7 +15,8 @@ use Rattle.spl_semantics.specs.Stores.{Store, holds, walked, one_less}
 use Rattle.spl_semantics.specs.Steps.{Act, act, around, join, joined_acts, back, all_done, path_act, path_acts, first_acts, acts_along, acts_among, acts_at, steps, steps_of}
 use Rattle.spl_semantics.specs.Cases.{Stands, Branch, this, later, Step, Steps, skip, critical, noncritical, assign_all, await, request, release, if_true, if_false, if_else_true, if_else_false, while_true, while_false, block, select, enter, walk, then_step, again_step, child, leave, here_one, there_one}
 use Rattle.spl_semantics.proofs.Members.{member_none, member_left, member_right, member_cases, member_map, map_member}
-use Rattle.spl_semantics.proofs.Texts.{either, found, found_has, own_first, whole}
+use Rattle.spl_semantics.proofs.Texts.{found, found_has, own_first, whole}
+use Rattle.basic_laws.proofs.Types.{either}
 use Rattle.spl_semantics.proofs.Bodies.{body_of_block}
 
 pick_true : {A : Type 0} {x : A} (b : Bool) (xs ys : List A) → b ≡ true → Member x xs → Member x (if b then xs else ys)

@@ -1,14 +1,11 @@
 -- The verdicts on conditions.
-use Rattle.std.specs.Prelude.{◌≡◌, ℕ, List, [], ◌∷◌}
+use Rattle.std.specs.Prelude.{◌≡◌, List, [], ◌∷◌}
 use Rattle.st_form.specs.Shared.{given_of, shown_of}
 use Rattle.st_form.specs.declared.conditions.Condition.{Condition}
 use Rattle.farkas_check.specs.Problem.{Setting}
-use Rattle.farkas_check.specs.Limits.{IsNarrow}
-use Rattle.search_laws.specs.Forms.{AllForms}
 use Rattle.search_laws.specs.Moves.{decided}
 use Rattle.search_verdicts.specs.declared.verdict.Verdict.{Verdict}
 use Rattle.search_verdicts.specs.Plain.{plain_verdict}
-use Rattle.search_laws.specs.Searchable.{IsBelow}
 use Rattle.linear_prover.specs.Verdicts.{IsRight}
 
 -- the verdict is the one that is defined, and right

@@ -12,7 +12,6 @@ use Rattle.std.specs.Option.{option_map}
 use Rattle.st_certificate.specs.Plain.{plain as tree_of, plain_trees}
 use Rattle.search_verdicts.specs.Plain.{plain_path, plain_shown}
 use Rattle.search_laws.specs.Walks as plain
-use Rattle.search_verdicts.specs.declared.verdict.PathStep.{PathStep}
 use Rattle.linear_prover.specs.declared.failure.Failure.{Failure}
 use Rattle.linear_prover.specs.declared.failure.Failure.TheVariants as failure
 use Rattle.linear_prover.specs.declared.walk.Outcome.{Outcome}

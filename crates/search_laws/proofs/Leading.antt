@@ -23,12 +23,12 @@ use Rattle.search_laws.specs.States.{State}
 use Rattle.search_laws.specs.Walks.{Failure, left_open, given_up, Move, closes, divides, fails, PathStep, Found, found, stopped, FoundAll, all, broke, onto_trees, then_rest, walk_all, divided_by, walk_node, walk, searched}
 use Rattle.search_laws.specs.Moves.{first_place_of, first_truth_of, component_for, divided, by_component, by_ending, by_disjunction, by_variable, by_place, by_conjuncts, move_of, open_at, wide_at, failed_at, verdict_of}
 use Rattle.search_laws.specs.Forms.{IsInOrder}
-use Rattle.search_laws.specs.Ends.{HasOwner, IsTruth, IsTyped, AllLiteralsOf, problem_at, IsAtLines, IsOpen, IsWide, EndsThere}
+use Rattle.search_laws.specs.Ends.{HasOwner, IsTruth, IsTyped, AllLiteralsOf, problem_at, IsAtLines, IsOpen, IsWide, EndsThere, IfLiterals}
 use Rattle.search_laws.proofs.Walking.{AllOf}
 use Rattle.search_laws.specs.Steady.{IsNoCut}
 use Rattle.search_laws.proofs.Describing.{IsDivided}
 use Rattle.search_laws.proofs.Finding.{is-divided}
-use Rattle.search_laws.proofs.Literals.{IfLiterals, all-weaker, places-fact, truths-fact, parts-literals, gathered-literals, Undecided, simple-literals, simples-literals, EachLiterals, split-literals}
+use Rattle.search_laws.proofs.Literals.{all-weaker, places-fact, truths-fact, parts-literals, gathered-literals, Undecided, simple-literals, simples-literals, EachLiterals, split-literals}
 use Rattle.search_laws.proofs.Choosing.{MayDecide, chosen}
 use Rattle.search_laws.proofs.Refuting.{HasKnown, division-known, first-known, none-listed, both-of}
 use Rattle.basic_laws.proofs.Truths.{if-true}

@@ -1,14 +1,10 @@
 -- What the search asks of conditions: their numbers are narrow, and their variables are below the number of variables.
 use Rattle.std.specs.Prelude.{ℕ, List, [], ◌∷◌}
-use Rattle.st_linear.specs.Linear.{Linear, AllBelow}
 use Rattle.st_form.specs.Shared.{given_of, shown_of}
 use Rattle.st_form.specs.declared.conditions.Condition.{Condition}
 use Rattle.farkas_check.specs.Limits.{IsNarrow}
+pub use Rattle.st_form.specs.Forms.{IsBelow}
 use Rattle.search_laws.specs.Forms.{AllForms}
-
--- each variable of a form is below n
-abbrev pub IsBelow : ℕ → Linear → Type 0
-IsBelow n f = AllBelow n f.entries
 
 -- what the search asks of a condition over n variables
 pub record IsSearchable (n : ℕ) (c : Condition) : Type 0 where

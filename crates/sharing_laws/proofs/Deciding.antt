@@ -18,7 +18,8 @@ use Rattle.sharing_laws.proofs.Following.{AreLike}
 use Rattle.sharing_laws.proofs.Agreeing.{AreSame, same-simples}
 use Rattle.sharing_laws.proofs.Placing.{same-entry, same-case, place-nothing}
 use Rattle.sharing_laws.proofs.Choosing.{Keeps, kept-more, length-more, free-entry}
-use Rattle.sharing_laws.proofs.Starting.{IsFreePlace, IsFreeTruth, IsFresh, posed-fresh}
+use Rattle.sharing_laws.specs.Fresh.{IsFreePlace, IsFreeTruth, IsFresh}
+use Rattle.sharing_laws.proofs.Starting.{posed-fresh}
 
 -- a fresh problem, its conjuncts and its context
 pub record IsSeen (k : Setting) (p : Problem) (x : InContext) : Type 0 where

@@ -11,7 +11,8 @@ use Rattle.st_program.specs.Spots.{bodies_of, at_spot, all_spots}
 use Rattle.st_program.specs.Programs.{WellFormed}
 use Rattle.st_program.specs.Residuals.{Rests}
 use Rattle.spl_semantics.specs.Stores.{Store}
-use Rattle.spl_semantics.specs.Steps.{Act, begin, steps_of}
+use Rattle.spl_semantics.specs.Steps.{steps_of}
+use Rattle.spl_semantics.specs.Going.{Act, begin}
 use Rattle.spl_semantics.specs.Control.{starts, ends, fronts}
 use Rattle.spl_semantics.proofs.TextMoves.{Move, spot_moves, all_moves}
 use Rattle.spl_semantics.specs.Names.{all_names}

@@ -11,7 +11,8 @@ use Rattle.st_program.specs.Member.{Member, here, there}
 use Rattle.st_program.specs.Spots.{bodies_in, Spot, at_spot, spots_along, spots_inside, all_spots, body}
 use Rattle.st_program.specs.Residuals.{Rest, Done, Run, Then, Again, Inside, Rests, no_rest, rests}
 use Rattle.spl_semantics.specs.Stores.{Store}
-use Rattle.spl_semantics.specs.Steps.{Act, act, around, join, joined_acts, back, all_done, steps, steps_of}
+use Rattle.spl_semantics.specs.Steps.{joined_acts, steps, steps_of}
+use Rattle.spl_semantics.specs.Going.{Act, act, around, join, back, all_done}
 use Rattle.spl_semantics.specs.Control.{children_of, children_at, location_at, ends}
 use Rattle.spl_semantics.proofs.Members.{member_none, member_left, member_right, member_cases}
 use Rattle.spl_semantics.proofs.Texts.{Has, same_number, near_along, Region, along_region}

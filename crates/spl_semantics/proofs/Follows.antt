@@ -12,7 +12,8 @@ use Rattle.st_program.specs.Spots.{entry, bodies, bodies_in, Spot, at_spot, spot
 use Rattle.st_program.specs.Groups.{Link, paths_along}
 use Rattle.st_program.specs.Residuals.{Rest, Done, Run, Then, Again, Inside, Rests, no_rest, rests}
 use Rattle.spl_semantics.specs.Stores.{Store, holds, walked, one_less}
-use Rattle.spl_semantics.specs.Steps.{Act, act, around, join, joined_acts, back, begin, all_done, path_act, path_acts, first_acts, acts_along, acts_among, acts_at, steps, steps_of}
+use Rattle.spl_semantics.specs.Steps.{joined_acts, path_act, path_acts, first_acts, acts_along, acts_among, acts_at, steps, steps_of}
+use Rattle.spl_semantics.specs.Going.{Act, act, around, join, back, begin, all_done}
 use Rattle.spl_semantics.specs.Control.{children_at, location_at, ends}
 use Rattle.spl_semantics.proofs.TextMoves.{Move, path_moves, spot_moves, all_moves}
 use Rattle.spl_semantics.proofs.Members.{member_none, member_left, member_right, member_cases, member_map}

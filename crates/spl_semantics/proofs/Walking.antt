@@ -11,7 +11,8 @@ use Rattle.st_program.specs.Tree.{Piece, Pieces, piece_skip, piece_assign, piece
 use Rattle.st_program.specs.Groups.{Link, tested, given, paths, paths_along}
 use Rattle.st_program.specs.Residuals.{Rest, Done}
 use Rattle.spl_semantics.specs.Stores.{Store, holds, assigned, is_wanted, walked}
-use Rattle.spl_semantics.specs.Steps.{Act, act, path_act, path_acts}
+use Rattle.spl_semantics.specs.Steps.{path_act, path_acts}
+use Rattle.spl_semantics.specs.Going.{Act, act}
 use Rattle.spl_semantics.specs.Limits.{wide_formula, wide_targets, wide_path, wide_paths}
 use Rattle.spl_semantics.specs.Data.{PieceMeets, PiecesMeet}
 use Rattle.spl_semantics.proofs.Exits.{or_here, or_none}

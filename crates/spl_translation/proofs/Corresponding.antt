@@ -22,7 +22,8 @@ use Rattle.st_program.specs.Programs.{WellFormed}
 use Rattle.st_program.specs.Types.{TestFits, ActionFits}
 use Rattle.spl_semantics.specs.Stores.{Store, situation}
 use Rattle.st_program.specs.Residuals.{Rests}
-use Rattle.spl_semantics.specs.Steps.{Act, steps_of}
+use Rattle.spl_semantics.specs.Steps.{steps_of}
+use Rattle.spl_semantics.specs.Going.{Act}
 use Rattle.spl_semantics.specs.Names.{own_names}
 use Rattle.spl_semantics.specs.Control.{starts}
 use Rattle.spl_semantics.proofs.TextMoves.{Move}

@@ -15,7 +15,8 @@ use st_certificate::Certificate;
 use st_form::{Condition, Variable};
 use st_memory::Memory;
 use std::alloc::Global;
-use tree_table::MOST_LEVELS;
+
+const MOST_LEVELS: u32 = 400;
 
 /// A book with more formulas, more parts of them, more contexts or more entries is long: a new one is quicker.
 const LONG: usize = 20000;

@@ -13,5 +13,4 @@ mod tables;
 pub use certificates::certificate;
 pub use nodes::Step;
 pub use sameness::is_same;
-pub use sizes::MOST_LEVELS;
 pub use tables::TreeTable;

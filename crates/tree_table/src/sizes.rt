@@ -12,7 +12,7 @@ use crate::tables::TreeTable;
 pub(crate) const MOST_NODES: u32 = 100_000;
 
 /// A certificate has at most so many levels.
-pub const MOST_LEVELS: u32 = 400;
+pub(crate) const MOST_LEVELS: u32 = 400;
 
 /// The size of a leaf.
 pub(crate) const LEAF: Size = Size {

@@ -15,7 +15,8 @@ use Rattle.spl_semantics.specs.Steps.{joined_acts, path_act, path_acts, own_acts
 use Rattle.spl_semantics.specs.Going.{Act, act, around, join, back, all_done}
 use Rattle.spl_semantics.specs.Cases.{Acts, skips, is_critical, is_noncritical, assigns, awaits, requests, releases, if_holds, if_fails, either_holds, either_fails, while_holds, while_fails, walks, StandsBehind, Stands, Branch, this, later, Step, Steps, by_itself, in_block, in_branch, enters, in_child, leaves, in_front, in_loop, here_one, there_one}
 use Rattle.spl_semantics.proofs.Members.{member_none, member_left, member_right, member_cases, member_map, map_member}
-use Rattle.spl_semantics.proofs.Texts.{either, found, found_has, own_first, whole}
+use Rattle.spl_semantics.proofs.Texts.{found, found_has, own_first, whole}
+use Rattle.basic_laws.proofs.Types.{either}
 use Rattle.spl_semantics.proofs.Bodies.{body_of_block}
 
 pick_true : {A : Type 0} {x : A} (b : Bool) (xs ys : List A) → b ≡ true → Member x xs → Member x (if b then xs else ys)

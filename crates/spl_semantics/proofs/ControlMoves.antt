@@ -20,7 +20,8 @@ use Rattle.spl_semantics.specs.Runs.{State, Leads, Reached, first, next, control
 use Rattle.spl_semantics.proofs.Moving.{Moves, NamedMove, StepsAreMoves, MovesAreSteps, ControlMoves}
 use Rattle.spl_semantics.proofs.ByCases.{behind_act, listed}
 use Rattle.spl_semantics.proofs.Members.{member_left, member_right, member_cases}
-use Rattle.spl_semantics.proofs.Texts.{either, Has, same_number}
+use Rattle.spl_semantics.proofs.Texts.{Has, same_number}
+use Rattle.basic_laws.proofs.Types.{either}
 use Rattle.spl_semantics.proofs.Fits.{fronts_to, Layout, FitsAll}
 use Rattle.spl_semantics.proofs.Bodies.{has_all, begin_at}
 use Rattle.spl_semantics.proofs.Follows.{LandsAll, all_leads}

@@ -10,7 +10,8 @@ use Rattle.spl_semantics.specs.Steps.{joined_acts, first_acts, acts_along, acts_
 use Rattle.spl_semantics.specs.Going.{Act, around, join, back}
 use Rattle.spl_semantics.specs.Control.{children_at, location_at}
 use Rattle.spl_semantics.proofs.Members.{member_none, member_left, member_right, member_cases, map_member}
-use Rattle.spl_semantics.proofs.Texts.{either, Has, same_number, near_along, Region, along_region}
+use Rattle.spl_semantics.proofs.Texts.{Has, same_number, near_along, Region, along_region}
+use Rattle.basic_laws.proofs.Types.{either}
 use Rattle.spl_semantics.proofs.Fits.{location_or, body_place, location_of, front_to, fronts_to, IsGoing, IsActing, firsts, firsts_along, firsts_among, Layout, Fits, FitsAll}
 use Rattle.spl_semantics.proofs.Bodies.{HasAt, has_back, own_bodies}
 

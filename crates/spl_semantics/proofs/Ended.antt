@@ -15,7 +15,8 @@ use Rattle.spl_semantics.specs.Steps.{joined_acts, steps, steps_of}
 use Rattle.spl_semantics.specs.Going.{Act, act, around, join, back, all_done}
 use Rattle.spl_semantics.specs.Control.{children_of, children_at, location_at, ends}
 use Rattle.spl_semantics.proofs.Members.{member_none, member_left, member_right, member_cases}
-use Rattle.spl_semantics.proofs.Texts.{either, Has, same_number, near_along, Region, along_region}
+use Rattle.spl_semantics.proofs.Texts.{Has, same_number, near_along, Region, along_region}
+use Rattle.basic_laws.proofs.Types.{either}
 use Rattle.spl_semantics.proofs.Fits.{location_or, body_place, location_of, front_to, fronts_to, IsGoing, Layout, Fits, FitsAll}
 use Rattle.spl_semantics.proofs.Enabled.{Does, does_around, does_left, does_right}
 

@@ -17,7 +17,8 @@ use Rattle.spl_semantics.specs.Going.{Act, act, around, join, back, begin, all_d
 use Rattle.spl_semantics.specs.Control.{children_at, location_at, ends}
 use Rattle.spl_semantics.proofs.TextMoves.{Move, path_moves, spot_moves, all_moves}
 use Rattle.spl_semantics.proofs.Members.{member_none, member_left, member_right, member_cases, member_map}
-use Rattle.spl_semantics.proofs.Texts.{either, Has, found, own_first, near, near_along, near_among, near_first, Region, along_region}
+use Rattle.spl_semantics.proofs.Texts.{Has, found, own_first, near, near_along, near_among, near_first, Region, along_region}
+use Rattle.basic_laws.proofs.Types.{either}
 use Rattle.spl_semantics.proofs.Fits.{location_or, place_at, body_place, location_of, front_to, fronts_to, Top, SameLocs, Layout, Fits, FitsAll, run_at, join_at, back_at}
 use Rattle.spl_semantics.proofs.Bodies.{entry_is, own_bodies, body_of_block, in_body, begin_at}
 

@@ -6,7 +6,7 @@ use Rattle.st_program.specs.Spots.{entry, bodies_in, Spot, at_spot, spots, spots
 use Rattle.st_program.specs.Locations.{location_end, within_end, head_end, along_end, among_end, inside_end, IsPlaced, HeadPlaced, AlongPlaced, AmongPlaced, InsidePlaced}
 use Rattle.spl_semantics.specs.Control.{children_of, ends}
 use Rattle.spl_semantics.proofs.Members.{member_none, member_left, member_right, member_cases}
-use Rattle.spl_semantics.proofs.Texts.{either}
+use Rattle.basic_laws.proofs.Types.{either}
 use Rattle.spl_semantics.proofs.Fits.{IsActing, firsts, firsts_along, firsts_among}
 use Rattle.spl_semantics.proofs.Ended.{Between, InSpan, Spans}
 

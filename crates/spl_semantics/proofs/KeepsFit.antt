@@ -15,7 +15,8 @@ use Rattle.spl_semantics.specs.Going.{Act, around, behind, go_on, join, back, be
 use Rattle.spl_semantics.proofs.Bodies.{HasAt, along_item, has_front, has_back, has_all, own_bodies, body_of_component, body_of_block}
 use Rattle.spl_semantics.proofs.Fits.{place_at}
 use Rattle.spl_semantics.proofs.Members.{member_none, member_left, member_right, member_cases, member_map, at_member}
-use Rattle.spl_semantics.proofs.Texts.{either, Has, found, own_first, closed_inside}
+use Rattle.spl_semantics.proofs.Texts.{Has, found, own_first, closed_inside}
+use Rattle.basic_laws.proofs.Types.{either}
 
 -- the statements of a component stand in the text
 module _ (x : Body) where

@@ -20,7 +20,7 @@ use Rattle.spl_semantics.specs.Names.{own_names, all_names}
 use Rattle.spl_semantics.specs.Control.{ends}
 use Rattle.spl_semantics.proofs.TextMoves.{Move, test_moves, path_moves, own_moves, spot_moves, all_moves}
 use Rattle.spl_semantics.proofs.Members.{member_none, member_left, member_right, member_cases}
-use Rattle.spl_semantics.proofs.Texts.{either}
+use Rattle.basic_laws.proofs.Types.{either}
 use Rattle.spl_semantics.proofs.Fits.{IsActing}
 
 -- an act of the statement that the move is

@@ -17,6 +17,7 @@ use Rattle.spl_semantics.specs.Limits.{wide_formula, wide_targets, wide_path, wi
 use Rattle.spl_semantics.specs.Data.{PieceMeets, PiecesMeet}
 use Rattle.spl_semantics.proofs.Exits.{or_here, or_none}
 use Rattle.spl_semantics.specs.Walks.{Walk, behind_path, walk, walk_along, through, wide_walk, wide_walk_along}
+use Rattle.basic_laws.proofs.Truths.{or_false}
 
 -- the walks of a list of paths, each with its number
 abbrev run : ℕ → Option Store → List (ℕ × Store)
@@ -244,10 +245,6 @@ met_by (Some t) f = f t
 or_or : (a b c : Bool) → ((a || b) || c) ≡ (a || (b || c))
 or_or true b c = refl
 or_or false b c = refl
-
-or_false : (a : Bool) → (a || false) ≡ a
-or_false true = refl
-or_false false = refl
 
 wide-append : (p q : List Link) (s : Store) → wide_path (p ++ q) s ≡ (wide_path p s || met_by (walked p s) (λ t. wide_path q t))
 wide-append [] q s = refl

@@ -21,6 +21,7 @@ use Rattle.spl_semantics.proofs.Members.{member_none, at_member}
 use Rattle.spl_semantics.proofs.SeenRuns.{seen_is, observed_seen}
 use Rattle.spl_semantics.proofs.NameOrder.{Named, name_same, same_name_is, place_at}
 use Rattle.spl_translation.specs.Correspondence.{Corresponds}
+use Rattle.basic_laws.proofs.Truths.{same_bool}
 
 -- a test that some element passes, and the element
 some_passes : {X : Type 0} (test : X → Bool) (xs : List X) → list_any test xs ≡ true → (k : ℕ) × (x : X) × (slice_get xs k ≡ Some x) × (test x ≡ true)
@@ -39,11 +40,6 @@ passes_some test (y ∷ xs) x (there m) e = at_test (test y) (passes_some test x
     at_test : (b : Bool) → list_any test xs ≡ true → (b || list_any test xs) ≡ true
     at_test true i = refl
     at_test false i = i
-
-same_bool : (a b : Bool) → (a ≡ true → b ≡ true) → (b ≡ true → a ≡ true) → a ≡ b
-same_bool true b f g = sym (f refl)
-same_bool false true f g = g refl
-same_bool false false f g = refl
 
 abbrev named : PlainTransition → Named
 named t = (t.name, t.fairness)

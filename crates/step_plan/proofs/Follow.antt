@@ -12,6 +12,12 @@ use Rattle.step_plan.specs.Outcome.{Outcome, ended_view, IsDecided}
 use Rattle.step_plan.specs.Plan.{Told, Counts, Plan, ends, goes_on, asks, then_plan, LeadsTo, EndsIn, ComesTo, outcome_of, Follows}
 use Rattle.step_plan.specs.Stage.{Comes, Settles}
 
+-- parts may be grouped either way
+pub regroup : {A B C : Type 0} (f : A → Plan B) (g : B → Plan C) (plan : Plan A) → then_plan (then_plan plan f) g ≡ then_plan plan (λ x. then_plan (f x) g)
+regroup f g (ends o) = refl
+regroup f g (goes_on x) = refl
+regroup f g (asks role name go) = λ i. asks role name (λ bytes. regroup f g (go bytes) i)
+
 -- the end, the value and the file asked for of a first part and of what follows it
 
 module _ {A B : Type 0} (told : Told) (next : A → Plan B) where

@@ -1,4 +1,5 @@
 pub mod Ending
+pub mod Ends
 pub mod Limits
 pub mod Number
 pub mod Outcome

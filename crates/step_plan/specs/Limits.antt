@@ -4,7 +4,7 @@ use Rattle.st_tokens.specs.declared.limit.LimitKind.{LimitKind}
 use Rattle.st_tokens.specs.declared.limit.LimitKind.TheVariants as limits
 use Rattle.step_report.specs.declared.refusals.FileRole.{FileRole}
 use Rattle.step_report.specs.declared.refusals.FileRole.TheVariants.{Program, Proof, Certificates, Schedule}
-use Rattle.step_report.specs.Refused.{limit_text}
+use Rattle.step_report.specs.Limits.{limit_text}
 use Rattle.step_plan.specs.declared.status.Status.TheVariants.{Limit}
 use Rattle.step_plan.specs.Outcome.{Outcome}
 

@@ -4,6 +4,7 @@
 
 mod asking;
 mod ended;
+mod ends;
 mod limits;
 mod reading;
 mod stage;
@@ -12,8 +13,9 @@ mod writing;
 
 pub use asking::ask;
 pub use ended::Ended;
+pub use ends::end;
 pub use limits::limited;
 pub use stage::Stage;
 pub use status::Status;
-pub use step_report::FileRole;
+pub use step_report::{End, FileRole};
 pub use writing::write_whole;

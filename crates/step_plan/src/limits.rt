@@ -4,22 +4,12 @@ ghost use Rattle.std.specs.Prelude.{◌≡◌, IfOk};
 ghost use Rattle.step_plan.specs.Limits.{length_limit, length_kind, limited};
 ghost use Rattle.step_plan.specs.Outcome.{ended_view};
 
-use crate::{Ended, FileRole, Status};
+use crate::ends::end;
+use crate::{Ended, FileRole};
 use st_memory::Memory;
 use st_tokens::LimitKind;
 use std::alloc::Global;
-
-/// The most bytes of a file.
-pub fn length_limit(role: FileRole) -> u64
-    ensures { result ≡ length_limit role }
-{
-    match role {
-        FileRole::Program => 4_194_304,
-        FileRole::Proof => 4_194_304,
-        FileRole::Certificates => 268_435_456,
-        FileRole::Schedule => 4_194_304,
-    }
-}
+use step_report::{End, most};
 
 /// The limit that a longer file passes.
 pub fn length_kind(role: FileRole) -> LimitKind
@@ -33,14 +23,16 @@ pub fn length_kind(role: FileRole) -> LimitKind
     }
 }
 
+/// The most bytes of a file.
+pub fn length_limit(role: FileRole) -> u64
+    ensures { result ≡ length_limit role }
+{
+    most(length_kind(role))
+}
+
 /// The end of a run that passes a limit.
 pub fn limited(alloc: Global, kind: LimitKind) -> Result<Ended, Memory>
     ensures { IfOk result (λ e. ended_view e ≡ limited kind) }
 {
-    let mut text = Vec::new(alloc);
-    step_report::limited(&mut text, kind)?;
-    Ok(Ended {
-        status: Status::Limit,
-        text,
-    })
+    end(alloc, End::Limit(kind))
 }

@@ -1,15 +1,22 @@
+//! A file that is read piece by piece, up to its end or past a limit.
+
 ghost use Rattle.std.specs.Prelude.{◌≡◌, ℕ, ◌+◌, ◌-◌, ◌^◌, ◌<◌, ◌≤◌, List, length, take, IfOk, OnOk, IsErrOf};
 ghost use Rattle.st_outside.specs.Faults.{Rose, NoneFell};
 ghost use Rattle.step_plan.specs.Reading.{AreTold, IsPast};
 
 use st_outside::{Failed, Files};
 use std::alloc::Global;
+use thiserror::Error;
 
-#[derive(Clone, Copy, Debug, PartialEq, Eq)]
+/// Why a file's bytes aren't handed on.
+#[derive(Error, Debug, Clone, Copy, PartialEq, Eq)]
 pub enum ReadError {
-    Memory,
+    #[error("the file can't be read")]
     Failed,
+    #[error("the file is too long")]
     TooLong,
+    #[error("out of memory")]
+    Memory,
 }
 
 const PIECE: usize = 4096;

@@ -1,3 +1,5 @@
+//! The output text, written until all of it is taken.
+
 ghost use Rattle.std.specs.Prelude.{◌≡◌, ℕ, ◌+◌, ◌-◌, ◌^◌, ◌<◌, ◌≤◌, List, length, take, OnOk, OnErr};
 ghost use Rattle.st_outside.specs.Faults.{Rose};
 ghost use Rattle.st_outside.specs.Sink.{behind};

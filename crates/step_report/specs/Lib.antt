@@ -5,3 +5,5 @@ pub mod Conditions
 pub mod Searches
 pub mod Goals
 pub mod Traces
+pub mod Limits
+pub mod Ends

@@ -1,8 +1,6 @@
--- The texts of runs that come to no conditions: words or texts that are refused, files that aren't read, limits.
+-- The texts of words and texts that are refused, and of files that aren't read.
 use Rattle.std.specs.Prelude.{ℕ, List, [], ◌∷◌, ◌++◌, codes}
 use Rattle.std.specs.Fmt.{decimal}
-use Rattle.st_tokens.specs.declared.limit.LimitKind.{LimitKind}
-use Rattle.st_tokens.specs.declared.limit.LimitKind.TheVariants as limits
 use Rattle.step_report.specs.Names.{line}
 use Rattle.step_report.specs.declared.refusals.FaultKind.{FaultKind}
 use Rattle.step_report.specs.declared.refusals.FaultKind.TheVariants as kinds
@@ -64,23 +62,6 @@ kind_text kinds.Unset = codes "Unset"
 -- why the text of a program, of a proof or of a schedule is refused, and at which byte from 0 on
 abbrev pub refused_text : FileRole → FaultKind → ℕ → List ℕ
 refused_text role kind place = line (role_text role ++ codes " refused: " ++ kind_text kind ++ codes " at " ++ decimal place)
-
--- a limit, and the most that it lets through
-abbrev pub most_text : LimitKind → List ℕ
-most_text limits.Text = codes "Text 4194304"
-most_text limits.Certificates = codes "Certificates 268435456"
-most_text limits.Variables = codes "Variables 64"
-most_text limits.Processes = codes "Processes 16"
-most_text limits.Statements = codes "Statements 400"
-most_text limits.Nesting = codes "Nesting 32"
-most_text limits.Nodes = codes "Nodes 64"
-most_text limits.Conditions = codes "Conditions 20000"
-most_text limits.Atoms = codes "Atoms 2048"
-most_text limits.Weight = codes "Weight 16777216"
-most_text limits.Paths = codes "Paths 64"
-
-abbrev pub limit_text : LimitKind → List ℕ
-limit_text kind = line (codes "limit: " ++ most_text kind)
 
 -- what stands behind the last block
 abbrev pub trailing_text : ℕ → List ℕ

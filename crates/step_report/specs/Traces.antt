@@ -1,6 +1,6 @@
 -- What is reported of a given run: that there is none, or how many rounds begin at each position, and of each goal whether it
 -- holds on the run. Positions count from 0, moves from 1.
-use Rattle.std.specs.Prelude.{ℕ, ◌+◌, List, [], ◌∷◌, ◌++◌, length, codes}
+use Rattle.std.specs.Prelude.{ℕ, ◌+◌, List, [], ◌∷◌, ◌++◌, codes}
 use Rattle.std.specs.Fmt.{decimal}
 use Rattle.st_program.specs.Names.{Names}
 use Rattle.temporal_goals.specs.Texts.{PlainStep}

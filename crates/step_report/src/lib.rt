@@ -4,7 +4,9 @@
 #![tactic(auto)]
 
 mod conditions;
+mod ends;
 mod goals;
+mod limits;
 mod naming;
 mod pushing;
 mod refusals;
@@ -15,11 +17,13 @@ mod trees;
 mod usage;
 
 pub use conditions::{Reason, not_proved};
+pub use ends::{End, print};
 pub use goals::{counted, proved, workload};
-pub use linear_prover::{PathStep, Shown, WideStage};
+pub use limits::{limited, most};
 pub use pushing::{push_number, push_text};
-pub use refusals::{FaultKind, FileRole, limited, read_fault, refused, trailing};
+pub use refusals::{FaultKind, FileRole, read_fault, refused, trailing};
 pub use run_judging::Judged;
+pub use search_verdicts::{PathStep, Shown, WideStage};
 pub use searches::{open, wide};
 pub use st_certificate::Certificate;
 pub use st_form::CondName;

@@ -1,11 +1,10 @@
-//! The texts of files that aren't read, of texts that are refused, and of limits.
+//! The texts of files that aren't read, and of texts that are refused.
 
 ghost use Rattle.std.specs.Prelude.{◌≡◌, ◌++◌, OnOk};
-ghost use Rattle.step_report.specs.Refused.{role_text, read_fault_text, kind_text, refused_text, most_text, limit_text, trailing_text};
+ghost use Rattle.step_report.specs.Refused.{role_text, read_fault_text, kind_text, refused_text, trailing_text};
 
 use crate::pushing::{push_number, push_text};
 use st_memory::Memory;
-use st_tokens::LimitKind;
 
 /// What a file is to the run.
 #[derive(Clone, Copy, Debug, PartialEq, Eq)]
@@ -101,33 +100,6 @@ pub fn refused(out: &mut Vec<u8>, role: FileRole, kind: FaultKind, place: u64) -
     push_text(out, kind_text(kind))?;
     push_text(out, b" at ")?;
     push_number(out, place)?;
-    push_text(out, b"\n")
-}
-
-fn most_text(kind: LimitKind) -> &'static [u8]
-    ensures { result.now ≡ most_text kind }
-{
-    match kind {
-        LimitKind::Text => b"Text 4194304".as_slice(),
-        LimitKind::Certificates => b"Certificates 268435456".as_slice(),
-        LimitKind::Variables => b"Variables 64".as_slice(),
-        LimitKind::Processes => b"Processes 16".as_slice(),
-        LimitKind::Statements => b"Statements 400".as_slice(),
-        LimitKind::Nesting => b"Nesting 32".as_slice(),
-        LimitKind::Nodes => b"Nodes 64".as_slice(),
-        LimitKind::Conditions => b"Conditions 20000".as_slice(),
-        LimitKind::Atoms => b"Atoms 2048".as_slice(),
-        LimitKind::Weight => b"Weight 16777216".as_slice(),
-        LimitKind::Paths => b"Paths 64".as_slice(),
-    }
-}
-
-/// Appends the text for a limit that is passed.
-pub fn limited(out: &mut Vec<u8>, kind: LimitKind) -> Result<(), Memory>
-    ensures { OnOk result (out.new.items ≡ out.old.items ++ limit_text kind) }
-{
-    push_text(out, b"limit: ")?;
-    push_text(out, most_text(kind))?;
     push_text(out, b"\n")
 }
 

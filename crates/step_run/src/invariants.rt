@@ -8,7 +8,7 @@ ghost use Rattle.std.specs.Prelude.{◌≡◌, ◌≤◌, ◌++◌, drop, length
 ghost use Rattle.std.specs.Option.{option_map};
 ghost use Rattle.st_outside.specs.Faults.{NoneFell};
 ghost use Rattle.st_form.specs.Shared.{plain_condition};
-ghost use Rattle.discharge.specs.Verdicts.{AreSearchable};
+ghost use Rattle.search_laws.specs.Searchable.{AreSearchable};
 ghost use Rattle.temporal_goals.specs.Plain.{plain_script};
 ghost use Rattle.linear_invariants.specs.Plain.{plain_equations};
 ghost use Rattle.equation_writer.specs.Proper.{AreProper};

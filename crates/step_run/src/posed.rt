@@ -4,7 +4,7 @@ ghost use Rattle.std.specs.Prelude.{◌≡◌, ◌<◌, ◌≤◌, ◌^◌, leng
 ghost use Rattle.st_outside.specs.Faults.{NoneFell};
 ghost use Rattle.transition_system.specs.Plain.{plain_system};
 ghost use Rattle.temporal_goals.specs.Plain.{plain_script};
-ghost use Rattle.script_laws.specs.Obeying.{IsProof};
+ghost use Rattle.rule_fits.specs.Obeying.{IsProof};
 ghost use Rattle.script_laws.specs.Written.{StepWritten};
 ghost use Rattle.condition_sizes.specs.Within.{Each};
 ghost use Rattle.step_plan.specs.Outcome.{ended_view, IsDecided};

@@ -1,8 +1,9 @@
 //! The ends of runs whose schedule is refused, or gives no run.
 
 ghost use Rattle.std.specs.Prelude.{◌≡◌, IfOk};
+ghost use Rattle.schedule_reader.specs.Faults.{see};
 ghost use Rattle.step_plan.specs.Outcome.{ended_view};
-ghost use Rattle.step_run.specs.Traced.{schedule_fault, moves_limited, token_refused, schedule_refused, no_start, too_large_at, not_enabled, IsOfText};
+ghost use Rattle.step_run.specs.Traced.{schedule_fault, moves_limited, token_refused, no_start, too_large_at, not_enabled, IsEndOf};
 
 use schedule_reader::ScheduleFault;
 use st_memory::Memory;
@@ -44,8 +45,7 @@ fn token_refused(alloc: Global, fault: TokenFault) -> Result<Ended, Memory>
 
 /// The end of a run whose schedule is refused.
 pub fn schedule_refused(alloc: Global, fault: ScheduleFault) -> Result<Ended, Memory>
-    ensures outcome { IfOk result (λ e. ended_view e ≡ schedule_refused fault) }
-    ensures named { IfOk result (λ _. IsOfText fault) }
+    ensures { IfOk result (λ e. IsEndOf (see fault) (ended_view e)) }
 {
     match fault {
         ScheduleFault::Token(fault) => token_refused(alloc, fault),

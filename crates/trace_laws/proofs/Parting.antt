@@ -9,7 +9,7 @@ use Rattle.st_program.specs.Member.{Member, here, there}
 use Rattle.st_program.specs.Spots.{Spot}
 use Rattle.spl_semantics.specs.Going.{Act, around}
 use Rattle.spl_semantics.proofs.Members.{member_none, member_left, member_right, member_cases, member_map}
-use Rattle.spl_semantics.proofs.Texts.{either}
+use Rattle.basic_laws.proofs.Types.{either}
 use Rattle.trace_laws.proofs.Numbers.{Apart}
 
 -- the name is one of a statement of a part of the text

@@ -25,7 +25,8 @@ use Rattle.spl_semantics.proofs.ControlMoves.{reached_good}
 use Rattle.spl_semantics.proofs.Fits.{Fits, FitsAll}
 use Rattle.spl_semantics.proofs.Layouts.{layout_of, ends_of, apart_of}
 use Rattle.spl_semantics.proofs.Members.{member_left, member_cases}
-use Rattle.spl_semantics.proofs.Texts.{either, Region, along_region}
+use Rattle.spl_semantics.proofs.Texts.{Region, along_region}
+use Rattle.basic_laws.proofs.Types.{either}
 use Rattle.spl_semantics.proofs.Walking.{acts_of_walk, group-acts}
 use Rattle.trace_laws.specs.OneWay.{LeadsOneWay}
 use Rattle.trace_laws.proofs.Parting.{Separate, nothing, of_one, one, by_test, around_all, widened, both}

@@ -15,3 +15,4 @@ pub mod Counting
 pub mod StatementFaults
 pub mod ProgramFaults
 pub mod Texts
+pub mod Whole

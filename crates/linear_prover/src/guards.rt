@@ -1,5 +1,4 @@
 //! What the search asks of the variables of a condition, as tests that can be computed. A true answer is a proof of it.
-//! That the condition's numbers are small enough is tested by `farkas_check::is_condition_narrow`.
 
 ghost use Rattle.std.specs.Prelude.{◌≡◌, true, map};
 ghost use Rattle.st_form.specs.Formula.{formulas};

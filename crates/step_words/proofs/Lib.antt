@@ -3,3 +3,4 @@ mod Ending
 mod Workers
 mod NamedForms
 mod Stated
+pub mod Asked

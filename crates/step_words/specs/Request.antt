@@ -1,7 +1,8 @@
 -- What words ask for.
 use Rattle.std.specs.Prelude.{ℕ, List, [], ◌∷◌, ◌≡◌, ◌≤◌, Option, Some, None, if◌then◌else◌, length, ◌==◌, codes}
 use Rattle.std.specs.Str.{bytes_eq}
-use Rattle.clap.specs.Words.{Text, all_of, fault_of, first_of, matches_of}
+use Rattle.std.specs.Str.Parse.{IsNumeral, digits_value, without_leading_plus}
+use Rattle.clap.specs.Words.{Text, all_of, fault_of, first_of, one_of, matches_of}
 use Rattle.step_words.specs.Definition.{step_app}
 use Rattle.step_words.specs.declared.request.Request.{Request}
 use Rattle.step_words.specs.declared.request.Request.TheVariants.{Check, Verify, Prove, Workload, Trace, Invariants}
@@ -57,6 +58,17 @@ request_of words =
     if length (fault_of step_app words) == 0
     then request_given (first_of (codes "command") (matches_of step_app words)) (all_of (codes "names") (matches_of step_app words))
     else None
+
+-- what stands for the number of workers, from 1 to 64
+abbrev pub workers_of : List Text → Option Text
+workers_of words = one_of (codes "workers") (matches_of step_app words)
+
+-- there are as many workers as this text says, and one where there is none
+abbrev pub AreWorkers : Option Text → ℕ → Type 0
+AreWorkers None n = n ≡ 1
+AreWorkers (Some text) n =
+    IsNumeral 10 (without_leading_plus text) → 1 ≤ digits_value 10 (without_leading_plus text) → digits_value 10 (without_leading_plus text) ≤ 64
+    → n ≡ digits_value 10 (without_leading_plus text)
 
 -- a workload is one of the four
 abbrev pub IsStated : PlainRequest → Type 0

@@ -1,8 +1,9 @@
 //! What clap finds in the words.
 
 ghost use Rattle.std.specs.Prelude.{◌≡◌, ◌≢◌, ◌≤◌, [], IfOk, IsErrOf, codes, map, option_map};
-ghost use Rattle.clap.specs.Words.{found_of, rows_of, fault_of, matches_of, first_of, all_of};
+ghost use Rattle.clap.specs.Words.{found_of, rows_of, fault_of, matches_of, first_of, all_of, one_of};
 ghost use Rattle.step_words.specs.Definition.{step_app, words_of};
+ghost use Rattle.step_words.specs.Request.{AreWorkers};
 
 use crate::WordsFault;
 use crate::definition::step_command;
@@ -43,14 +44,30 @@ pub fn names_of<'b, 'a>(matches: &'b ArgMatches<'a>) -> Option<&'b [&'a str]>
     matches.get_strs("names")
 }
 
+/// The number, or the nearest from 1 to 64.
+fn within_range(workers: u32) -> u32
+    ensures same { (1 ≤ workers) → (workers ≤ 64) → result ≡ workers }
+    ensures least { 1 ≤ result }
+    ensures most { result ≤ 64 }
+{
+    if workers < 1 {
+        return 1;
+    }
+    if 64 < workers {
+        return 64;
+    }
+    workers
+}
+
 /// How many workers are asked for. clap has taken no number outside the range; the bounds are put once more in place of a
 /// proof of that.
 pub fn workers_of(matches: &ArgMatches<'_>) -> u32
+    ensures asked { AreWorkers (one_of (codes "workers") (rows_of (found_of matches.now))) result }
     ensures least { 1 ≤ result }
     ensures most { result ≤ 64 }
 {
     match matches.get_one::<u32>("workers") {
-        Some(workers) => workers.clamp(1, 64),
+        Some(workers) => within_range(workers),
         None => 1,
     }
 }

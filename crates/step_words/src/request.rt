@@ -3,7 +3,7 @@
 ghost use Rattle.std.specs.Prelude.{◌≡◌, ◌≤◌, ◌∷◌, [], Some, None, map, option_map, codes, IfOk, IfSome, IsErrOf};
 ghost use Rattle.clap.specs.Words.{all_of, first_of, found_of, rows_of};
 ghost use Rattle.step_words.specs.Definition.{words_of};
-ghost use Rattle.step_words.specs.Request.{IsStated, plain_request, request_of, request_given, request_for, workload_number};
+ghost use Rattle.step_words.specs.Request.{IsStated, plain_request, request_of, request_given, request_for, workload_number, AreWorkers, workers_of};
 
 use crate::WordsFault;
 use crate::parsing::{command_of, names_of, parse, workers_of};
@@ -125,6 +125,7 @@ fn request_in<'a>(matches: &ArgMatches<'a>) -> Option<Request<'a>>
 pub fn read_request<'a>(alloc: Global, words: &'a [String]) -> Result<CommandLine<'a>, WordsFault>
     ensures ok { IfOk result (λ c. request_of (words_of words.entry.now) ≡ Some (plain_request c.request)) }
     ensures refused { IsErrOf result WordsFault.Refused → request_of (words_of words.entry.now) ≡ None }
+    ensures workers { IfOk result (λ c. AreWorkers (workers_of (words_of words.entry.now)) c.workers) }
     ensures least { IfOk result (λ c. 1 ≤ c.workers) }
     ensures most { IfOk result (λ c. c.workers ≤ 64) }
 {

@@ -4,7 +4,7 @@ ghost use Rattle.std.specs.Prelude.{◌≡◌, ◌+◌, ◌-◌, ◌<◌, ◌≤
 ghost use Rattle.cert_text.specs.Reading.{progress_view, pending_view, after, start};
 ghost use Rattle.st_certificate.specs.Plain.{plain};
 ghost use Rattle.cert_text.specs.Tree.{last_tree};
-ghost use Rattle.cert_text.specs.Answer.{answer_view, at_end, need, judged};
+ghost use Rattle.cert_text.specs.Answer.{answer_view, at_end, block, need, judged};
 ghost use Rattle.cert_text.specs.Blank.{first_place, past_blanks};
 ghost use Rattle.cert_text.specs.Held.{nothing_held, answer_of, taken_from};
 
@@ -93,6 +93,15 @@ fn waiting(progress: &Progress, finished: bool, end: u64) -> NextBlock
     } else {
         NextBlock::Need
     }
+}
+
+fn block_of(number: u32, certificate: Certificate) -> NextBlock
+    ensures { answer_view result ≡ block number (plain certificate) }
+{
+    NextBlock::Block(Block {
+        number,
+        certificate,
+    })
 }
 
 /// Reads on to the end of the bytes, or of the block.
@@ -246,11 +255,7 @@ impl CertReader {
                 self.number += 1;
                 self.second = self.progress.scan.second;
                 self.progress = beginning(self.alloc, self.number, self.second);
-                let block = Block {
-                    number,
-                    certificate,
-                };
-                Ok(NextBlock::Block(block))
+                Ok(block_of(number, certificate))
             }
         }
     }

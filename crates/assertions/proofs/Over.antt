@@ -25,10 +25,7 @@ use Rattle.expression_typer.proofs.Numerals.{numeral_word, variable_word}
 use Rattle.expression_typer.specs.Naming.{NamesOver}
 use Rattle.assertions.specs.Over.{FormulaOver, FormulasOver}
 use Rattle.assertions.specs.Reading.{Answer, truth_of, number_of, before, typed_behind}
-
-either : {A : Type 0} (P : A → Type 0) (b : Bool) (x y : Result A TypeFault) → Holds P x → Holds P y → Holds P (cond b x y)
-either P true x y h k = h
-either P false x y h k = k
+use Rattle.expression_typer.proofs.Terms.{either}
 
 module _ (vs : List Variable) (locations : ℕ) where
   abbrev Over : Term → Type 0

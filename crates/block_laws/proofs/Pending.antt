@@ -10,7 +10,7 @@ use Rattle.farkas_check.specs.Problem.{Setting}
 use Rattle.cert_text.specs.declared.reader.Block.{Block}
 use Rattle.cert_text.specs.Answer.{block}
 use Rattle.cert_text.specs.Held.{Held, answer_of, taken_from}
-use Rattle.discharge.specs.First.{Proves, ProveBefore, Fails, IsFirstFailing}
+use Rattle.block_validity.specs.First.{Proves, ProveBefore, Fails, IsFirstFailing}
 use Rattle.step_report.specs.declared.conditions.Reason.{Reason}
 use Rattle.step_report.specs.declared.conditions.Reason.TheVariants.{NotValid}
 use Rattle.block_laws.specs.Tests.{is_certificate}

@@ -19,7 +19,8 @@ use Rattle.cert_text.specs.Run.{scan_at}
 use Rattle.cert_text.specs.Grammar.{int_tokens, more_terms, w_absurd, w_farkas, w_linear, w_node, w_cut, word_of_node}
 use Rattle.cert_laws.proofs.Givens.{is_inside}
 use Rattle.cert_laws.proofs.Ends.{Goes, g_end, g_leave, g_tree, goes, ARow, row_from, ATree, ABrace, IsAllowed, AMore, AnInt, APick, SomeTerms, AVariable, AColon, ACoefficient, AnEnd, Brackets, Completes, AreSpellable, ending}
-use Rattle.cert_laws.proofs.Plain.{plain_picks, int_plain, lines_plain, same_if, one_more, some_size, risen, not_zero, is_zero, left_one, both}
+use Rattle.cert_laws.proofs.Plain.{plain_picks, int_plain, lines_plain, same_if, one_more, some_size, risen, not_zero, left_one, both}
+use Rattle.basic_laws.proofs.Numbers.{is_zero}
 
 no_truth : false ≡ true → ⊥
 no_truth h = cc

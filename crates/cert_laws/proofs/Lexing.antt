@@ -16,10 +16,7 @@ use Rattle.cert_text.specs.Tree.{Built, applied}
 use Rattle.cert_text.specs.Reading.{going, malformed, idle, letters, digits, step, after, staged, is_whole, word_grown, number_grown, token_taken, word_ended, and_begun}
 use Rattle.cert_laws.specs.Spelled.{letters_of, AreAll, value_behind, IsSign}
 use Rattle.cert_laws.proofs.Prefixes.{NotHeader, prefix_fits}
-
-blank_step : (at b : ℕ) (scan : Scan) (built : Built) → is_blank b ≡ true → step at (going scan built idle) b ≡ going scan built idle
-unfolding step
-blank_step at b scan built h = ap (λ x. cond x (going scan built idle) (cond (is_letter b) (word_grown at scan built [] b) (cond (is_digit b) (number_grown at scan built 0 b) (token_taken at (at + 1) (give scan (tokens.Sign b)) built)))) h
+use Rattle.cert_text.proofs.NumberRuns.{blank_step}
 
 pub blanks_read : (bs rest : List ℕ) (at : ℕ) (scan : Scan) (built : Built) → AreAll is_blank bs → after at (going scan built idle) (bs ++ rest) ≡ after (at + length bs) (going scan built idle) rest
 blanks_read [] rest at scan built h = ap (λ n. after n (going scan built idle) rest) (omega arith)

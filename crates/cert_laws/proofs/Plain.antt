@@ -37,9 +37,6 @@ risen n last h = (grind (arith, nat_tests), grind (arith, nat_tests))
 pub not_zero : (n : ℕ) → (n == 0) ≡ false → 0 < n
 not_zero n h = grind (arith, nat_tests)
 
-pub is_zero : (n : ℕ) → (n == 0) ≡ true → n ≡ 0
-is_zero n h = grind (arith, nat_tests)
-
 pub left_one : (d : ℕ) → nat_lt 0 d ≡ true → d ≡ d - 1 + 1
 left_one d h = grind (arith, nat_tests)
 

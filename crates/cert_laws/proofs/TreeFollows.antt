@@ -18,13 +18,11 @@ use Rattle.cert_text.specs.Run.{want_behind}
 use Rattle.cert_text.specs.Grammar.{Int, int_tokens, pick_tokens, picks_tokens, line_tokens, lines_tokens, term_tokens, terms_tokens, more_terms, AreTerms, Written, Rows, w_absurd, w_farkas, w_linear, w_node, w_cut, w_last, w_and, tree_tokens, rows_tokens, block_tokens, word_of_node, IsProper, AreProper, tree_count, row_count, none_left, is_long, is_long_entry}
 use Rattle.cert_laws.specs.Limits.{int_marks, pick_marks, picks_marks, line_marks, lines_marks, term_marks, more_marks, terms_marks, tree_marks, rows_marks, block_marks}
 use Rattle.cert_laws.proofs.Follows.{stopped, Follows, stopped_lt, not_over, limited, some_given, small_same, deep_enough, one_less, more_than_none, not_none, At, on_step, behind_is, number_step, pick_follows, picks_follow, line_follows, lines_follow}
+use Rattle.basic_laws.proofs.Numbers.{same_test as same_number}
 
 not_risen : (n last : ℕ) → last ≤ n → last < 2 ^ 63 → nat_le (stopped (n + 1)) last ≡ false
 unfolding stopped
 not_risen n last h k = grind (arith, nat_tests)
-
-same_number : (n : ℕ) → (n == n) ≡ true
-same_number n = grind (arith, nat_tests)
 
 entry_small : (n : ℕ) → is_long_entry n ≡ false → n < 2 ^ 63
 entry_small n e = not_over n 1152921504606846976 (omega arith) e

@@ -13,7 +13,7 @@ use Rattle.cert_text.specs.Tree.{Built}
 use Rattle.cert_text.specs.Reading.{going, malformed, idle, digits, token_taken, word_grown, number_grown, and_begun, step, after}
 use Rattle.cert_text.proofs.WordRuns.{taken_then}
 
-blank_step : (at b : ℕ) (scan : Scan) (built : Built) → is_blank b ≡ true → step at (going scan built idle) b ≡ going scan built idle
+pub blank_step : (at b : ℕ) (scan : Scan) (built : Built) → is_blank b ≡ true → step at (going scan built idle) b ≡ going scan built idle
 unfolding step
 blank_step at b scan built h = ap (λ x. cond x (going scan built idle) (cond (is_letter b) (word_grown at scan built [] b) (cond (is_digit b) (number_grown at scan built 0 b) (token_taken at (at + 1) (give scan (tokens.Sign b)) built)))) h
 

@@ -18,6 +18,7 @@ use Rattle.cert_text.specs.Run.{Run, passed, go, run, scan_at, want_behind}
 use Rattle.cert_text.proofs.PickReads.{joined_over, go_cond, not_none, one_less}
 use Rattle.cert_text.proofs.LeafReads.{built_with, built_at, behind_is, cond_under, leaf_read, linear_read, terms_read, constant_read}
 use Rattle.cert_text.proofs.CutReads.{cut_form}
+use Rattle.basic_laws.proofs.Numbers.{same_test as same_number}
 
 -- the trees of a row as a list
 abbrev pub row_list : Rows → List Tree
@@ -122,9 +123,6 @@ mutual
       ∙ ap (λ vs. cond deep passed (done vs (trees + tree_count w + row_count ws))) (append_assoc us (meaning w ∷ []) (row_list ws))
       ∙ ap (λ m. cond deep passed (done (us ++ row_list (w_and w ws)) m)) (sum_assoc trees (tree_count w) (row_count ws)))
       ∙ joined_over (tree_over trees (depth + 1) w) deep (done (us ++ row_list (w_and w ws)) (trees + row_count (w_and w ws)))
-
-same_number : (n : ℕ) → (n == n) ≡ true
-same_number n = grind (arith, nat_tests)
 
 -- a block that a version allows is read to its end with what it means, unless it passes a limit
 pub block_read : (number : ℕ) (header second : Bool) (w : Written) (k : List Token) → IsProper second w → run (block_tokens number w k) (scan_at number second (wants.Block header) 0 0) (built_at [] []) ≡ cond (tree_over 0 0 w) passed (run k (scan_at number second wants.Whole 0 (0 + tree_count w)) (built_at (meaning w ∷ []) []))

@@ -11,8 +11,8 @@ use Rattle.farkas_check.specs.Problem.{Setting}
 use Rattle.cert_text.specs.declared.reader.Block.{Block}
 use Rattle.cert_text.specs.Held.{Held}
 use Rattle.cert_laws.specs.Laws.{closed}
-use Rattle.discharge.specs.First.{AreCheckable, IsFirstFailing}
-use Rattle.discharge.specs.Verdicts.{AreSearchable}
+use Rattle.block_validity.specs.First.{AreCheckable, IsFirstFailing}
+use Rattle.search_laws.specs.Searchable.{AreSearchable}
 use Rattle.discharge.proofs.Halves.{left-searchable, right-searchable}
 use Rattle.script_obligations.specs.Laws.{AreLimitedBlocks, SearchableIsCheckable}
 use Rattle.step_report.specs.declared.conditions.Reason.{Reason}

@@ -22,9 +22,7 @@ use Rattle.certificate_batches.specs.declared.finding.Finding.TheVariants.{Disch
 use Rattle.certificate_batches.specs.Turns.{trailing, AreDropped, IsTaken}
 use Rattle.certificate_batches.specs.Batches.{rest_found, comes_to, Keeps, AreInOrder, AreAllDischarged}
 use Rattle.certificate_batches.proofs.Pending.{unsettled_is, settled_is}
-
-no_truth : false ≡ true → ⊥
-no_truth e = cc
+use Rattle.basic_laws.proofs.Truths.{no_truth}
 
 -- one step after the other
 pub keeps_then : (k : Setting) (cs : List Condition) (a b c : Batches) → b.reader.finished ≡ a.reader.finished → Keeps k cs a b → Keeps k cs b c → Keeps k cs a c

@@ -4,7 +4,7 @@ use Rattle.st_form.specs.Condition.{Implication}
 use Rattle.st_form.specs.declared.conditions.Condition.{Condition}
 use Rattle.farkas_check.specs.Problem.{Setting}
 use Rattle.farkas_check.specs.PlainProblem.{setting}
-use Rattle.discharge.specs.Verdicts.{AreSearchable}
+use Rattle.search_laws.specs.Searchable.{AreSearchable}
 use Rattle.block_laws.specs.Plain.{plains}
 use Rattle.certificate_batches.specs.declared.claims.Claims.{Claims}
 

@@ -14,6 +14,7 @@ use Rattle.control_states.specs.declared.alternative.Alternative.TheVariants.{Lo
 use Rattle.control_facts.specs.Alternatives.{own, own_within, own_among, once, inside_at, alternatives_at, alternatives_of}
 use Rattle.control_facts.specs.Walk.{heads, heads_first, heads_among, choices, further, choices_along, choices_among, choices_of}
 use Rattle.control_facts.proofs.Onces.{nowhere, in_either, but, but_same, of_but, of_once, but_absent, but_twice, once_append, flat_append, flat_same, flat_none, map_append, in_map}
+use Rattle.basic_laws.proofs.Types.{either}
 
 mutual
   pub grow : (s : Statement) (f : ℕ) → f ≤ location_end s f
@@ -48,10 +49,6 @@ mutual
 -- the locations of statements
 abbrev places : List Statement → List ℕ
 places xs = map location xs
-
-either : {A B C : Type 0} → A ⊎ B → (A → C) → (B → C) → C
-either (inl a) f g = f a
-either (inr b) f g = g b
 
 places_cases : (l : ℕ) (xs ys : List Statement) → Member l (places (xs ++ ys)) → Member l (places xs) ⊎ Member l (places ys)
 places_cases l xs ys m = in_either (places xs) (subst (Member l) (map_append location xs ys) m)

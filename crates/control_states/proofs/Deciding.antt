@@ -6,21 +6,13 @@ use Rattle.control_states.specs.declared.alternative.Alternative.{Alternative}
 use Rattle.control_states.specs.declared.alternative.Alternative.TheVariants.{Location, Inside}
 use Rattle.control_states.specs.Control.{ComponentFacts, ControlFacts, component_at, Active, process, child, InControl}
 use Rattle.control_states.specs.Place.{is_inside, is_location, elsewhere, cut_by, cut_off, place_by, place_in, place, Follows, AreRight}
+use Rattle.basic_laws.proofs.Numbers.{same_test, test_same}
+use Rattle.basic_laws.proofs.Truths.{or_parts}
+use Rattle.basic_laws.proofs.Types.{some_same}
 
 pub cut_off-step : (parts : List ComponentFacts) (cases : List (Option Alternative)) (n c : ℕ) → 0 < n → cut_off parts cases n c ≡ cut_by cases (cut_off parts cases (n - 1)) (component_at parts c).around
 cut_off-step parts cases zero c h = absurd (omega arith)
 cut_off-step parts cases (suc n) c h = let e : suc n - 1 ≡ n = omega arith in rw e
-
--- a test of two cases
-pub or_parts : (a b : Bool) → (a || b) ≡ true → (a ≡ true) ⊎ (b ≡ true)
-or_parts true b h = inl refl
-or_parts false b h = inr h
-
-same_test : (n : ℕ) → (n == n) ≡ true
-same_test n = grind (arith, nat_tests)
-
-test_same : (m n : ℕ) → (m == n) ≡ true → m ≡ n
-test_same m n h = grind (arith, nat_tests)
 
 elsewhere-not : (o : ℕ) (d : Option Alternative) → elsewhere o d ≡ true → (a : Alternative) × (d ≡ Some a) × (is_inside o a ≡ false)
 elsewhere-not o None h = absurd (cc)
@@ -54,9 +46,6 @@ is_location-not l a h e = let t : is_location l (Location l) ≡ true = same_tes
 false_if : (b : Bool) → (IsTrue b → ⊥) → b ≡ false
 false_if true h = absurd (h refl)
 false_if false h = refl
-
-some_same : {A : Type 0} (x y : A) → Some x ≡ Some y → x ≡ y
-some_same x y h = cc
 
 -- a decided truth value of being at a location is right in each control state that has the decisions
 pub place-right : (k : ControlFacts) (m : ℕ → Alternative) (at : ℕ → Bool) (cases : List (Option Alternative)) → InControl k m at → Follows k.components m cases → (l : ℕ) (b : Bool) → place k cases l ≡ Some b → at l ≡ b

@@ -8,7 +8,7 @@ use Rattle.temporal_goals.specs.declared.diagrams.DiagramKind.{DiagramKind}
 use Rattle.temporal_goals.specs.declared.diagrams.DiagramKind.TheVariants.{Wait, Chain, Rank}
 use Rattle.vc_generator.specs.Building.{Draft}
 use Rattle.rule_laws.specs.Diagrams.{drawn_rank, wait_list, chain_list, rank_list}
-use Rattle.rule_laws.specs.Fitting.{DrawnNodesFit, LevelsExist}
+use Rattle.rule_fits.specs.Fitting.{DrawnNodesFit, LevelsExist}
 
 -- the form less 1 is a form: its constant is far from the limit of forms
 abbrev pub CanFall : Linear → Type 0

@@ -4,7 +4,7 @@ ghost use Rattle.std.specs.Prelude.{◌≡◌, true, map};
 ghost use Rattle.observations.specs.Observation.{IsJust};
 ghost use Rattle.transition_system.specs.Plain.{plain_system, plain_transition};
 ghost use Rattle.temporal_goals.specs.Plain.{plain_goal, plain_drawn_node, plain_diagram};
-ghost use Rattle.rule_laws.specs.Fitting.{fairness_of, DrawnFits, DrawnNodesFit, LevelsExist};
+ghost use Rattle.rule_fits.specs.Fitting.{fairness_of, DrawnFits, DrawnNodesFit, LevelsExist};
 ghost use Rattle.rule_laws.specs.Diagrams.{drawn_rank};
 ghost use Rattle.diagram_conditions.specs.Asked.{CanFall, RanksCanFall, BoundCanFall, FitsWaiting, FitsResponse, FitsGoal, Fits};
 

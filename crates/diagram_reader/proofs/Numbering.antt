@@ -11,6 +11,7 @@ use Rattle.transition_system.specs.Systems.{PlainTransition, System}
 use Rattle.transition_system.specs.Bounds.{AreDistinct, IsSystem}
 use Rattle.transition_system.specs.Meaning.{IsNamed, HasNoName}
 use Rattle.diagram_reader.specs.Transitions.{same_part, is_step, number_of}
+use Rattle.basic_laws.proofs.Truths.{both_true}
 
 same_part_is : (q r : Part) → same_part q r ≡ true → q ≡ r
 same_part_is Whole Whole e = refl
@@ -27,10 +28,6 @@ part_same : (q : Part) → same_part q q ≡ true
 part_same Whole = refl
 part_same Entry = refl
 part_same Exit = refl
-
-both_true : (a b : Bool) → (a && b) ≡ true → (a ≡ true) × (b ≡ true)
-both_true true b e = (refl, e)
-both_true false b e = cc
 
 step_is : (occ : ℕ) (part : Part) (n : TransName) → is_step occ part n ≡ true → n ≡ Step occ part
 step_is occ part Idle e = cc

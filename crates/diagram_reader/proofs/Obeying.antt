@@ -20,7 +20,7 @@ use Rattle.temporal_goals.specs.declared.diagrams.DiagramKind.TheVariants.{Wait,
 use Rattle.observations.specs.declared.Fairness.{Fairness}
 use Rattle.observations.specs.declared.Fairness.TheVariants.{Unfair, Just, Compassionate}
 use Rattle.observations.specs.Observation.{IsJust}
-use Rattle.rule_laws.specs.Fitting.{fairness_of}
+use Rattle.rule_fits.specs.Fitting.{fairness_of}
 use Rattle.diagram_reader.specs.declared.fault.DiagramFault.{DiagramFault}
 use Rattle.diagram_reader.specs.declared.fault.DiagramFault.TheVariants as faults
 use Rattle.diagram_reader.specs.declared.item.Item.{Item}
@@ -30,6 +30,8 @@ use Rattle.diagram_reader.specs.Drawn.{Setting, Drawing, nothing_drawn, with_ter
 use Rattle.diagram_reader.specs.Drawing.{item_in, unless, numeral_of, formula_of, sum_of, rank_of, just_of, helper_of, new_number_of, numbered_node_of, node_of, known_of, transition_number_of, numbers_of, edge_of, terminal_of, item_of, turn_of, items_of, closed_of, drawing_of}
 use Rattle.diagram_reader.specs.Obeying.{NumberFits, RankFits, HelperFits, NodeObeys, is_numbered, AreApart, Descends, EdgeObeys, Obeys}
 use Rattle.diagram_reader.proofs.Inverses.{going, both, given, allowed, there, chain_keeps, further_keeps}
+use Rattle.basic_laws.proofs.Numbers.{is_zero, less, not_less}
+use Rattle.basic_laws.proofs.Truths.{not_false}
 
 neither : (a b : Bool) → (a || b) ≡ false → (a ≡ false) × (b ≡ false)
 neither true b e = absurd cc
@@ -41,15 +43,6 @@ either_way false b e = inr e
 
 above_zero : (n : ℕ) → (n == 0) ≡ false → 0 < n
 above_zero n h = grind (arith, nat_tests)
-
-is_zero : (n : ℕ) → (n == 0) ≡ true → n ≡ 0
-is_zero n h = grind (arith, nat_tests)
-
-not_less : (m n : ℕ) → nat_lt m n ≡ false → n ≤ m
-not_less m n h = grind (arith, nat_tests)
-
-less : (m n : ℕ) → nat_lt m n ≡ true → m < n
-less m n h = grind (arith, nat_tests)
 
 -- a number that is new is above 0 and apart from the others
 number_fits : (kind : DiagramKind) (levels n : ℕ) (nodes : List PlainDrawnNode) → is_known n nodes ≡ false → is_above kind levels n ≡ false → NumberFits kind levels n
@@ -102,10 +95,6 @@ transition_in_range names system s t rest h =
     let found = mapped_some (λ (n : ℕ). (n, a.value.0.place)) (transition_named names system a.value.0.text b.value.0) t (there (faults.UnknownTransition a.value.0.place) o t b.value.1 rest b.second) in
     let e : found.0 ≡ t.0 = ap (λ (p : ℕ × ℕ). p.0) found.2 in
     subst (λ n. n < length system.transitions) e (named_in_range names system a.value.0.text b.value.0 found.0 found.1)
-
-not_false : (b : Bool) → not b ≡ false → b ≡ true
-not_false true e = refl
-not_false false e = absurd cc
 
 just_is : (o : Option Fairness) → owes_justice o ≡ true → (o ≡ Some Just) ⊎ (o ≡ Some Compassionate)
 just_is None e = absurd cc

@@ -13,7 +13,7 @@ use Rattle.transition_system.specs.Systems.{System}
 use Rattle.temporal_goals.specs.Texts.{PlainDrawnNode, PlainDiagram}
 use Rattle.temporal_goals.specs.declared.diagrams.DiagramKind.{DiagramKind}
 use Rattle.temporal_goals.specs.declared.diagrams.DiagramKind.TheVariants.{Wait, Chain, Rank}
-use Rattle.rule_laws.specs.Fitting.{DrawnFits, DrawnNodesFit, LevelsExist}
+use Rattle.rule_fits.specs.Fitting.{DrawnFits, DrawnNodesFit, LevelsExist}
 use Rattle.expression_typer.specs.Naming.{names_of}
 use Rattle.expression_typer.specs.Naming.{NamesOver}
 use Rattle.assertions.specs.Over.{FormulaOver}
@@ -29,7 +29,7 @@ use Rattle.diagram_reader.specs.Obeying.{NumberFits, HelperFits, NodeObeys, Obey
 use Rattle.diagram_reader.proofs.Inverses.{both, given}
 use Rattle.diagram_reader.proofs.Obeying.{NodeRead, node_read, drawn, diagram_obeys}
 
-unit_is : {A : Type 0} (a : Answer A) (x : A) (rest : Stream) → unit_of a ≡ Ok (x, rest) → a ≡ Ok (x, rest)
+pub unit_is : {A : Type 0} (a : Answer A) (x : A) (rest : Stream) → unit_of a ≡ Ok (x, rest) → a ≡ Ok (x, rest)
 unit_is (Ok y) x rest h = cc
 unit_is (Err f) x rest h = absurd cc
 

@@ -16,7 +16,7 @@ use Rattle.expression_typer.specs.Naming.{is_text}
 use Rattle.observations.specs.declared.Fairness.{Fairness}
 use Rattle.observations.specs.declared.Fairness.TheVariants.{Unfair, Just, Compassionate}
 use Rattle.transition_system.specs.Systems.{PlainTransition, System}
-use Rattle.rule_laws.specs.Fitting.{fairness_of}
+use Rattle.rule_fits.specs.Fitting.{fairness_of}
 use Rattle.diagram_reader.specs.declared.fault.DiagramFault.{DiagramFault}
 use Rattle.diagram_reader.specs.declared.fault.DiagramFault.TheVariants as faults
 

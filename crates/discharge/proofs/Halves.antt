@@ -6,11 +6,12 @@ use Rattle.std.proofs.lemmas.Bool.Decides.{nat_tests}
 use Rattle.st_form.specs.declared.conditions.Condition.{Condition}
 use Rattle.cert_text.specs.declared.reader.Block.{Block}
 use Rattle.farkas_check.specs.Problem.{Setting}
-use Rattle.linear_prover.specs.declared.verdict.Verdict.{Verdict}
+use Rattle.search_verdicts.specs.declared.verdict.Verdict.{Verdict}
 use Rattle.discharge.specs.declared.shares.Share.{Share}
 use Rattle.discharge.specs.Dealt.{every, dealt, left_half, right_half, lesser_place}
-use Rattle.discharge.specs.First.{AreCheckable, Proves, ProveBefore, Fails, IsFirstFailing}
-use Rattle.discharge.specs.Verdicts.{AreSearchable, IsAnswer, AreAnswers}
+use Rattle.block_validity.specs.First.{AreCheckable, Proves, ProveBefore, Fails, IsFirstFailing}
+use Rattle.discharge.specs.Verdicts.{IsAnswer, AreAnswers}
+use Rattle.search_laws.specs.Searchable.{AreSearchable}
 use Rattle.discharge.proofs.Dealing.{InTurn, dealt_in_turn, first_there, between_there, every_all, every_within}
 
 -- ---- what is asked
@@ -185,9 +186,6 @@ between-fits k share cs bs (Some j) h =
     omega (arith, failing-within k (dealt (left_half share) cs) bs j h, every_within (share.stride + share.stride) (share.count / 2) cs)
 
 -- ---- one share of all
-pub answers-of-all : (k : Setting) (cs : List Condition) (vs : List Verdict) → AreAnswers k (every 1 (length cs) cs) vs → AreAnswers k cs vs
-answers-of-all k cs vs h = subst (λ (l : List Condition). AreAnswers k l vs) (every_all cs) h
-
 pub first-of-all : (k : Setting) (cs : List Condition) (bs : List Block) → AreCheckable cs bs → (o : Option ℕ) → IsFirstFailing k (every 1 (length cs) cs) (every 1 (length cs) bs) o → IsFirstFailing k cs bs o
 first-of-all k cs bs asked o h =
     let blocks : every 1 (length cs) bs ≡ bs = ap (λ (n : ℕ). every 1 n bs) (checkable-sizes cs bs asked) ∙ every_all bs in

@@ -1,14 +1,18 @@
 -- Marks of conditions that are decided valid.
 use Rattle.std.proofs.Common.{◌≡◌, ◌∙◌, ℕ, zero, suc, ◌+◌, ◌<◌, ◌≤◌, ◌⊎◌, inl, inr, Bool, true, false, List, [], ◌∷◌, length, replicate, refl, ap, sym, subst, arith, get_or}
-use Rattle.std.specs.Prelude.{Some, slice_get}
+use Rattle.std.specs.Prelude.{Option, Some, None, IfSome, slice_get}
 use Rattle.std.proofs.Math.ListN.{set}
 use Rattle.std.proofs.lemmas.List.{length-set, length-replicate}
 use Rattle.std.proofs.lemmas.Option.{slice_get-get_or}
+use Rattle.st_form.specs.Shared.{given_of, shown_of}
 use Rattle.st_form.specs.declared.conditions.Condition.{Condition}
 use Rattle.farkas_check.specs.Problem.{Setting}
-use Rattle.discharge.specs.Marked.{AreMarks}
+use Rattle.search_verdicts.specs.declared.verdict.Verdict.{Verdict}
+use Rattle.discharge.specs.declared.marks.Undecided.{Undecided}
+use Rattle.discharge.specs.Marked.{AreMarks, IsUndecided, IsFirstUndecided}
+use Rattle.linear_prover.specs.Verdicts.{IsUnlessValid}
 use Rattle.discharge.specs.Searched.{mark, ValidBefore}
-use Rattle.discharge.specs.Verdicts.{IsSearchable, AreSearchable}
+use Rattle.search_laws.specs.Searchable.{IsSearchable, AreSearchable}
 use Rattle.discharge.proofs.Numbers.{below-or-from}
 
 some-same : {A : Type 0} (x y : A) → Some x ≡ Some y → x ≡ y
@@ -79,3 +83,20 @@ pub set_other : (found others now : List Bool) (i : ℕ) → slice_get others i 
     → ((j : ℕ) → slice_get now j ≡ Some true → (slice_get found j ≡ Some true) ⊎ (slice_get others j ≡ Some true))
     → (j : ℕ) → slice_get (set now i true) j ≡ Some true → (slice_get found j ≡ Some true) ⊎ (slice_get others j ≡ Some true)
 set_other found others now i at h j m = elim (set_from now i j true true m) [ inl s ↦ inr (subst (λ (n : ℕ). slice_get others n ≡ Some true) (sym s) at) | inr o ↦ h j o ]
+
+-- the answer to the condition at a place
+pub undecided_at : (k : Setting) (cs : List Condition) (i : ℕ) (c : Condition) (v : Verdict) → slice_get cs i ≡ Some c → IsUnlessValid k (given_of c) (shown_of c) (Some v)
+    → IsUndecided k cs (record { place = i; verdict = v })
+undecided_at k cs i c v at told = record {
+  at = record { condition = c; there = at; left = told.0 };
+  answer = record { exact = told.1; right = told.2 };
+}
+
+-- where what isn't marked before the one that is told, or before the end, is valid, it is the first
+abbrev pub end_of : List Condition → Option Undecided → ℕ
+end_of cs None = length cs
+end_of cs (Some u) = u.place
+
+pub first_of : (k : Setting) (cs : List Condition) (o : Option Undecided) (end : ℕ) → IfSome o (IsUndecided k cs) → ValidBefore k cs end → end ≡ end_of cs o → IsFirstUndecided k cs o
+first_of k cs None end h before e = (subst (ValidBefore k cs) e before, tt)
+first_of k cs (Some u) end h before e = ((subst (ValidBefore k cs) e before, h.at), h)

@@ -12,12 +12,17 @@ abbrev pub dealt : {A : Type 0} → Share → List A → List A
 dealt share xs = every share.stride share.count xs
 
 -- Each half of a share gets every second item: the left half from the second on, the right half from the first on. So each
--- half's items stand twice as far apart.
+-- half's items stand twice as far apart. Each has half of the workers; the right half's pieces are numbered behind the left's.
 abbrev pub left_half : Share → Share
-left_half share = record { stride = share.stride + share.stride; count = share.count / 2 }
+left_half share = record { first = share.first; workers = share.workers / 2; stride = share.stride + share.stride; count = share.count / 2 }
 
 abbrev pub right_half : Share → Share
-right_half share = record { stride = share.stride + share.stride; count = share.count - share.count / 2 }
+right_half share = record {
+  first = share.first + share.workers / 2;
+  workers = share.workers - share.workers / 2;
+  stride = share.stride + share.stride;
+  count = share.count - share.count / 2;
+}
 
 -- the items of two lists in turn, the first list's first
 abbrev pub woven : {A : Type 0} → List A → List A → List A

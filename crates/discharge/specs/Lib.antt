@@ -1,5 +1,4 @@
 pub mod Dealt
-pub mod First
 pub mod Marked
 pub mod Pieces
 pub mod Searched

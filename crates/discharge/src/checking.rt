@@ -4,7 +4,7 @@ ghost use Rattle.std.specs.Prelude.{◌≡◌, ◌<◌, ◌≤◌, ◌+◌, ◌-
 ghost use Rattle.std.specs.Thread.{IsSync};
 ghost use Rattle.farkas_check.specs.PlainProblem.{setting};
 ghost use Rattle.discharge.specs.Dealt.{dealt, left_half, right_half};
-ghost use Rattle.discharge.specs.First.{AreCheckable, IsFirstFailing};
+ghost use Rattle.block_validity.specs.First.{AreCheckable, IsFirstFailing};
 ghost use Rattle.discharge.specs.Pieces.{EachPiece};
 
 use crate::gates::at_gate;
@@ -61,7 +61,6 @@ fn check_piece(
 fn check_at_gate<G: Gate>(
     alloc: Global,
     gate: &G,
-    place: usize,
     components: &Components,
     variables: &[Variable],
     conditions: &[Condition],
@@ -70,43 +69,40 @@ fn check_at_gate<G: Gate>(
 ) -> Result<Option<usize>, Memory>
     requires checkable { AreCheckable conditions.now blocks.now }
     ensures first_failing { IfOk result (λ o. IsFirstFailing (setting components.now variables.now) (dealt share conditions.now) (dealt share blocks.now) o) }
-    ensures ended { IsTrue (G.ended gate.now place) }
+    ensures ended { IsTrue (G.ended gate.now share.first) }
 {
     at_gate(
         gate,
-        place,
+        share.first,
         || check_piece(alloc, components, variables, conditions, blocks, share),
     )
 }
 
-/// The first failing place of a share, whose leftmost piece has the number `first`: the lesser of both halves' places,
-/// whichever half ends first.
+/// The first failing place of a share: the lesser of both halves' places, whichever half ends first.
 #[cycle(check_range)]
 fn check_range<R: Threads + Sync, G: Gate + Sync>(
     rt: &R,
     alloc: Global,
     gate: &G,
-    first: usize,
-    workers: u32,
     components: &Components,
     variables: &[Variable],
     conditions: &[Condition],
     blocks: &[Block],
     share: Share,
 ) -> Result<Option<usize>, Memory>
-    requires pieces { first + workers < 2 ^ 32 }
-    requires strides { share.stride * (workers - 1) < 2 ^ 32 }
+    requires pieces { share.first + share.workers < 2 ^ 32 }
+    requires strides { share.stride * (share.workers - 1) < 2 ^ 32 }
     requires checkable { AreCheckable conditions.now blocks.now }
     ensures first_failing { IfOk result (λ o. IsFirstFailing (setting components.now variables.now) (dealt share conditions.now) (dealt share blocks.now) o) }
-    ensures ended { EachPiece first workers share.count (G.ended gate.now) }
+    ensures ended { EachPiece share.first share.workers share.count (G.ended gate.now) }
 {
-    if workers < 2 || share.count < 2 {
+    if share.workers < 2 || share.count < 2 {
         return check_at_gate(
-            alloc, gate, first, components, variables, conditions, blocks, share,
+            alloc, gate, components, variables, conditions, blocks, share,
         );
     }
     let (left, right) = check_both(
-        rt, alloc, gate, first, workers, components, variables, conditions, blocks, share,
+        rt, alloc, gate, components, variables, conditions, blocks, share,
     );
     let left = left?;
     let right = right?;
@@ -119,42 +115,35 @@ fn check_both<R: Threads + Sync, G: Gate + Sync>(
     rt: &R,
     alloc: Global,
     gate: &G,
-    first: usize,
-    workers: u32,
     components: &Components,
     variables: &[Variable],
     conditions: &[Condition],
     blocks: &[Block],
     share: Share,
 ) -> (Result<Option<usize>, Memory>, Result<Option<usize>, Memory>)
-    requires some { 2 ≤ workers }
-    requires pieces { first + workers < 2 ^ 32 }
-    requires strides { share.stride * (workers - 1) < 2 ^ 32 }
+    requires some { 2 ≤ share.workers }
+    requires pieces { share.first + share.workers < 2 ^ 32 }
+    requires strides { share.stride * (share.workers - 1) < 2 ^ 32 }
     requires checkable { AreCheckable conditions.now blocks.now }
     ensures left { IfOk result.0 (λ o. IsFirstFailing (setting components.now variables.now) (dealt (left_half share) (drop share.stride conditions.now)) (dealt (left_half share) (drop share.stride blocks.now)) o) }
     ensures right { IfOk result.1 (λ o. IsFirstFailing (setting components.now variables.now) (dealt (right_half share) conditions.now) (dealt (right_half share) blocks.now) o) }
-    ensures left_ended { EachPiece first (workers / 2) (share.count / 2) (G.ended gate.now) }
-    ensures right_ended { EachPiece (first + workers / 2) (workers - workers / 2) (share.count - share.count / 2) (G.ended gate.now) }
+    ensures left_ended { EachPiece share.first (share.workers / 2) (share.count / 2) (G.ended gate.now) }
+    ensures right_ended { EachPiece (share.first + share.workers / 2) (share.workers - share.workers / 2) (share.count - share.count / 2) (G.ended gate.now) }
 {
-    let half = workers / 2;
-    let rest = workers - half;
-    let up = first + half as usize;
-    let (left, right) = halves(share, workers);
+    let (left, right) = halves(share);
     let between = behind(conditions, share.stride);
     let their_blocks = behind(blocks, share.stride);
     join(
         rt,
         || -> Result<Option<usize>, Memory>
-            requires { IsSync R.row × IsSync G.row × (first + half < 2 ^ 32) × (left.stride * (half - 1) < 2 ^ 32) × AreCheckable between.now their_blocks.now }
+            requires { IsSync R.row × IsSync G.row × (left.first + left.workers < 2 ^ 32) × (left.stride * (left.workers - 1) < 2 ^ 32) × AreCheckable between.now their_blocks.now }
             ensures first_failing { IfOk result (λ o. IsFirstFailing (setting components.entry.now variables.entry.now) (dealt left between.entry.now) (dealt left their_blocks.entry.now) o) }
-            ensures ended { EachPiece first half left.count (G.ended gate.entry.now) }
+            ensures ended { EachPiece left.first left.workers left.count (G.ended gate.entry.now) }
         {
             check_range(
                 rt,
                 alloc,
                 gate,
-                first,
-                half,
                 components,
                 variables,
                 between,
@@ -163,12 +152,12 @@ fn check_both<R: Threads + Sync, G: Gate + Sync>(
             )
         },
         || -> Result<Option<usize>, Memory>
-            requires { IsSync R.row × IsSync G.row × (up + rest < 2 ^ 32) × (right.stride * (rest - 1) < 2 ^ 32) × AreCheckable conditions.now blocks.now }
+            requires { IsSync R.row × IsSync G.row × (right.first + right.workers < 2 ^ 32) × (right.stride * (right.workers - 1) < 2 ^ 32) × AreCheckable conditions.now blocks.now }
             ensures first_failing { IfOk result (λ o. IsFirstFailing (setting components.entry.now variables.entry.now) (dealt right conditions.entry.now) (dealt right blocks.entry.now) o) }
-            ensures ended { EachPiece up rest right.count (G.ended gate.entry.now) }
+            ensures ended { EachPiece right.first right.workers right.count (G.ended gate.entry.now) }
         {
             check_range(
-                rt, alloc, gate, up, rest, components, variables, conditions, blocks, right,
+                rt, alloc, gate, components, variables, conditions, blocks, right,
             )
         },
     )
@@ -192,10 +181,12 @@ pub fn check_all<R: Threads + Sync, G: Gate + Sync>(
     ensures ended { EachPiece 0 workers (length conditions.now) (G.ended gate.now) }
 {
     let share = Share {
+        first: 0,
+        workers,
         stride: 1,
         count: conditions.len(),
     };
     check_range(
-        rt, alloc, gate, 0, workers, components, variables, conditions, blocks, share,
+        rt, alloc, gate, components, variables, conditions, blocks, share,
     )
 }

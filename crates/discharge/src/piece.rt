@@ -1,21 +1,22 @@
 //! The search of one worker, by a book of its own.
 
-ghost use Rattle.std.specs.Prelude.{◌≡◌, ◌<◌, ◌≤◌, ◌^◌, IfOk, IsTrue, length};
+ghost use Rattle.std.specs.Prelude.{◌≡◌, ◌<◌, ◌≤◌, ◌^◌, IfOk, IfSome, IsTrue, length};
 ghost use Rattle.farkas_check.specs.PlainProblem.{setting};
 ghost use Rattle.shared_search.specs.Books.{Knows};
-ghost use Rattle.discharge.specs.Marked.{AreMarks};
-ghost use Rattle.discharge.specs.Verdicts.{AreSearchable};
+ghost use Rattle.discharge.specs.Marked.{AreMarks, AreFindings, IsUndecided};
+ghost use Rattle.search_laws.specs.Searchable.{AreSearchable};
 
 use crate::gates::at_gate;
+use crate::marks::{Findings, Undecided};
 use crate::queue::Queue;
 use control_states::Components;
-use linear_prover::{Book, is_decided_valid};
+use linear_prover::{Book, unless_valid};
 use st_form::{Condition, Variable};
 use st_memory::Memory;
 use st_outside::Gate;
 use std::alloc::Global;
 
-/// Marks the conditions from one place to before another, up to the first that isn't decided valid. Whether all are.
+/// Marks the conditions from one place to before another, up to the first that isn't decided valid, which is told.
 fn search_group(
     alloc: Global,
     book: &mut Book,
@@ -25,7 +26,7 @@ fn search_group(
     from: usize,
     to: usize,
     marks: &mut Vec<bool>,
-) -> Result<bool, Memory>
+) -> Result<Option<Undecided>, Memory>
     requires few { length variables.now < 2 ^ 32 }
     requires places { to ≤ length conditions.now }
     requires searchable { AreSearchable (length variables.now) conditions.now }
@@ -33,14 +34,21 @@ fn search_group(
     requires marks { AreMarks (setting components.now variables.now) conditions.now marks.old.items }
     ensures knows { Knows (setting components.now variables.now) book.new }
     ensures marks { AreMarks (setting components.now variables.now) conditions.now marks.new.items }
+    ensures undecided { IfOk result (λ o. IfSome o (IsUndecided (setting components.now variables.now) conditions.now)) }
 {
     for place in from..to {
-        if !is_decided_valid(alloc, book, components, variables, &conditions[place])? {
-            return Ok(false);
+        if let Some(verdict) = unless_valid(
+            alloc,
+            book,
+            components,
+            variables,
+            &conditions[place],
+        )? {
+            return Ok(Some(Undecided { place, verdict }));
         }
         marks[place] = true;
     }
-    Ok(true)
+    Ok(None)
 }
 
 /// Takes groups as long as there are some and all conditions in them are decided valid.
@@ -50,28 +58,38 @@ fn search_piece(
     variables: &[Variable],
     conditions: &[Condition],
     queue: &Queue,
-) -> Result<Vec<bool>, Memory>
+) -> Result<Findings, Memory>
     requires few { length variables.now < 2 ^ 32 }
     requires searchable { AreSearchable (length variables.now) conditions.now }
-    ensures { IfOk result (λ v. AreMarks (setting components.now variables.now) conditions.now v.items) }
+    ensures { IfOk result (λ m. AreFindings (setting components.now variables.now) conditions.now m) }
 {
     let count = conditions.len();
-    let mut marks = vec![in alloc; false; count]?;
+    let mut valid = vec![in alloc; false; count]?;
     let mut book = Book::new(alloc, components, variables)?;
     for _ in 0..count {
         let (from, to) = queue.take();
         if count <= from {
-            return Ok(marks);
+            break;
         }
-        let to = to.min(count);
-        if !search_group(
-            alloc, &mut book, components, variables, conditions, from, to, &mut marks,
-        )? {
+        let undecided = search_group(
+            alloc,
+            &mut book,
+            components,
+            variables,
+            conditions,
+            from,
+            to.min(count),
+            &mut valid,
+        )?;
+        if undecided.is_some() {
             queue.close(count);
-            return Ok(marks);
+            return Ok(Findings { valid, undecided });
         }
     }
-    Ok(marks)
+    Ok(Findings {
+        valid,
+        undecided: None,
+    })
 }
 
 /// The same, between the gate's begin and end of this piece.
@@ -83,10 +101,10 @@ pub(crate) fn search_at_gate<G: Gate>(
     variables: &[Variable],
     conditions: &[Condition],
     queue: &Queue,
-) -> Result<Vec<bool>, Memory>
+) -> Result<Findings, Memory>
     requires few { length variables.now < 2 ^ 32 }
     requires searchable { AreSearchable (length variables.now) conditions.now }
-    ensures marks { IfOk result (λ v. AreMarks (setting components.now variables.now) conditions.now v.items) }
+    ensures marks { IfOk result (λ m. AreFindings (setting components.now variables.now) conditions.now m) }
     ensures ended { IsTrue (G.ended gate.now place) }
 {
     at_gate(

@@ -9,6 +9,7 @@ use Rattle.st_linear.proofs.Joined.{value-joined, value-with_entry}
 use Rattle.st_linear.proofs.Ints.{+ℤ-*ℤ, *ℤ-+ℤ, *ℤ_assoc}
 use Rattle.elimination_laws.specs.Mixing.{part}
 use Rattle.farkas_leaf.specs.Lines.{HoldsBy}
+use Rattle.basic_laws.proofs.Integers.{times_one, times_zero}
 
 abbrev Entries : Type 0
 Entries = List (ℕ × ℤ)
@@ -80,13 +81,6 @@ height-mix d s x y f g =
 
 pub slope-mix : (v : ℕ) (x y : ℤ) (f g : Linear) → slope v (sum_of (scaled x f) (scaled y g)) ≡ slope v f *ℤ x +ℤ slope v g *ℤ y
 slope-mix v x y f g = entries-mix (delta v) x y f.entries g.entries
-
-pub times_zero : (a : ℤ) → a *ℤ pos 0 ≡ pos 0
-times_zero a = *ℤ_comm a (pos 0) ∙ zero-*ℤ a
-
-times_one : (a : ℤ) → a *ℤ pos 1 ≡ a
-times_one (pos n) = omega (arith, ints)
-times_one (negsuc n) = omega (arith, ints)
 
 slope-above : (v w : ℕ) (es : Entries) → v ≤ w → AllAbove w es → entries_value (delta v) es ≡ pos 0
 slope-above v w [] h k = refl

@@ -14,6 +14,7 @@ use Rattle.st_linear.proofs.Dividing.{common_divisor-divides}
 use Rattle.st_linear.proofs.Ints.{neg_ℤ-*ℤ}
 use Rattle.elimination_laws.specs.Mixing.{Tracked, mixed_number, mixed_entries, mixed, part, shared, first_factor, second_factor, differ, against, is_up, is_down}
 use Rattle.st_linear.specs.Linear.{is_within, are_within, number_within, entries_within, is_zero}
+use Rattle.basic_laws.proofs.Numbers.{cross}
 
 abbrev Entries : Type 0
 Entries = List (ℕ × ℤ)
@@ -84,10 +85,6 @@ mixed-is b x s y t r h =
     let q = and_then-some _ (mixed_entries (2 ^ 100) x s.form.entries y t.form.entries) r p.2 in
     let o = map-some _ (mixed_entries (2 ^ 40) x s.picks y t.picks) r q.2 in
     mixed-made b x s y t r p.0 q.0 o.0 p.1 q.1 o.1 o.2
-
--- the two factors
-cross : (g m n a c : ℕ) → g * m ≡ a → g * n ≡ c → a * n ≡ c * m
-cross g m n a c h k = rw (← h, ← k) (omega arith)
 
 whole : (g a : ℕ) → 0 < g → g ∣ a → g * (a / g) ≡ a
 whole g a h k = omega (arith, mod-eq-zero_of_dvd g k)

@@ -104,7 +104,7 @@ refuted d s ls h k ms m e n =
     let value = ap (λ es. (sum_by ls ms).constant *ℤ d +ℤ entries_value s es) e in
     omega (arith, ints, least, value, negative-times (sum_by ls ms).constant d n h)
 
-from-test : (b : Bool) (e : Ending) (us : List Use) → (if b then too_wide at_rows else e) ≡ through us → e ≡ through us
+pub from-test : (b : Bool) (e : Ending) (us : List Use) → (if b then too_wide at_rows else e) ≡ through us → e ≡ through us
 from-test true e us h = absurd (cc)
 from-test false e us h = h
 

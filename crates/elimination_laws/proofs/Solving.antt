@@ -10,7 +10,8 @@ use Rattle.elimination_laws.specs.Mixing.{Tracked, part_of, first_factor, second
 use Rattle.st_linear.specs.Linear.{is_zero}
 use Rattle.elimination_laws.specs.Stages.{kept_by, solves, solver, others, freed, is_free, bounds_below, bounds_above, paired, pairs, made, made_with, goes, judged_by, list, sifted}
 use Rattle.farkas_leaf.specs.Lines.{HoldsBy}
-use Rattle.elimination_laws.proofs.Heights.{Store, height, moved, delta, slope, height-moved, height-mix, holds_times, holds_from, least_times, above_times, times_zero}
+use Rattle.elimination_laws.proofs.Heights.{Store, height, moved, delta, slope, height-moved, height-mix, holds_times, holds_from, least_times, above_times}
+use Rattle.basic_laws.proofs.Integers.{times_zero}
 use Rattle.elimination_laws.proofs.Mixes.{IsMix, mixed-is, first_positive, second_positive, AllVars, From}
 use Rattle.elimination_laws.proofs.Lists.{AllT, AllT-weaker, AllT-both, IsMade, AllIsMade, AllIsMade-left, AllIsMade-right, AllIsMade-weaker, AllT-kept, AllT-restore, solver-is, solver-none, sifted-restores}
 use Rattle.elimination_laws.proofs.Keeping.{IsProper, up-not_zero, part_slope}

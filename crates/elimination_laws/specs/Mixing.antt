@@ -1,3 +1,5 @@
+-- Lines mixed: a sum of multiples of two lines, with the multiples of input lines that it comes from, if no number on the way is
+-- past a limit. This is the one move of elimination (Fourier, 1826; Motzkin, 1936).
 use Rattle.std.specs.Prelude.{ℕ, zero, suc, ◌/◌, ◌^◌, Bool, true, false, ◌==◌, if◌then◌else◌, List, [], ◌∷◌, ℤ, pos, negsuc, neg_ℤ, ◌+ℤ◌, ◌*ℤ◌, unsigned_abs, Option, option_and_then}
 use Rattle.std.specs.Option.{option_map}
 use Rattle.st_linear.specs.Linear.{Linear, joined, scaled_entries, number_within, entries_within}

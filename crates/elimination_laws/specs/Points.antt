@@ -1,3 +1,6 @@
+-- The trial point: variables get whole values in the opposite order of their elimination. An equation gives the value, if it is
+-- whole; else it is the least number that all lower bounds allow, or the greatest that all upper bounds allow, or 0. It need not
+-- exist where a point in fractions does.
 use Rattle.std.specs.Prelude.{ℕ, ◌+◌, ◌==◌, ◌%◌, ◌&&◌, Bool, true, false, if◌then◌else◌, List, [], ◌∷◌, length, ℤ, pos, neg_ℤ, ◌+ℤ◌, ◌*ℤ◌, unsigned_abs, int_le, int_lt, Option, Some, None, option_and_then, slice_index_or, slice_set, replicate}
 use Rattle.std.specs.Option.{option_map}
 use Rattle.std.specs.Int.{int_div_euclid}

@@ -1,3 +1,6 @@
+-- Elimination by lines, stage by stage: a variable goes by the first equation that has it, or by all pairs of a row that bounds it
+-- from below with one that bounds it from above (J. B. J. Fourier, 1826; L. L. Dines, 1918). What is made is sifted: true lines go,
+-- a false one ends it all.
 use Rattle.std.specs.Prelude.{ℕ, zero, suc, ◌+◌, Bool, false, ◌&&◌, nat_lt, not, if◌then◌else◌, List, [], ◌∷◌, ◌++◌, length, map, ℤ, pos, negsuc, neg_ℤ, Option, Some, None}
 use Rattle.std.specs.List.{flat_map}
 use Rattle.st_linear.specs.Linear.{Linear}

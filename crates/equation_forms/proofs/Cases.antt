@@ -6,6 +6,7 @@ use Rattle.std.specs.Ordering.{int_eq}
 use Rattle.std.proofs.lemmas.Bool.Decides.{Decides-int_eq}
 use Rattle.st_form.specs.Formula.{Formula, Formulas, none, more, Situation, truth, every_truth, some_truth, formulas}
 use Rattle.st_form.specs.Simple.{closed}
+use Rattle.basic_laws.proofs.Truths.{and_assoc, and_true, or_false}
 
 -- tests of lists
 any-same : {X : Type 0} (f g : X → Bool) (xs : List X) → ((x : X) → f x ≡ g x) → list_any f xs ≡ list_any g xs
@@ -60,19 +61,6 @@ any-number f v ks h =
     ∙ any-and (f v) (λ k. int_eq k v) ks
     ∙ ap (λ b. f v && b) h
     ∙ and_swap (f v) true
-
--- conjunctions and disjunctions
-and_assoc : (a b c : Bool) → (a && (b && c)) ≡ ((a && b) && c)
-and_assoc true b c = refl
-and_assoc false b c = refl
-
-and_true : (a : Bool) → (a && true) ≡ a
-and_true true = refl
-and_true false = refl
-
-or_false : (a : Bool) → (a || false) ≡ a
-or_false true = refl
-or_false false = refl
 
 pub every-append : (s : Situation) (fs gs : List Formula) → every_truth s (formulas (fs ++ gs)) ≡ (every_truth s (formulas fs) && every_truth s (formulas gs))
 every-append s [] gs = refl

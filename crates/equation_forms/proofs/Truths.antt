@@ -9,7 +9,7 @@ use Rattle.st_linear.specs.Linear.{AreEntries, AllAbove, entries_value}
 use Rattle.st_form.specs.Formula.{Formula, Formulas, equal, at, negation, Situation, truth, every_truth, some_truth, formulas, is_zero}
 use Rattle.st_form.specs.Simple.{closed}
 use Rattle.elimination_laws.proofs.Heights.{delta}
-use Rattle.null_laws.proofs.Rows.{times_zero, times_one}
+use Rattle.basic_laws.proofs.Integers.{times_one, times_zero}
 use Rattle.control_states.specs.declared.alternative.Alternative.{Alternative}
 use Rattle.control_states.specs.declared.alternative.Alternative.TheVariants.{Location, Inside}
 use Rattle.control_states.specs.Control.{ControlFacts, InControl, IsAt}

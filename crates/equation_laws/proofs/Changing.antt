@@ -12,7 +12,7 @@ use Rattle.st_form.specs.Exchange.{Exchange}
 use Rattle.elimination_laws.specs.Mixing.{part}
 use Rattle.elimination_laws.proofs.Heights.{delta}
 use Rattle.null_laws.specs.Bases.{Vector}
-use Rattle.null_laws.proofs.Rows.{times_one}
+use Rattle.basic_laws.proofs.Integers.{times_one}
 use Rattle.transition_system.specs.Bounds.{RisesFrom}
 use Rattle.equation_laws.specs.Sums.{total, passage, moved_value}
 use Rattle.equation_laws.specs.Rows.{gain, over_changed, over_places, variable_row, constant_row}

@@ -6,7 +6,7 @@ use Rattle.st_linear.specs.Linear.{Linear, value, changed}
 use Rattle.st_linear.proofs.Ints.{+ℤ-*ℤ, *ℤ-+ℤ, *ℤ_assoc}
 use Rattle.st_form.specs.Exchange.{Exchange, is_listed}
 use Rattle.null_laws.specs.Bases.{Vector}
-use Rattle.null_laws.proofs.Rows.{times_zero, times_one}
+use Rattle.basic_laws.proofs.Integers.{times_one, times_zero}
 use Rattle.null_laws.proofs.Extending.{positive_product}
 use Rattle.transition_system.specs.Systems.{PlainMode, System}
 use Rattle.equation_laws.specs.Sums.{total, presence, passage, moved_value, first_value}

@@ -8,7 +8,7 @@ use Rattle.st_linear.proofs.Joined.{value-with_entry}
 use Rattle.st_form.specs.Exchange.{is_listed}
 use Rattle.elimination_laws.specs.Mixing.{part}
 use Rattle.null_laws.specs.Bases.{Vector}
-use Rattle.null_laws.proofs.Rows.{times_one}
+use Rattle.basic_laws.proofs.Integers.{times_one}
 use Rattle.equation_laws.specs.Sums.{total, presence, first_value}
 use Rattle.equation_laws.specs.Space.{combination}
 use Rattle.equation_laws.specs.Rows.{over_places, over_forms, first_variable_row, first_constant_row}

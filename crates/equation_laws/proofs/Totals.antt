@@ -12,8 +12,9 @@ use Rattle.elimination_laws.specs.Mixing.{part}
 use Rattle.elimination_laws.proofs.Heights.{delta, part-slope}
 use Rattle.null_laws.specs.Reduction.{Entries}
 use Rattle.null_laws.specs.Bases.{Vector}
-use Rattle.null_laws.proofs.Rows.{times_zero, times_one}
+use Rattle.basic_laws.proofs.Integers.{times_one, times_zero}
 use Rattle.equation_laws.specs.Sums.{total}
+use Rattle.null_laws.proofs.Products.{delta_swap}
 
 pub total-same : (f g : ℕ → ℤ) (n k : ℕ) → ((c : ℕ) → k ≤ c → c < k + n → f c ≡ g c) → total f n k ≡ total g n k
 total-same f g zero k h = refl
@@ -51,13 +52,6 @@ total-one y v (suc n) k h l =
     elim (cases_eq k v) [
       | inl same ↦ let t : (k == v) ≡ true = grind (arith, nat_tests) in rw t (omega (arith, ints, times_one (y k), *ℤ_comm (pos 1) (y k), before-one y v n (k + 1) (omega arith), ap y same))
       | inr other ↦ let t : (k == v) ≡ false = grind (arith, nat_tests) in rw t (omega (arith, ints, zero-*ℤ (y k), total-one y v n (k + 1) (omega arith) (omega arith)))
-    ]
-
-delta_swap : (v u : ℕ) → delta v u ≡ delta u v
-delta_swap v u =
-    elim (cases_eq u v) [
-      | inl same ↦ let s : (u == v) ≡ true = grind (arith, nat_tests) in let t : (v == u) ≡ true = grind (arith, nat_tests) in rw (s, t) refl
-      | inr other ↦ let s : (u == v) ≡ false = grind (arith, nat_tests) in let t : (v == u) ≡ false = grind (arith, nat_tests) in rw (s, t) refl
     ]
 
 -- the value of entries, column by column

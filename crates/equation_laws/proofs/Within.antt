@@ -18,6 +18,7 @@ use Rattle.equation_laws.specs.Rows.{with_row, gain, over_changed, over_places, 
 use Rattle.equation_laws.proofs.Changing.{AreWithin}
 use Rattle.equation_laws.proofs.Starting.{AreForms}
 use Rattle.equation_laws.proofs.Spaces.{ModesWithin, SystemWithin, basis-space}
+use Rattle.null_laws.proofs.Basis.{below-with}
 
 -- from places in a list to its elements
 first-of : {X : Type 0} (P : X → Type 0) (x : X) (xs : List X) → All P (x ∷ xs) → P x
@@ -116,11 +117,6 @@ changed-above g v (p ∷ ps) h =
 changed-entries : (g : ℕ → Linear → ℤ) (low : ℕ) (ps : List (ℕ × Linear)) → RisesFrom low ps → AreEntries (over_changed g ps)
 changed-entries g low [] h = tt
 changed-entries g low (p ∷ ps) h = AreEntries-with_entry p.0 (g p.0 p.1) (over_changed g ps) (changed-above g p.0 ps h.1) (changed-entries g (suc p.0) ps h.1)
-
-below-with : (n v : ℕ) (c : ℤ) (es : Entries) → v < n → AllBelow n es → AllBelow n (with_entry v c es)
-below-with n v (pos zero) es h k = k
-below-with n v (pos (suc m)) es h k = (h, k)
-below-with n v (negsuc m) es h k = (h, k)
 
 changed-below : (g : ℕ → Linear → ℤ) (n : ℕ) (ps : List (ℕ × Linear)) → AreWithin n ps → AllBelow n (over_changed g ps)
 changed-below g n [] h = tt

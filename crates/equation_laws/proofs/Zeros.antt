@@ -3,7 +3,7 @@ use Rattle.std.proofs.Common.{◌≡◌, ℕ, zero, suc, ◌+◌, ◌<◌, ◌�
 use Rattle.std.proofs.lemmas.Int.{ints}
 use Rattle.std.proofs.Math.IntN.{zero-*ℤ, *ℤ_comm}
 use Rattle.elimination_laws.proofs.Heights.{delta}
-use Rattle.null_laws.proofs.Rows.{times_zero}
+use Rattle.basic_laws.proofs.Integers.{times_zero}
 use Rattle.equation_laws.specs.Sums.{total}
 use Rattle.equation_laws.proofs.Totals.{total-same, total-zero, total-one}
 

@@ -1,5 +1,5 @@
 -- What is found holds on every run.
-use Rattle.std.proofs.Common.{◌≡◌, ℕ, List, [], ◌∷◌, map, Some, ap, ◌∙◌, sym, subst}
+use Rattle.std.proofs.Common.{◌≡◌, ℕ, List, [], ◌∷◌, map, Some, ◌∙◌, subst}
 use Rattle.st_form.specs.Formula.{Formula}
 use Rattle.st_form.specs.declared.variables.Variable.{Variable}
 use Rattle.st_linear.specs.Linear.{AreEntries}

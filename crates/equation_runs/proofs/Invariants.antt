@@ -1,8 +1,8 @@
 -- The formulas of what is found are invariant.
-use Rattle.std.proofs.Common.{◌≡◌, ℕ, zero, suc, ◌+◌, ◌<◌, List, [], ◌∷◌, length, map, Some, refl, ap, ◌∙◌, sym, subst, arith, ℤ, pos}
-use Rattle.std.specs.Prelude.{All, IsTrue, slice_get}
+use Rattle.std.proofs.Common.{◌≡◌, ℕ, zero, suc, ◌<◌, List, [], ◌∷◌, length, map, Some, refl, ap, ◌∙◌, sym, subst, arith}
+use Rattle.std.specs.Prelude.{All, slice_get}
 use Rattle.st_linear.specs.Linear.{AreEntries, AllBelow}
-use Rattle.st_form.specs.Formula.{Formula, Situation, truth, is_zero}
+use Rattle.st_form.specs.Formula.{Formula, Situation, is_zero}
 use Rattle.st_form.specs.declared.variables.Variable.{Variable}
 use Rattle.observations.specs.Observation.{state_at}
 use Rattle.st_program.specs.Tree.{Processes, action}
@@ -27,7 +27,7 @@ use Rattle.obligation_laws.specs.Obligations.{HoldsOnRuns}
 use Rattle.obligation_laws.proofs.Enough.{state-seen}
 use Rattle.equation_laws.specs.Space.{variables_of, IsInductive}
 use Rattle.equation_laws.specs.Rows.{basis_of}
-use Rattle.equation_laws.specs.Equations.{PlainEquation, worth, equation_of, with_variables, found_in, found}
+use Rattle.equation_laws.specs.Equations.{PlainEquation, equation_of, with_variables, found_in, found}
 use Rattle.equation_laws.proofs.Within.{the-basis}
 use Rattle.equation_laws.proofs.Founds.{worth-value, echelon-entries, with-meets, between-entries, between-below}
 use Rattle.equation_forms.specs.Formulas.{AreOwned, formula_of}

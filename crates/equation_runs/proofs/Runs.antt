@@ -1,6 +1,6 @@
 -- What every mode keeps and the start meets holds in all states of all runs of a program.
-use Rattle.std.proofs.Common.{◌≡◌, ℕ, zero, suc, ◌+◌, ◌<◌, ◌≤◌, Bool, true, false, ◌||◌, ◌&&◌, List, [], ◌∷◌, ◌++◌, map, Some, inl, inr, refl, ap, ◌∙◌, sym, subst, arith, ℤ, pos, neg_ℤ, ◌+ℤ◌, ◌*ℤ◌}
-use Rattle.std.specs.Prelude.{IsTrue, flat_map, slice_get, int_le, take}
+use Rattle.std.proofs.Common.{◌≡◌, ℕ, zero, suc, ◌+◌, Bool, true, false, ◌||◌, ◌&&◌, List, [], ◌∷◌, ◌++◌, map, refl, ap, ◌∙◌, sym, subst, arith, ℤ, pos, neg_ℤ, ◌+ℤ◌, ◌*ℤ◌}
+use Rattle.std.specs.Prelude.{flat_map, int_le, take}
 use Rattle.std.proofs.lemmas.Int.{ints}
 use Rattle.std.proofs.Math.IntN.{zero-*ℤ}
 use Rattle.st_linear.specs.Linear.{Linear, value, changed}
@@ -21,22 +21,25 @@ use Rattle.null_laws.specs.Bases.{Vector}
 use Rattle.null_laws.proofs.Rows.{zero_product, pos_nonzero}
 use Rattle.transition_system.specs.Systems.{PlainMode, PlainTransition, System}
 use Rattle.spl_semantics.specs.Control.{starts}
-use Rattle.spl_semantics.specs.Runs.{State, LeadsBy, Leads, Follows, IsFirst, Reached, IsRunOf, control, image, seen, place_of, observed}
+use Rattle.spl_semantics.specs.Runs.{State, LeadsBy, Follows, IsFirst, Reached, IsRunOf, control, image, place_of}
+use Rattle.spl_semantics.specs.Observed.{seen}
 use Rattle.spl_semantics.specs.Runs.Reached.{first, next}
+use Rattle.spl_semantics.proofs.SeenRuns.{seen_is}
 use Rattle.spl_semantics.proofs.ByCases.{behind_act, listed as as_listed}
 use Rattle.spl_semantics.proofs.Members.{member_none, member_left, member_right, member_cases, at_member}
-use Rattle.spl_semantics.proofs.Texts.{either}
+use Rattle.basic_laws.proofs.Types.{either}
 use Rattle.spl_semantics.proofs.Fronts.{NoDup, no_dup_split, no_dup_right, no_dups, fronts_front}
 use Rattle.spl_semantics.proofs.Layouts.{layout_of, ends_of, apart_of}
 use Rattle.spl_semantics.proofs.Origins.{move_of}
 use Rattle.spl_semantics.proofs.ControlMoves.{reached_good, step_good, first_control}
 use Rattle.spl_semantics.proofs.ControlMet.{listed, is_member}
-use Rattle.spl_translation.specs.Translation.{spot_transitions, idling, translation, initial_form}
+use Rattle.spl_translation.specs.Translation.{spot_transitions, translation}
 use Rattle.spl_translation.specs.Correspondence.{Corresponds}
-use Rattle.spl_translation.proofs.Pairs.{Matches, paired}
-use Rattle.equation_laws.specs.Sums.{total, presence, passage, equation_value, moved_value, first_value}
-use Rattle.equation_laws.specs.Space.{equations, equations_among, places, places_among, start_forms, start_places, modes_of, variables_of, AreKept, combination, Starts, IsInductive}
+use Rattle.spl_translation.proofs.Pairs.{paired}
+use Rattle.equation_laws.specs.Sums.{presence, passage, equation_value, moved_value, first_value}
+use Rattle.equation_laws.specs.Space.{equations, equations_among, places, places_among, start_forms, start_places, modes_of, variables_of, AreKept, combination, IsInductive}
 use Rattle.equation_laws.proofs.Totals.{total-same, total-sum}
+use Rattle.basic_laws.proofs.Truths.{same_bool}
 
 -- the value behind a change
 value-behind : (n locations : ℕ) (x : Vector) (change : Exchange) (s t : Situation) → ((v : ℕ) → t.numbers v ≡ changed s.numbers change.numbers v) → ((l : ℕ) → presence (t.located l) ≡ presence (s.located l) +ℤ passage change l)
@@ -164,11 +167,6 @@ in-transitions y t [] i j = member_none i
 in-transitions y t (z ∷ ys) (here q) j = member_left (flat_map spot_transitions ys) (subst (λ z. Member t (spot_transitions z)) q j)
 in-transitions y t (z ∷ ys) (there i) j = member_right (spot_transitions z) (in-transitions y t ys i j)
 
-same_bool : (a b : Bool) → (a ≡ true → b ≡ true) → (b ≡ true → a ≡ true) → a ≡ b
-same_bool true b f g = sym (f refl)
-same_bool false true f g = g refl
-same_bool false false f g = refl
-
 module _ (vs : List Variable) (initial : Formula) (p : Processes) (locations : ℕ) (well : WellFormed p)
     (typed : (y : Spot) → Member y (all_spots p) → ActionFits vs (action y.stmt)) (both : Corresponds p initial (translation vs initial p locations))
     (x : Vector) (inductive : IsInductive (translation vs initial p locations) x) where
@@ -230,5 +228,5 @@ module _ (vs : List Variable) (initial : Formula) (p : Processes) (locations : �
 
   pub holds-along : (o : Observation Situation) → IsRunOf p initial o → (k : ℕ) → worth_at (state_at o k) ≡ pos 0
   holds-along o run k =
-      subst (λ o. worth_at (state_at o k) ≡ pos 0) (sym run.seen_is)
+      subst (λ o. worth_at (state_at o k) ≡ pos 0) (sym (seen_is p well.numbered run.state run.later o run.seen))
       (run-keeps run.state run.later k (first run.first) run.follow ∙ first-zero run.state run.first)

@@ -11,6 +11,7 @@ use Rattle.st_reading.specs.Faults.{Passed, passed}
 use Rattle.st_reading.specs.Reading.{ahead, place_of, label_of, expected, named, gives, then_reads, Turn, leaves, goes, turned, on_operator, chain, size, only, listing}
 use Rattle.st_reading.specs.Steady.{Viable, SteadyAt, Within, calmer, wider, anything}
 use Rattle.st_reading.proofs.Streams.{follow_test}
+use Rattle.st_reading.proofs.Spelled.{none_spelled, one_spelled}
 use Rattle.st_reading.proofs.Steadiness.{at_choice, at_shift, at_stuck, at_one, at_gives}
 use Rattle.st_reading.proofs.Soundness.{Shrinks}
 use Rattle.st_reading.proofs.Shrinking.{left, shrinks_map}
@@ -25,7 +26,7 @@ use Rattle.expression_parser.specs.Signs.{front, product_sign, sum_sign, compari
 use Rattle.expression_parser.specs.ExpressionTree.{Expr, Exprs, Kind, node, numeral, truth, name, at, negation as negation_kind, negative, all, any, exprs, kind_of, start_of, joined}
 use Rattle.expression_parser.specs.Calm.{calm}
 use Rattle.expression_parser.specs.Reading.{Reader, Level, formula, negated, signed, Down, closing, seen, atom_of, unary_at, unary_of, grouping, grouped, product_of, sum_of, compared, comparison_of, negation_at, negation_of, chained, conjunction_of, disjunction_of, implied, expression_of, below}
-use Rattle.expression_parser.proofs.Quiet.{quiet, product_calm, sum_calm, comparison_calm, zero_token, name_token, close_token, close_is, close_calm, name_calm, zero_calm}
+use Rattle.expression_parser.proofs.Quiet.{quiet, product_calm, sum_calm, comparison_calm, zero_token, name_token, close_token, close_is, close_calm, name_calm, zero_calm, zero_spelled, name_spelled, close_spelled}
 use Rattle.expression_parser.proofs.ExpressionShrinking.{unary_shrinks, negation_shrinks, implied_shrinks, below_shrinks, viable_level}
 
 same_calm : Within calm calm
@@ -53,7 +54,7 @@ module _ {I A B : Type 0} (limit : Passed) (d : Reader A) (ds : I → Reader A) 
   open_it = opened calm calm calm calm calm same_calm limit d ds k k2 (λ x. wider same_calm) (wider same_calm) (calmer same_calm) law
 
 lawful_closing : {I : Type 0} (place : ℕ) (x : Expr) → Lawful {I = I} calm calm (closing place x) (λ i. closing place x)
-lawful_closing place x = map_it (λ m. node place (kind_of x)) (expected marks.Close) (λ i. expected marks.Close) (lawful_expected calm calm marks.Close close_token close_is close_calm)
+lawful_closing place x = map_it (λ m. node place (kind_of x)) (expected marks.Close) (λ i. expected marks.Close) (lawful_expected calm calm marks.Close close_token close_spelled close_is close_calm)
 
 module _ {I : Type 0} (places : Bool) (down : Down) (downs : I → Down) (opens : (level : Level) (place : ℕ) → Opens calm calm (passed limits.Nesting place) (down level place) (λ i. downs i level place)) where
   atom : Reader Expr
@@ -68,7 +69,7 @@ module _ {I : Type 0} (places : Bool) (down : Down) (downs : I → Down) (opens 
 
   viable_atom : (i : I) → Viable calm calm (atoms i) []
   unfolding atoms
-  viable_atom i = record { others = zero_token ∷ []; value = node 0 (numeral 0); begins = λ n after h. zero_calm; reads = λ after h. zero_read (downs i) after }
+  viable_atom i = record { others = zero_token ∷ []; spelled = one_spelled zero_token zero_spelled; value = node 0 (numeral 0); begins = λ n after h. zero_calm; reads = λ after h. zero_read (downs i) after }
 
   atom_front : (t : Lexeme) (s : Stream) (f : Front) → f ≡ front places (sign_of t) → SteadyAt calm calm atom atoms (more t s)
   unfolding atom atoms atom_of name_token
@@ -77,7 +78,7 @@ module _ {I : Type 0} (places : Bool) (down : Down) (downs : I → Down) (opens 
   atom_front t s fronts.Name e = at_one calm calm atom atoms t (node t.start (name (label_of t))) s (λ after. rw (← e) refl) (λ i after. rw (← e) refl)
   atom_front t s fronts.At e =
       at_shift calm calm calm atom (then_reads named (λ x. gives (node t.start (at x)))) atoms (λ i. then_reads named (λ x. gives (node t.start (at x)))) t s (λ after. rw (← e) refl) (λ i after. rw (← e) refl)
-      ((map_it (λ x. node t.start (at x)) named (λ i. named) (lawful_named calm calm name_token refl name_calm)).law s)
+      ((map_it (λ x. node t.start (at x)) named (λ i. named) (lawful_named calm calm name_token name_spelled refl name_calm)).law s)
   atom_front t s fronts.Open e =
       open_it (passed limits.Nesting t.start) (down formula t.start) (λ i. downs i formula t.start) (closing t.start) (λ i. closing t.start) (lawful_closing t.start) atom atoms t s (λ after. rw (← e) refl) (λ i after. rw (← e) refl) viable_atom (opens formula t.start)
   atom_front t s _ e = at_stuck calm calm atom atoms (more t s) (λ after h. rw (h, ← e) refl) (λ i after h. rw (h, ← e) refl) viable_atom
@@ -151,7 +152,7 @@ module _ {I : Type 0} (places : Bool) (down : Down) (downs : I → Down) (opens 
 
   viable_unary : (i : I) → Viable calm calm (unaries i) []
   unfolding unaries
-  viable_unary i = record { others = zero_token ∷ []; value = node 0 (numeral 0); begins = λ n after h. zero_calm; reads = λ after h. zero_unary (downs i) after }
+  viable_unary i = record { others = zero_token ∷ []; spelled = one_spelled zero_token zero_spelled; value = node 0 (numeral 0); begins = λ n after h. zero_calm; reads = λ after h. zero_unary (downs i) after }
 
   unary_plain : (s : Stream) → minus_front (front places (ahead s)) ≡ false → SteadyAt calm calm unary unaries s
   unfolding unary unaries unary_of
@@ -251,7 +252,7 @@ module _ {I : Type 0} (wrap : Exprs → Kind) (mark : Mark) (calms : (g : Sign) 
           (λ i after c. let e = follow_test calm (λ g. is g mark) false calms s after h (inr c) in rw e refl) (at_gives calm calm x s)
 
       viable : (i : I) → Viable calm calm (chained wrap mark (items i) x) []
-      viable i = record { others = []; value = x; begins = λ n after c. c; reads = λ after c. let e = calms (ahead after) c in rw e refl }
+      viable i = record { others = []; spelled = none_spelled; value = x; begins = λ n after c. c; reads = λ after c. let e = calms (ahead after) c in rw e refl }
 
       at_mark : (t : Lexeme) (s : Stream) → is (sign_of t) mark ≡ true → SteadyAt calm calm (chained wrap mark item x) (λ i. chained wrap mark (items i) x) (more t s)
       at_mark t s e =

@@ -13,6 +13,7 @@ use Rattle.st_reading.proofs.Soundness.{Shrinks}
 use Rattle.st_reading.proofs.Shrinking.{left, shrinks_gives, shrinks_bind, shrinks_map, shrinks_expected, shrinks_named, shrinks_chain}
 use Rattle.st_reading.proofs.Streams.{behind_size}
 use Rattle.st_reading.proofs.Chains.{chain_none}
+use Rattle.st_reading.proofs.Spelled.{one_spelled}
 use Rattle.expression_parser.specs.declared.raw.Operator.{Operator}
 use Rattle.expression_parser.specs.declared.raw.Operator.TheVariants as operators
 use Rattle.expression_parser.specs.declared.sign.Front.{Front}
@@ -21,7 +22,7 @@ use Rattle.expression_parser.specs.Signs.{front, product_sign, sum_sign, compari
 use Rattle.expression_parser.specs.ExpressionTree.{Expr, Exprs, Kind, node, numeral, truth, name, at, negation as negation_kind, negative, all, any, exprs, kind_of, start_of, joined}
 use Rattle.expression_parser.specs.Calm.{calm}
 use Rattle.expression_parser.specs.Reading.{Reader, Level, formula, negated, signed, Down, closing, seen, atom_at, atom_of, unary_at, unary_of, grouping, grouped, product_of, sum_of, compared, comparison_of, negation_at, negation_of, chained, conjunction_of, disjunction_of, implied, expression_of, below}
-use Rattle.expression_parser.proofs.Quiet.{quiet, product_calm, sum_calm, comparison_calm, zero_token, zero_calm}
+use Rattle.expression_parser.proofs.Quiet.{quiet, product_calm, sum_calm, comparison_calm, zero_token, zero_calm, zero_spelled}
 
 module _ (places : Bool) (d : Down) (sh : (level : Level) (place : ℕ) → Shrinks (d level place)) where
   atom_shrinks_at : (s : Stream) (x : Expr) (rest : Stream) (f : Front) → atom_at d s f ≡ Ok (x, rest) → size rest ≤ size s
@@ -176,4 +177,4 @@ zero_level places n negated place after c = negation_zero places (below places n
 zero_level places n signed place after c = unary_zero places (below places n) after c
 
 pub viable_level : (places : Bool) (n : ℕ) (level : Level) (place : ℕ) → Viable calm calm (below places (suc n) level place) []
-viable_level places n level place = record { others = zero_token ∷ []; value = zero_expr; begins = λ n after h. zero_calm; reads = λ after h. zero_level places n level place after h }
+viable_level places n level place = record { others = zero_token ∷ []; spelled = one_spelled zero_token zero_spelled; value = zero_expr; begins = λ n after h. zero_calm; reads = λ after h. zero_level places n level place after h }

@@ -5,7 +5,7 @@ use Rattle.st_reading.specs.declared.sign.Sign.TheVariants as signs
 use Rattle.st_reading.specs.Faults.{Passed}
 use Rattle.st_reading.specs.Reading.{Stop}
 use Rattle.st_reading.specs.Spelling.{Sound}
-use Rattle.st_reading.specs.Theorem.{Begins, IsFirst}
+use Rattle.st_reading.specs.Theorem.{GoesOn, IsFirst}
 use Rattle.st_reading.proofs.Streams.{same_text}
 use Rattle.st_reading.proofs.Soundness.{values}
 use Rattle.st_reading.proofs.Theorems.{first_fault, longest, first_as}
@@ -18,7 +18,7 @@ use Rattle.expression_parser.proofs.ExpressionLaw.{larger, lawful_formula}
 use Rattle.expression_parser.proofs.ExpressionSoundness.{expression_sound, below_sound}
 use Rattle.expression_parser.proofs.ExpressionCompleteness.{formula_complete}
 
-quiet : calm signs.Nothing ≡ true
+pub quiet : calm signs.Nothing ≡ true
 unfolding calm
 quiet = refl
 
@@ -70,7 +70,7 @@ module _ (places : Bool) where
         first_as Some_deeper (Formula places) to from s f
         (first_fault calm calm quiet (reader room) (λ i. reader (larger room i)) 0 Deeper deeper_sound deeper_read s f ((lawful_formula places room).law s) h)
 
-    none_longer : (s : Stream) (x : Expr) (rest : Stream) → reader room s ≡ Ok (x, rest) → (ts : List Lexeme) → s ≡ ts ++> rest → (t : Lexeme) (after : Stream) → rest ≡ more t after → Begins (Formula places) (ts ++ t ∷ []) → ⊥
+    none_longer : (s : Stream) (x : Expr) (rest : Stream) → reader room s ≡ Ok (x, rest) → (ts : List Lexeme) → s ≡ ts ++> rest → (t : Lexeme) (after : Stream) → rest ≡ more t after → GoesOn (Formula places) (ts ++ t ∷ []) → ⊥
     unfolding Some_deeper
     none_longer s x rest h ts is t after next b =
         longest calm calm quiet (reader room) (λ i. reader (larger room i)) 0 Deeper deeper_sound deeper_read s x rest ((lawful_formula places room).law s) h ts is t after b.0 b.1 next

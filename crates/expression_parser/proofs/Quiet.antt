@@ -2,7 +2,7 @@
 use Rattle.std.proofs.Common.{◌≡◌, ℕ, zero, suc, ◌<◌, Bool, true, false, not, ◌||◌, ◌&&◌, List, [], ◌∷◌, length, None, refl, arith}
 use Rattle.std.specs.List.{list_any}
 use Rattle.st_tokens.specs.declared.kind.TokenKind.TheVariants as kinds
-use Rattle.st_tokens.specs.Stream.{Lexeme}
+use Rattle.st_tokens.specs.Stream.{Lexeme, IsSpelled}
 use Rattle.st_reading.specs.declared.mark.Mark.{Mark}
 use Rattle.st_reading.specs.declared.mark.Mark.TheVariants as marks
 use Rattle.st_reading.specs.declared.sign.Sign.{Sign}
@@ -66,6 +66,18 @@ name_token = record { kind = kinds.Name; text = 97 ∷ []; start = 0 }
 
 unfoldable pub close_token : Lexeme
 close_token = record { kind = kinds.Symbol; text = 41 ∷ []; start = 0 }
+
+pub zero_spelled : IsSpelled zero_token
+unfolding zero_token
+zero_spelled = refl
+
+pub name_spelled : IsSpelled name_token
+unfolding name_token
+name_spelled = refl
+
+pub close_spelled : IsSpelled close_token
+unfolding close_token
+close_spelled = refl
 
 pub close_is : is (sign_of close_token) marks.Close ≡ true
 unfolding close_token number

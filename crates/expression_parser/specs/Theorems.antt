@@ -4,7 +4,7 @@ use Rattle.std.specs.Prelude.{◌≡◌, ℕ, List, Ok, Err, Bool, [], ◌∷◌
 use Rattle.st_tokens.specs.Stream.{◌++>◌, Lexeme, more, Stream}
 use Rattle.st_reading.specs.Reading.{Stop}
 use Rattle.st_reading.specs.Faults.{Passed}
-use Rattle.st_reading.specs.Theorem.{Begins, IsFirst}
+use Rattle.st_reading.specs.Theorem.{GoesOn, IsFirst}
 use Rattle.expression_parser.specs.ExpressionTree.{Expr}
 use Rattle.expression_parser.specs.Reading.{below, expression_of}
 use Rattle.expression_parser.specs.Grammar.{Formula}
@@ -18,7 +18,7 @@ pub record IsLongest (places : Bool) (s : Stream) (x : Expr) (rest : Stream) : T
   pub text : List Lexeme
   pub is : s ≡ text ++> rest
   pub spells : Formula places text x
-  pub longest : (t : Lexeme) (after : Stream) → rest ≡ more t after → Begins (Formula places) (text ++ t ∷ []) → ⊥
+  pub longest : (t : Lexeme) (after : Stream) → rest ≡ more t after → GoesOn (Formula places) (text ++ t ∷ []) → ⊥
 
 abbrev pub FormulasAreLongest : Type 0
 FormulasAreLongest = (places : Bool) (room : ℕ) (s : Stream) (x : Expr) (rest : Stream) → expression_of places (below places room) s ≡ Ok (x, rest) → IsLongest places s x rest

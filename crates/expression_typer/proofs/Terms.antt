@@ -83,7 +83,7 @@ combine_good vs operators.Plus at f g h k = bound (IsWord vs) (Good vs) (limited
 combine_good vs operators.Minus at f g h k = bound (IsWord vs) (Good vs) (limited at (linear.sum_of f (negated g))) _ (less_word vs at f g h k) (λ d p. p)
 combine_good vs operators.Times at f g h k = bound (IsWord vs) (Good vs) (product at f g) _ (product_word vs at f g h k) (λ d p. p)
 
-either : {A : Type 0} (P : A → Type 0) (b : Bool) (x y : Result A TypeFault) → Holds P x → Holds P y → Holds P (cond b x y)
+pub either : {A : Type 0} (P : A → Type 0) (b : Bool) (x y : Result A TypeFault) → Holds P x → Holds P y → Holds P (cond b x y)
 either P true x y h k = h
 either P false x y h k = k
 

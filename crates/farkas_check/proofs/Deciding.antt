@@ -9,6 +9,7 @@ use Rattle.control_states.specs.declared.alternative.Alternative.TheVariants.{Lo
 use Rattle.control_states.specs.Control.{ComponentFacts, component_at, Active, process, child}
 use Rattle.control_states.specs.Place.{Follows}
 use Rattle.farkas_check.specs.Problem.{is_free, known_active, is_within}
+use Rattle.basic_laws.proofs.Numbers.{test_same}
 
 free_within : {A : Type 0} (xs : List (Option A)) (i : ℕ) → is_free (slice_get xs i) ≡ true → i < length xs
 free_within {A} xs i h = by_entry (slice_get xs i) refl h
@@ -31,9 +32,6 @@ table_set {A} xs Fact c a free old new d x h = elim (cases_eq d c) [
   where
     some_same : (y z : A) → Some y ≡ Some z → y ≡ z
     some_same y z e = cc
-
-test_same : (m n : ℕ) → (m == n) ≡ true → m ≡ n
-test_same m n h = grind (arith, nat_tests)
 
 within_is : (o : ℕ) (d : Option Alternative) → is_within o d ≡ true → d ≡ Some (Inside o)
 within_is o None h = absurd (cc)

@@ -21,16 +21,9 @@ use Rattle.st_certificate.specs.Tree.{Step, by_case, by_truth, by_split, by_cut}
 use Rattle.farkas_check.specs.Problem.{Setting, Problem, decided_by, posed, may_case, may_truth, is_free, has_truth, known_active, case_problems, truth_problem, in_place, split_at, split_from, split_problems, are_integers, cut_problem, divided_into, rows_with, rows_of, lines_with, lines_of}
 use Rattle.farkas_check.specs.Meaning.{hold, Meets, MeetsOne}
 use Rattle.farkas_check.proofs.Deciding.{table_set, active_known}
+use Rattle.basic_laws.proofs.Truths.{and_both, or_parts}
 
-and_both : (a b : Bool) → a ≡ true → b ≡ true → (a && b) ≡ true
-and_both true b h k = k
-and_both false b h k = absurd (cc)
-
-or_parts : (a b : Bool) → (a || b) ≡ true → (a ≡ true) ⊎ (b ≡ true)
-or_parts true b h = inl refl
-or_parts false b h = inr h
-
-hold-said : (s : Situation) (o : Option Formulas) → hold s o ≡ said true s o
+pub hold-said : (s : Situation) (o : Option Formulas) → hold s o ≡ said true s o
 hold-said s None = refl
 hold-said s (Some fs) = refl
 
@@ -62,7 +55,7 @@ truth-covers k m s p fs v g h free b e =
     posed-meets k m s p.cases (slice_set p.truths v (Some b)) fs g.control g.cases (table_set p.truths (λ d x. s.truths d ≡ x) v b free g.truths e) h
 
 -- ---- splits
-abbrev OneHolds : Situation → List Formulas → Type 0
+abbrev pub OneHolds : Situation → List Formulas → Type 0
 OneHolds s [] = ⊥
 OneHolds s (fs ∷ rest) = (every_truth s fs ≡ true) ⊎ OneHolds s rest
 

@@ -58,7 +58,7 @@ pub split-here : (fs : List Form) (i : ℕ) (f : Form) (k : ℕ) (gs : Formulas)
     → split_from (plain_list (take i fs)) k (plain_list (drop i fs)) ≡ whole → Some (in_place (plain_list (take i fs)) gs (plain_list (drop (i + 1) fs))) ≡ whole
 split-here fs i f k gs whole h e n z g = let s = rw (← n, z) at (at-formula fs i f k h e) in sym s ∙ g
 
-rows_with-front : (f : Formula) (rest : List Linear) → rows_with f rest ≡ rows_with f [] ++ rest
+pub rows_with-front : (f : Formula) (rest : List Linear) → rows_with f rest ≡ rows_with f [] ++ rest
 rows_with-front (row f) rest = refl
 rows_with-front (equal f) rest = refl
 rows_with-front (truth_value b) rest = refl

@@ -17,10 +17,7 @@ use Rattle.form_table.specs.Table.{listed, joined, Is, Extends, AreThere}
 use Rattle.form_table.specs.Lists.{IsListed, first_conjuncts}
 use Rattle.form_table.proofs.Making.{listed-later}
 use Rattle.form_table.proofs.Taking.{listed-append}
-
--- the shape of simplified formulas is asked for, and nothing of their forms
-abbrev Any : Linear → Type 0
-Any f = Unit {0}
+use Rattle.search_laws.proofs.Refuting.{Any}
 
 keeps-any : Keeps Any
 keeps-any = record { divided = λ f h. tt; negated = λ f h. tt; lowered = λ f h. tt; complement = λ f h. tt }

@@ -12,6 +12,7 @@ use Rattle.form_table.specs.Nodes.{IsNode, Kept, formulas_in, parts_at, line}
 use Rattle.form_table.specs.Lists.{IsListed}
 use Rattle.form_table.specs.declared.nodes.Node.TheVariants.{Truth, Row, Equal, BoolVar, At, And, Or}
 use Rattle.form_table.proofs.Making.{listed-later}
+use Rattle.farkas_check.proofs.Loops.{rows_with-front}
 
 no-row : (out : List Linear) (f g : Formula) → f ≡ g → rows_with g [] ≡ [] → out ≡ out ++ rows_with f []
 no-row out f g e h = sym (append-nil out) ∙ ap (λ l. out ++ l) (sym h) ∙ ap (λ x. out ++ rows_with x []) (sym e)
@@ -48,16 +49,6 @@ pub row-equal : (t : Kept) (n l : ℕ) (out new : List Linear) (f : Linear) → 
 row-equal t n l out new f h e k = k ∙ ap (λ g. out ++ rows_with (equal g) []) e ∙ ap (λ x. out ++ rows_with x []) (sym h.same)
 
 pub ruleset rowing = (row-truth, row-bool, row-at, row-and, row-or, row-row, row-equal)
-
-rows_with-front : (f : Formula) (rest : List Linear) → rows_with f rest ≡ rows_with f [] ++ rest
-rows_with-front (row f) rest = refl
-rows_with-front (equal f) rest = refl
-rows_with-front (truth_value b) rest = refl
-rows_with-front (bool_var v) rest = refl
-rows_with-front (at l) rest = refl
-rows_with-front (negation f) rest = refl
-rows_with-front (every fs) rest = refl
-rows_with-front (some fs) rest = refl
 
 pub rows-next : (ts : List Formula) (ns : List ℕ) (i : ℕ) (out m whole : List Linear) → i < length ns → m ≡ out ++ rows_with (formula ts (get_or ns i 0)) []
     → out ++ rows_of (listed ts (drop i ns)) ≡ whole → m ++ rows_of (listed ts (drop (i + 1) ns)) ≡ whole

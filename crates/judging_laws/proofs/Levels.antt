@@ -9,12 +9,7 @@ use Rattle.observations.specs.Goals.{level_form, LevelsFrom}
 use Rattle.judging_laws.specs.Searching.{some_between}
 use Rattle.judging_laws.specs.Sentences.{has_levels}
 use Rattle.judging_laws.proofs.Searching.{some-between}
-
-same-test : (n m : ℕ) → n ≡ m → (n == m) ≡ true
-same-test n m e = grind (arith, nat_tests)
-
-other-test : (n m : ℕ) → (n ≡ m → ⊥) → (n == m) ≡ false
-other-test n m e = grind (arith, nat_tests)
+use Rattle.basic_laws.proofs.Numbers.{other-test, same-test}
 
 -- what has a formula is a level
 level-below : {S : Type 0} (forms : List (S → Bool)) (level : ℕ) (s : S) → level_form forms level s ≡ true → level < length forms

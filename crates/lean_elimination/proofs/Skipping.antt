@@ -12,6 +12,7 @@ use Rattle.lean_elimination.specs.declared.stop.Stop.{Stop}
 use Rattle.lean_elimination.specs.declared.stop.Stop.TheVariants.{Clash, Unfit, Memory}
 use Rattle.lean_elimination.specs.Arenas.{listed}
 use Rattle.lean_elimination.specs.Placings.{StopsBy, EndsBy, AreFree, AllStay}
+use Rattle.basic_laws.proofs.Numbers.{one-more}
 
 solves-free : (b z : Bool) → z ≡ true → b && not z ≡ false
 solves-free true z h = rw h refl
@@ -68,10 +69,6 @@ pub sifted-few : (ms : List (Option Tracked)) (room : ℕ) (us : List Tracked) �
 sifted-few [] room us e = subst (λ l. AreFew l room) (lists-same [] us e) record { stay = tt; few = omega arith }
 sifted-few (None ∷ ms) room us e = absurd (cc)
 sifted-few (Some t ∷ ms) room us e = few-placed (judged t) t ms room us refl e (sifted-few ms)
-
--- an ending by a contradiction is that of all stages
-one-more : (n v : ℕ) → v < n → n - v ≡ suc (n - (v + 1))
-one-more n v h = omega arith
 
 after : (n v : ℕ) (ts us : List Tracked) (ps : List (ℕ × ℤ)) → sifted (made v ts) 4096 ≡ list us → stages n (v + 1) us ≡ contradiction ps → stages (suc n) v ts ≡ contradiction ps
 after n v ts us ps h k = rw h (ap (with_use (use_of v ts)) k)

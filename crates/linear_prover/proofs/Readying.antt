@@ -13,7 +13,8 @@ use Rattle.search_laws.proofs.Walking.{AllOf}
 use Rattle.search_laws.proofs.Shapes.{IsPart, AreParts, IfParts, IsShaped, parts-forms, first-shaped}
 use Rattle.search_laws.proofs.Finding.{proper-keeps, division-shaped}
 use Rattle.search_laws.proofs.Steadying.{first-steady, division-steady}
-use Rattle.linear_prover.specs.Ready.{IsBelow, AreReady, IfReady, AllReady}
+use Rattle.linear_prover.specs.Ready.{AreReady, IfReady, AllReady}
+use Rattle.search_laws.specs.Searchable.{IsBelow}
 
 mutual
   -- a simplified conjunct has the shape of one

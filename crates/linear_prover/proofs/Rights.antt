@@ -12,9 +12,9 @@ use Rattle.search_laws.specs.Sizes.{IsShort, FailsShort}
 use Rattle.search_laws.proofs.Finding.{proved}
 use Rattle.search_laws.proofs.Refuting.{refuted}
 use Rattle.search_laws.proofs.Counting.{searched-short}
-use Rattle.linear_prover.specs.declared.verdict.Verdict.{Verdict}
-use Rattle.linear_prover.specs.declared.verdict.Verdict.TheVariants.{Valid, Open, Wide}
-use Rattle.linear_prover.specs.Plain.{plain_path, plain_shown, plain_verdict}
+use Rattle.search_verdicts.specs.declared.verdict.Verdict.{Verdict}
+use Rattle.search_verdicts.specs.declared.verdict.Verdict.TheVariants.{Valid, Open, Wide}
+use Rattle.search_verdicts.specs.Plain.{plain_path, plain_shown, plain_verdict}
 use Rattle.linear_prover.specs.Verdicts.{IsRight}
 
 short-open : (f : Found) (path : List PathStep) (state : Option State) → FailsShort f → open_at path state ≡ verdict_of f → IsShort path

@@ -7,7 +7,7 @@ use Rattle.st_form.specs.Plain.{plain, plain_list}
 use Rattle.st_form.specs.declared.formulas.Form.{Form}
 use Rattle.farkas_check.specs.Limits.{IsSlight, IsNarrow, AreNarrow}
 use Rattle.search_laws.specs.Forms.{AllForms, AllFormsOf}
-use Rattle.linear_prover.specs.Ready.{IsBelow}
+use Rattle.search_laws.specs.Searchable.{IsBelow}
 
 pub variable_slight : (v : ℕ) → IsSlight (variable v)
 variable_slight v = record {

@@ -1,4 +1,4 @@
--- What the search says, as plain data.
+-- The problems of the walk and what it comes to, as plain data.
 use Rattle.std.specs.Prelude.{ℕ, List, map, reverse, Option, Some, None}
 use Rattle.std.specs.declared.vec.Vec.{Vec}
 use Rattle.std.specs.declared.alloc.Global.{Global}
@@ -9,19 +9,11 @@ use Rattle.linear_prover.specs.declared.problems.Conjunct.{Conjunct}
 use Rattle.linear_prover.specs.declared.problems.Conjunct.TheVariants.{Kept, Made}
 use Rattle.linear_prover.specs.declared.problems.Node.{Node}
 use Rattle.std.specs.Option.{option_map}
-use Rattle.st_certificate.specs.Tree.{Step, by_case, by_truth, by_split}
 use Rattle.st_certificate.specs.Plain.{plain as tree_of, plain_trees}
-use Rattle.search_laws.specs.States.{State}
+use Rattle.search_verdicts.specs.Plain.{plain_path, plain_shown}
 use Rattle.search_laws.specs.Walks as plain
-use Rattle.search_laws.specs.Moves as moves
-use Rattle.linear_prover.specs.declared.verdict.PathKind.{PathKind}
-use Rattle.linear_prover.specs.declared.verdict.PathKind.TheVariants as kind
-use Rattle.linear_prover.specs.declared.verdict.PathStep.{PathStep}
-use Rattle.linear_prover.specs.declared.verdict.Shown.{Shown}
-use Rattle.linear_prover.specs.declared.verdict.Verdict.{Verdict}
-use Rattle.linear_prover.specs.declared.verdict.Verdict.TheVariants.{Valid, Open, Wide}
-use Rattle.linear_prover.specs.declared.verdict.Failure.{Failure}
-use Rattle.linear_prover.specs.declared.verdict.Failure.TheVariants as failure
+use Rattle.linear_prover.specs.declared.failure.Failure.{Failure}
+use Rattle.linear_prover.specs.declared.failure.Failure.TheVariants as failure
 use Rattle.linear_prover.specs.declared.walk.Outcome.{Outcome}
 use Rattle.linear_prover.specs.declared.walk.Outcome.TheVariants.{Found, Stopped}
 use Rattle.linear_prover.specs.declared.walk.Branches.{Branches}
@@ -43,29 +35,9 @@ plain_made (Some fs) = Some (plain_each fs.items)
 abbrev pub plain_node : Node → Problem
 plain_node n = record { cases = n.cases.items; truths = n.truths.items; conjuncts = plain_made n.conjuncts }
 
-abbrev pub step_by : PathKind → ℕ → Step
-step_by kind.Case n = by_case n
-step_by kind.Bool n = by_truth n
-step_by kind.Split n = by_split n
-
-abbrev pub plain_step : PathStep → plain.PathStep
-plain_step s = record { step = step_by s.kind s.number; branch = s.branch }
-
-abbrev pub plain_path : List PathStep → List plain.PathStep
-plain_path steps = map plain_step steps
-
-abbrev pub plain_shown : Shown → State
-plain_shown s = record { control = s.control.items; store = s.store.items }
-
 abbrev pub plain_failure : Failure → plain.Failure
 plain_failure (failure.Open state) = plain.left_open (option_map plain_shown state)
 plain_failure (failure.Wide w) = plain.given_up w
-
--- what is said of a condition
-abbrev pub plain_verdict : Verdict → moves.Verdict
-plain_verdict (Valid c) = moves.valid (tree_of c)
-plain_verdict (Open path state) = moves.open_at (plain_path path.items) (option_map plain_shown state)
-plain_verdict (Wide path w) = moves.wide_at (plain_path path.items) w
 
 -- what the walk comes to; its path is kept from the last step to the first
 abbrev pub plain_outcome : Outcome → plain.Found

@@ -1,16 +1,11 @@
 -- What stays so of the conjuncts of each problem of the search.
 use Rattle.std.specs.Prelude.{ℕ, ◌<◌, ◌≤◌, true, List, [], ◌∷◌, Option, Some, None}
-use Rattle.st_linear.specs.Linear.{Linear, AllBelow}
 use Rattle.st_form.specs.Formula.{Formulas}
 use Rattle.farkas_check.specs.Problem.{Problem}
 use Rattle.farkas_check.specs.Limits.{AreSettled}
 use Rattle.search_laws.specs.Forms.{AllFormsOf, IsProper}
 use Rattle.search_laws.specs.Steady.{AreSteady}
 use Rattle.search_laws.specs.Walks.{Found, found, stopped}
-
--- each variable of a form is below n
-abbrev pub IsBelow : ℕ → Linear → Type 0
-IsBelow n f = AllBelow n f.entries
 
 -- numbers are within the checker's limits, variables rise and are below n, and conjuncts are as simplification leaves them
 pub record AreReady (n : ℕ) (fs : Formulas) : Type 0 where

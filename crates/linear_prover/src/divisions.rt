@@ -9,13 +9,14 @@ ghost use Rattle.search_laws.specs.Steady.{AreSteady};
 ghost use Rattle.farkas_check.specs.Limits.{AreSettled};
 ghost use Rattle.st_certificate.specs.Tree.{branch};
 ghost use Rattle.st_certificate.specs.Plain.{plain as tree_of, plain_trees};
-ghost use Rattle.linear_prover.specs.Plain.{plain_step, plain_each, plain_node};
+ghost use Rattle.linear_prover.specs.Plain.{plain_each, plain_node};
+ghost use Rattle.search_verdicts.specs.Plain.{plain_step};
 ghost use Rattle.linear_prover.specs.Divisions.{step_of, size, children, Applies};
 
 use crate::decisions::{with_case, with_truth};
 use crate::problems::{Conjunct, Node, lend, lend_opened, with_conjuncts};
-use crate::verdict::{PathKind, PathStep};
 use control_states::{Alternative, Components};
+use search_verdicts::{PathKind, PathStep};
 use st_certificate::Certificate;
 use st_form::Form;
 use st_memory::Memory;

@@ -7,7 +7,7 @@ ghost use Rattle.st_form.specs.Formula.{formulas};
 ghost use Rattle.st_form.specs.Plain.{plain, plain_list};
 ghost use Rattle.st_form.specs.Shared.{given_of, shown_of, case_of, consequent_of};
 ghost use Rattle.search_laws.specs.Forms.{AllForms, AllFormsOf};
-ghost use Rattle.linear_prover.specs.Ready.{IsBelow};
+ghost use Rattle.search_laws.specs.Searchable.{IsBelow};
 
 use st_form::{Condition, Consequent, Form, SharedForm};
 use st_linear::Lin;

@@ -18,9 +18,9 @@ ghost use Rattle.linear_prover.specs.Ready.{AreReady};
 
 use crate::conjuncts::{first_disjunction, first_place_among, first_truth_among, lines_of};
 use crate::divisions::Division;
+use crate::failure::Failure;
 use crate::problems::{Conjunct, Node};
 use crate::shown::state;
-use crate::verdict::Failure;
 use control_states::Components;
 use farkas_check::decisions::{has_truth, may_case, truth_free};
 use lean_elimination::{copied, refute};

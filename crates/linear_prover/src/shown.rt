@@ -6,13 +6,14 @@ ghost use Rattle.std.specs.Prelude.{◌≡◌, ◌<◌, ◌^◌, ℕ, Bool, leng
 ghost use Rattle.st_linear.specs.Linear.{valuation};
 ghost use Rattle.farkas_check.specs.PlainProblem.{setting};
 ghost use Rattle.search_laws.specs.States.{taken, next_standing, standing_from, listed, value_of, values_of, state_of};
-ghost use Rattle.linear_prover.specs.Plain.{plain_shown, plain_node};
+ghost use Rattle.linear_prover.specs.Plain.{plain_node};
+ghost use Rattle.search_verdicts.specs.Plain.{plain_shown};
 ghost use Rattle.linear_prover.specs.Loops.{valued};
 
 use crate::problems::Node;
-use crate::verdict::Shown;
 use control_states::{Alternative, Component, Components};
 use farkas_check::decisions::known_active;
+use search_verdicts::Shown;
 use st_form::Variable;
 use st_memory::Memory;
 use st_program::Datum;

@@ -14,11 +14,11 @@ ghost use Rattle.linear_prover.specs.Divisions.{step_of, children, Applies};
 ghost use Rattle.linear_prover.specs.Ready.{AreReady, IfReady, AllReady, Rises};
 
 use crate::divisions::{Division, child, count, joined, step_to};
+use crate::failure::Failure;
 use crate::moves::{Move, move_at};
 use crate::problems::{Conjunct, Node};
-use crate::verdict::{Failure, PathStep};
 use control_states::Components;
-use row_elimination::WideStage;
+use search_verdicts::{PathStep, WideStage};
 use st_certificate::Certificate;
 use st_form::Variable;
 use st_memory::Memory;

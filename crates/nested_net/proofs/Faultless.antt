@@ -9,7 +9,7 @@ use Rattle.temporal_goals.specs.Plain.{plain_nested_node}
 use Rattle.temporal_goals.specs.declared.nested.NestedNode.{NestedNode}
 use Rattle.observations.specs.Observation.{IsJust}
 use Rattle.observations.specs.RankedNet.{IfName}
-use Rattle.rule_laws.specs.Fitting.{fairness_of, LevelsFit, NestedFit}
+use Rattle.rule_fits.specs.Fitting.{fairness_of, LevelsFit, NestedFit}
 use Rattle.ranked_net.specs.Making.{is_unfair, is_uncompassionate}
 use Rattle.ranked_net.proofs.Faultless.{helper-fits, group-fits}
 use Rattle.nested_net.specs.Making.{some_uncompassionate, node_fault, or_fault, first_fault}

@@ -12,7 +12,7 @@ use Rattle.vc_generator.specs.declared.building.Case.{Case}
 use Rattle.rule_laws.specs.Names.{is_name}
 use Rattle.rule_laws.specs.RankedNet.{case_end}
 use Rattle.rule_laws.specs.NestedNet.{agreeing, each_depth, nested_fall, nested_free, nested_stay, nested_list, pairs_below}
-use Rattle.rule_laws.specs.Fitting.{NestedFit}
+use Rattle.rule_fits.specs.Fitting.{NestedFit}
 use Rattle.ranked_net.specs.Asked.{IsModest}
 
 abbrev pub LevelsModest : List PlainLevel → Type 0

@@ -5,7 +5,7 @@ ghost use Rattle.observations.specs.Observation.{IsJust};
 ghost use Rattle.observations.specs.RankedNet.{IfName};
 ghost use Rattle.transition_system.specs.Plain.{plain_system};
 ghost use Rattle.temporal_goals.specs.Plain.{plain_level, plain_nested_node};
-ghost use Rattle.rule_laws.specs.Fitting.{fairness_of, LevelsFit, NestedFit};
+ghost use Rattle.rule_fits.specs.Fitting.{fairness_of, LevelsFit, NestedFit};
 ghost use Rattle.nested_net.specs.Asked.{LevelsModest, NodeModest, AreModest};
 
 use crate::making::some_uncompassionate;

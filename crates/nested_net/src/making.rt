@@ -3,7 +3,7 @@
 ghost use Rattle.std.specs.Prelude.{◌≡◌, ◌<◌, ◌^◌, IfOk, length, map};
 ghost use Rattle.transition_system.specs.Plain.{plain_system};
 ghost use Rattle.temporal_goals.specs.Plain.{plain_level, plain_nested_node, plain_nested};
-ghost use Rattle.rule_laws.specs.Fitting.{NestedFit};
+ghost use Rattle.rule_fits.specs.Fitting.{NestedFit};
 ghost use Rattle.nested_net.specs.Making.{some_uncompassionate as some_uncompassionate_of, node_fault as node_fault_of, first_fault as first_fault_of, MakesNested};
 
 use crate::faults::NestedFault;

@@ -12,7 +12,8 @@ use Rattle.elimination_laws.proofs.Heights.{delta, moved, part-slope}
 use Rattle.null_laws.specs.Reduction.{Entries}
 use Rattle.null_laws.specs.Vectors.{front}
 use Rattle.null_laws.specs.Bases.{Vector}
-use Rattle.null_laws.proofs.Rows.{times_one, part_past, below_weaker}
+use Rattle.null_laws.proofs.Rows.{part_past, below_weaker}
+use Rattle.basic_laws.proofs.Integers.{times_one}
 use Rattle.null_laws.proofs.Products.{value-moved}
 use Rattle.null_laws.specs.Solving.{IsSolving, AreSolving}
 use Rattle.null_laws.proofs.Staging.{Solved, IsSolvedNull}

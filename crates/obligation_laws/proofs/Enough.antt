@@ -1,11 +1,11 @@
 -- The states of what is seen of a run are images of reached states, which meet the control facts.
-use Rattle.std.proofs.Common.{◌≡◌, sym, subst, refl, ℕ, zero, suc, ◌≤◌, List, [], ◌∷◌, map}
+use Rattle.std.proofs.Common.{◌≡◌, sym, subst, ℕ, zero, suc, ◌≤◌, List, [], ◌∷◌}
 use Rattle.st_form.specs.Formula.{Formula, Situation}
 use Rattle.st_form.specs.declared.conditions.TransName.{TransName}
-use Rattle.observations.specs.Observation.{Observation, moment_after, state_at, last}
+use Rattle.observations.specs.Observation.{Moment, Observation, moment_after, state_at, last}
 use Rattle.st_program.specs.Tree.{Processes}
 use Rattle.control_facts.specs.Alternatives.{control_of}
-use Rattle.spl_semantics.specs.Runs.{State, Follows, Reached, IsRunOf, image, seen, place_of}
+use Rattle.spl_semantics.specs.Runs.{State, Follows, Reached, IsSeen, AreSeen, IsRunOf, image}
 use Rattle.spl_semantics.specs.Runs.Reached.{first, next}
 use Rattle.spl_semantics.specs.Facts.{MeetsControl}
 use Rattle.transition_system.specs.Systems.{System}
@@ -16,20 +16,21 @@ use Rattle.obligation_laws.specs.Obligations.{AreValid, AreInvariant, ValidIsEno
 
 module _ (p : Processes) (initial : Formula) where
   -- the state that is seen at a position is the image of a reached one
-  pub record IsSeen (s : Situation) : Type 0 where
+  pub record IsReachedImage (s : Situation) : Type 0 where
     pub state : State
     pub reached : Reached p initial state
     pub is : s ≡ image p state
 
-  seen-at : (s : State) (later : List (TransName × State)) (k : ℕ) → Reached p initial s → Follows p s later
-      → IsSeen (moment_after (seen p s) (map (λ step. (place_of p step.0, seen p step.1)) later) k).state
-  seen-at s [] k reached follows = record { state = s; reached = reached; is = refl }
-  seen-at s (x ∷ later) zero reached follows = record { state = s; reached = reached; is = refl }
-  seen-at s (x ∷ later) (suc k) reached follows = seen-at x.1 later k (next x.0 reached follows.0) follows.1
+  seen-at : (s : State) (m : Moment Situation) (later : List (TransName × State)) (steps : List (ℕ × Moment Situation)) (k : ℕ) → Reached p initial s → Follows p s later
+      → IsSeen p s m → AreSeen p later steps → IsReachedImage (moment_after m steps k).state
+  seen-at s m [] [] k reached follows is are = record { state = s; reached = reached; is = is.state_is }
+  seen-at s m [] (x ∷ steps) k reached follows is are = absurd are
+  seen-at s m (step ∷ later) [] k reached follows is are = absurd are
+  seen-at s m (step ∷ later) (x ∷ steps) zero reached follows is are = record { state = s; reached = reached; is = is.state_is }
+  seen-at s m (step ∷ later) (x ∷ steps) (suc k) reached follows is are = seen-at step.1 x.1 later steps k (next step.0 reached follows.0) follows.1 are.1 are.2
 
-  pub state-seen : (o : Observation Situation) (k : ℕ) → IsRunOf p initial o → IsSeen (state_at o k)
-  state-seen o k run =
-      subst (λ o. IsSeen (state_at o k)) (sym run.seen_is) (seen-at run.state run.later k (first run.first) run.follow)
+  pub state-seen : (o : Observation Situation) (k : ℕ) → IsRunOf p initial o → IsReachedImage (state_at o k)
+  state-seen o k run = seen-at run.state o.first run.later o.later k (first run.first) run.follow run.seen.first_seen run.seen.steps_seen
 
   valid-hold : (ds : List Draft) (s : State) → AreValid (control_of p) ds → MeetsControl p s → AllHoldIn ds (image p s)
   valid-hold [] s valid meets = tt

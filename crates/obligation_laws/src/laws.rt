@@ -16,8 +16,9 @@ pub fn valid_is_enough(program: &Program)
     ensures { ValidIsEnough (plain_children program.now.processes) (plain program.now.initial)
         (translation program.now.variables (plain program.now.initial) (plain_children program.now.processes) program.now.locations) }
 {
+    let _ = &program.processes;
     runs_meet_control(program);
-    runs_are_runs(program);
+    runs_are_runs();
 }
 
 /// The conditions of an invariance whose formulas are written ones have numbers below 2^69, as the checker asks.

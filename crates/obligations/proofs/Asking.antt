@@ -8,7 +8,7 @@ use Rattle.temporal_goals.specs.declared.diagrams.DiagramKind.{DiagramKind}
 use Rattle.temporal_goals.specs.declared.diagrams.DiagramKind.TheVariants.{Wait, Chain, Rank}
 use Rattle.diagram_conditions.specs.Asked.{waiting_asks, response_asks, drawn_asks}
 use Rattle.script_laws.specs.Script.{waiting_drawn, response_drawn, step_list}
-use Rattle.script_laws.specs.Obeying.{RuleFits}
+use Rattle.rule_fits.specs.Obeying.{RuleFits}
 
 module _ (n : ℕ) (system : System) (lemmas : List Formula) where
   waiting-asks : (kind : DiagramKind) (p : Formula) (qs : List Formula) (d : PlainDiagram) → kind ≡ Wait → waiting_asks kind n system lemmas p qs d ≡ waiting_drawn kind n system lemmas p qs d

@@ -4,11 +4,11 @@ use Rattle.transition_system.specs.Systems.{System}
 use Rattle.temporal_goals.specs.Texts.{PlainGoal, invariant, waiting, response, PlainNode, PlainNestedNode, PlainDiagram, net, diagram, nested}
 use Rattle.temporal_goals.specs.declared.diagrams.DiagramKind.{DiagramKind}
 use Rattle.temporal_goals.specs.declared.diagrams.DiagramKind.TheVariants.{Wait, Chain, Rank}
-use Rattle.rule_laws.specs.Fitting.{DrawnNodesFit, LevelsExist}
+use Rattle.rule_fits.specs.Fitting.{DrawnNodesFit, LevelsExist}
 use Rattle.ranked_net.specs.Asked.{RankedFits}
 use Rattle.nested_net.specs.Asked.{NestedFits}
 use Rattle.diagram_conditions.specs.Asked.{FitsWaiting, FitsResponse, FitsGoal, BoundCanFall, Fits}
-use Rattle.script_laws.specs.Obeying.{RuleFits}
+use Rattle.rule_fits.specs.Obeying.{RuleFits}
 use Rattle.script_laws.specs.Written.{GoalWritten, RuleWritten}
 use Rattle.obligations.proofs.Modest.{modest, nodes-modest, nested-modest, ranks-fall}
 

@@ -8,7 +8,7 @@ ghost use Rattle.temporal_goals.specs.Texts.{basic, stronger, levels, net, diagr
 ghost use Rattle.vc_generator.specs.Plain.{plain_list};
 ghost use Rattle.vc_generator.specs.Refusing.{AppendsAll};
 ghost use Rattle.script_laws.specs.Script.{step_list};
-ghost use Rattle.script_laws.specs.Obeying.{RuleFits};
+ghost use Rattle.rule_fits.specs.Obeying.{RuleFits};
 ghost use Rattle.script_laws.specs.Written.{GoalWritten, RuleWritten};
 
 use diagram_conditions::Drawn;

@@ -4,7 +4,7 @@ ghost use Rattle.std.specs.Prelude.{◌≡◌, ◌≤◌, [], map, length, All, 
 ghost use Rattle.st_form.specs.Plain.{plain};
 ghost use Rattle.st_program.specs.Plain.{plain_children};
 ghost use Rattle.control_facts.specs.Alternatives.{control_of};
-ghost use Rattle.discharge.specs.Verdicts.{AreSearchable};
+ghost use Rattle.search_laws.specs.Searchable.{AreSearchable};
 ghost use Rattle.transition_system.specs.Plain.{plain_system};
 ghost use Rattle.spl_translation.specs.Translation.{translation};
 ghost use Rattle.temporal_goals.specs.Plain.{plain_step, plain_script};
@@ -13,7 +13,7 @@ ghost use Rattle.obligation_laws.specs.Obligations.{HoldsOnRuns};
 ghost use Rattle.condition_sizes.specs.Within.{Each};
 ghost use Rattle.script_laws.specs.Script.{script_list};
 ghost use Rattle.script_laws.specs.Refused.{refused_at};
-ghost use Rattle.script_laws.specs.Obeying.{IsProof, RuleFits};
+ghost use Rattle.rule_fits.specs.Obeying.{IsProof, RuleFits};
 ghost use Rattle.script_laws.specs.Written.{StepWritten};
 ghost use Rattle.script_obligations.specs.Laws.{AreThese};
 ghost use Rattle.obligations.specs.Made.{IsRefusal, AllValid};

@@ -6,7 +6,7 @@ ghost use Rattle.temporal_goals.specs.Plain.{plain_goal, plain_rule, plain_step}
 ghost use Rattle.vc_generator.specs.Plain.{plain_list};
 ghost use Rattle.vc_generator.specs.Refusing.{AppendsAll};
 ghost use Rattle.script_laws.specs.Script.{cited_of, step_list};
-ghost use Rattle.script_laws.specs.Obeying.{RuleFits};
+ghost use Rattle.rule_fits.specs.Obeying.{RuleFits};
 ghost use Rattle.script_laws.specs.Written.{StepWritten};
 
 use crate::cited::cited_forms;

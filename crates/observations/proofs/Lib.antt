@@ -5,6 +5,7 @@ pub mod NestedLevels
 pub mod NestedBound
 pub mod DiagramNet
 pub mod WaitingLevels
+pub mod LevelsWait
 pub mod Queue
 pub mod Schedule
 pub mod RoundsExist

@@ -16,10 +16,10 @@ test_false a b h = grind (arith, nat_tests)
 
 module _ {S : Type 0} (o : Observation S) where
   -- at a level of the rest the formula is the rest's
-  rest_form : (f : S → Bool) (fs : List (S → Bool)) (j : ℕ) (s : S) → j < length fs → level_form (f ∷ fs) j s ≡ level_form fs j s
+  pub rest_form : (f : S → Bool) (fs : List (S → Bool)) (j : ℕ) (s : S) → j < length fs → level_form (f ∷ fs) j s ≡ level_form fs j s
   rest_form f fs j s h = rw (test_false j (length fs) h)
 
-  top_form : (f : S → Bool) (fs : List (S → Bool)) (s : S) → level_form (f ∷ fs) (length fs) s ≡ f s
+  pub top_form : (f : S → Bool) (fs : List (S → Bool)) (s : S) → level_form (f ∷ fs) (length fs) s ≡ f s
   top_form f fs s = rw (test_true (length fs) (length fs) refl)
 
   -- the levels of all positions from k on are below that of the first

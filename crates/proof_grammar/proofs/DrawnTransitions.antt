@@ -6,7 +6,7 @@ use Rattle.st_reading.specs.Reading.{is_name, other}
 use Rattle.st_reading.specs.Spelling.{Sound}
 use Rattle.st_reading.specs.Steady.{anything}
 use Rattle.temporal_goals.specs.declared.diagrams.DiagramKind.{DiagramKind}
-use Rattle.rule_laws.specs.Fitting.{fairness_of}
+use Rattle.rule_fits.specs.Fitting.{fairness_of}
 use Rattle.diagram_reader.specs.Drawing.{just_of as drawing_just_of, transition_number_of}
 use Rattle.diagram_reader.specs.Transitions.{is_just}
 use Rattle.diagram_reader.specs.declared.fault.DiagramFault.{DiagramFault}

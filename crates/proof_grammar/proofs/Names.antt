@@ -21,6 +21,7 @@ use Rattle.proof_grammar.proofs.Judgements.{judge_phrase, judged}
 use Rattle.proof_grammar.proofs.Phrases.{Phrase, as_phrase, the_value, then_phrase}
 use Rattle.proof_grammar.proofs.Rows.{row_phrase}
 use Rattle.proof_grammar.proofs.Tokens.{among, but, marks_within}
+use Rattle.basic_laws.proofs.Truths.{not_false}
 
 pub name_complete : {X : Type 0} → Complete {X = X} anything named OneName
 name_complete ts x (one_name t e) after h = rw e refl
@@ -45,10 +46,6 @@ module _ {A : Type 0} (kind : ScriptKind) (place : ℕ) where
 
   abbrev pub known_phrase : Option A → Phrase ScriptFault A anything anything
   known_phrase o = record { reader = present kind place o; language = Known o; sound = known_sound o; complete = known_complete o; begins = λ ts x l after h. refl }
-
-pub not_false : (b : Bool) → not b ≡ false → b ≡ true
-not_false true e = refl
-not_false false e = absurd cc
 
 -- WHAT IS READ, by the names of the earlier steps, each with whether it is an invariance
 pub data IsFreeName (earlier : Earlier) : List Lexeme → List ℕ → Type 0 where

@@ -19,7 +19,7 @@ use Rattle.proof_script.specs.Listing.{Setting}
 use Rattle.proof_grammar.specs.Drawings.{IsDrawnNumber, IsNewNumber, drawn_number, new_number}
 use Rattle.proof_grammar.proofs.Formulas.{drawing_setting}
 use Rattle.proof_grammar.proofs.Judgements.{admit_phrase, admits, judge_phrase, judged}
-use Rattle.proof_grammar.proofs.Names.{not_false}
+use Rattle.basic_laws.proofs.Truths.{not_false}
 use Rattle.proof_grammar.proofs.Phrases.{Phrase, as_phrase, then_phrase}
 
 -- a numeral, and its place

@@ -23,6 +23,7 @@ use Rattle.proof_grammar.specs.Theorems.{ReadScriptsAreSpelled, ScriptsReadOnce,
 use Rattle.proof_grammar.specs.Units.{names_of_steps}
 use Rattle.proof_grammar.proofs.Phrases.{Phrase, made, map_phrase}
 use Rattle.proof_grammar.proofs.Steps.{Claimed, Claims, IsRead, claim_found, from_named, step_complete, step_sound, still_apart, whole_step}
+use Rattle.proof_script.proofs.Scripts.{alone_read}
 
 module _ (g : Setting) where
   abbrev pub one_step : Claim → Earlier → Phrase ScriptFault PlainStep anything anything
@@ -116,11 +117,6 @@ module _ (g : Setting) where
   script_ends : (before zs : List PlainStep) (s rest : Stream) → steps_of g before s ≡ Ok (zs, rest) → (q : ℕ) × (rest ≡ ends q)
   unfolding steps_of
   script_ends before zs s rest h = chain_ends (size s) before zs s rest h
-
--- THE LAWS
-pub alone_read : {A : Type 0} (r : Read ScriptFault A) (x : A) → alone r ≡ Ok x → (rest : Stream) × (r ≡ Ok (x, rest))
-alone_read (Ok (y, rest)) x h = let e : y ≡ x = cc in (rest, ap (λ z. Ok (z, rest)) e)
-alone_read (Err f) x h = absurd cc
 
 pub spelled_scripts_are_read : SpelledScriptsAreRead
 unfolding script_spelled

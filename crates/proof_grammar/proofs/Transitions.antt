@@ -11,7 +11,7 @@ use Rattle.st_reading.specs.Spelling.{IsName, OneName, Sound, one_name}
 use Rattle.st_reading.specs.Steady.{anything}
 use Rattle.st_reading.specs.declared.sign.Sign.{Sign}
 use Rattle.st_form.specs.declared.conditions.Part.{Part}
-use Rattle.rule_laws.specs.Fitting.{fairness_of}
+use Rattle.rule_fits.specs.Fitting.{fairness_of}
 use Rattle.ranked_net.specs.Making.{is_uncompassionate, is_unfair}
 use Rattle.diagram_reader.specs.Transitions.{part_of, present, transition_named, transition_of as drawn_transition}
 use Rattle.diagram_reader.specs.declared.fault.DiagramFault.{DiagramFault}

@@ -14,7 +14,7 @@ use Rattle.temporal_goals.specs.Texts.{PlainStep, invariant}
 use Rattle.expression_parser.specs.Grammar.{Inside, IsSum, SpellsWithin}
 use Rattle.expression_typer.specs.Naming.{is_text, names_of}
 use Rattle.assertions.specs.Reading.{number_of, truth_of}
-use Rattle.rule_laws.specs.Fitting.{fairness_of}
+use Rattle.rule_fits.specs.Fitting.{fairness_of}
 use Rattle.diagram_reader.specs.Transitions.{part_named, transition_named}
 use Rattle.proof_script.specs.Listing.{Setting}
 use Rattle.proof_grammar.specs.Phrases.{Typed}

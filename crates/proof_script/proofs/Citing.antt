@@ -21,17 +21,14 @@ use Rattle.proof_script.specs.declared.fault.ScriptFault.{ScriptFault}
 use Rattle.proof_script.specs.Listing.{Setting, present, behind_mark}
 use Rattle.proof_script.specs.Steps.{Earlier, is_invariance, earlier_of, step_named, new_name_of, cited_of, citations_of, claimed_of, step_of}
 use Rattle.proof_script.specs.Script.{script_spelled}
-use Rattle.script_laws.specs.Obeying.{IsLemma, CiteLemmas}
+use Rattle.rule_fits.specs.Obeying.{IsLemma, CiteLemmas}
 use Rattle.proof_script.proofs.Inverses.{given, allowed, there, further_all}
 use Rattle.proof_script.proofs.Scripts.{setting_for, script_keeps}
+use Rattle.basic_laws.proofs.Truths.{not_false}
 
 pair_or : {A : Type 0} → A → Option A → A
 pair_or d None = d
 pair_or d (Some p) = p
-
-not_false : (b : Bool) → not b ≡ false → b ≡ true
-not_false true e = refl
-not_false false e = absurd cc
 
 -- the step that a name is found for
 cited_known : (earlier : Earlier) (n : ℕ) (s rest : Stream) → cited_of earlier s ≡ Ok (n, rest) → (name : List ℕ) × (step_named earlier name ≡ Some (n, true))

@@ -9,7 +9,7 @@ use Rattle.diagram_reader.specs.Drawn.{Setting}
 use Rattle.diagram_reader.specs.Drawing.{drawing_of}
 use Rattle.diagram_reader.specs.Obeying as diagrams
 use Rattle.diagram_reader.proofs.Speaking.{diagram_over}
-use Rattle.script_bounds.specs.Over.{RankOver, DrawnOver, DiagramOver}
+use Rattle.script_speech.specs.Over.{RankOver, DrawnOver, DiagramOver}
 use Rattle.proof_script.proofs.Numbering.{IsNumbered, diagram_numbered}
 
 module _ (vs : List Variable) (locations : ℕ) where

@@ -13,7 +13,7 @@ use Rattle.transition_system.specs.Systems.{System}
 use Rattle.temporal_goals.specs.Texts.{PlainGoal, invariant, waiting, response, PlainNode, PlainRule, levels, net, diagram, nested, PlainStep}
 use Rattle.temporal_goals.specs.declared.diagrams.DiagramKind.{DiagramKind}
 use Rattle.temporal_goals.specs.declared.diagrams.DiagramKind.TheVariants.{Wait, Chain, Rank}
-use Rattle.rule_laws.specs.Fitting.{NodesFit, LevelsExist}
+use Rattle.rule_fits.specs.Fitting.{NodesFit, LevelsExist}
 use Rattle.ranked_net.proofs.Faultless.{nodes-fit}
 use Rattle.nested_net.proofs.Faultless.{nodes-fit as nested-fit}
 use Rattle.response_rules.specs.Forms.{by_rank, chain_nodes, ranked_nodes, fair_nodes, fair_under}
@@ -33,7 +33,7 @@ use Rattle.proof_script.specs.Listing.{Setting, Reader, unless, optional, behind
 use Rattle.proof_script.specs.Rules.{helped_of, ranked_of, fair_of, manner_in, kind_in, just_nodes_of, chain_nodes_of, ranked_nodes_of, fair_nodes_of, nodes_of, nested_nodes_of, net_rule_of, response_diagram_of, as_net, ruled_of, rule_of}
 use Rattle.proof_script.specs.Steps.{invariance_rule, ends_rule, earlier_of, new_name_of, citations_of, matched_of, invariance_of, waiting_goal_of, levels_of, wait_diagram_of, waiting_by_of, waiting_of, response_of, claimed_of, step_of}
 use Rattle.proof_script.specs.Script.{script_spelled}
-use Rattle.script_laws.specs.Obeying.{FitsInvariance, FitsWaiting, FitsResponse, RuleFits}
+use Rattle.rule_fits.specs.Obeying.{FitsInvariance, FitsWaiting, FitsResponse, RuleFits}
 use Rattle.proof_script.specs.Obeying.{HasFewGroups}
 use Rattle.proof_script.proofs.Inverses.{given, allowed, behind_it, operated, listed_few, listed_fits, further_some}
 use Rattle.proof_script.proofs.Unbroken.{helped_sound, chain_sound, ranked_sound, fair_sound, written_sound}

@@ -15,9 +15,7 @@ use Rattle.proof_script.specs.declared.fault.ScriptKind.{ScriptKind}
 use Rattle.proof_script.specs.declared.fault.ScriptFault.{ScriptFault}
 use Rattle.proof_script.specs.Faults.{one_too_many}
 use Rattle.proof_script.specs.Listing.{Setting, Reader, unless, present, optional, behind_mark, counted, further_counted, listed, bracketed, formula_of, listed_formula_of}
-
-less : (m n : ℕ) → nat_lt m n ≡ true → m < n
-less m n h = grind (arith, nat_tests)
+use Rattle.basic_laws.proofs.Numbers.{less}
 
 pub given : {A : Type 0} (x y : A) (s rest : Stream) → gives {X = ScriptFault} x s ≡ Ok (y, rest) → x ≡ y
 given {A} x y s rest h = let e : (x, s) ≡ (y, rest) = cc in ap (λ (p : A × Stream). p.0) e

@@ -22,6 +22,7 @@ use Rattle.diagram_reader.specs.Drawn.{Setting, Drawing, with_terminal, with_nod
 use Rattle.diagram_reader.specs.Drawing.{unless, numeral_in, numeral_of, formula_of, rank_of, helper_of, new_number_of, numbered_node_of, node_of, edge_of, terminal_of, item_of, drawing_of}
 use Rattle.diagram_reader.proofs.Inverses.{both, given, allowed}
 use Rattle.diagram_reader.proofs.Obeying.{drawn}
+use Rattle.basic_laws.proofs.Numbers.{not_less}
 
 abbrev Small : Sign → Type 0
 Small g = IfSome (numeral_in g) (λ n. n ≤ 2 ^ 30)
@@ -50,9 +51,6 @@ symbol (b ∷ c ∷ d ∷ e ∷ bs) = tt
 keyword : (o : Option Mark) → Small (marked o)
 keyword None = tt
 keyword (Some m) = tt
-
-not_less : (m n : ℕ) → nat_lt m n ≡ false → n ≤ m
-not_less m n h = grind (arith, nat_tests)
 
 bounded : (v : ℕ) (b : Bool) → nat_lt (2 ^ 30) v ≡ b → Small (if b then signs.Other else signs.Numeral v)
 bounded v true e = tt

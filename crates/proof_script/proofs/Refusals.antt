@@ -111,9 +111,6 @@ form_fails_as forming.Memory r h = tt
 pub form_fails : {A : Type 0} (e : FormFault) (f : ScriptFault) (r : Answer A) → f ≡ of_forming e → Fails e r → IsStop (see f) (unit_of r)
 form_fails e f r is h = rw is (form_fails_as e r h)
 
-pub form_read : {A : Type 0} (r : Answer A) (x : A) (rest : Stream) → r ≡ Ok (x, rest) → unit_of r ≡ Ok (x, rest)
-form_read r x rest h = ap unit_of h
-
 -- a formula behind as many others as may be listed
 past_fails_as : {A : Type 0} (place : ℕ) (e : FormFault) (r : Answer A) → Fails e r → IsStop (see (of_past place e)) (one_too_many place r)
 past_fails_as place (forming.Syntax p) r h = ap (one_too_many place) h

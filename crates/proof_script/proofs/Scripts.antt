@@ -34,7 +34,7 @@ module _ (g : Setting) (P : List PlainStep → Type 0) (keeps : (claim : Claim) 
   unfolding steps_of
   steps_keep ys s rest p h = chain_keeps claim_in (step_turn g) ended P P turn_keeps never_leaves end_keeps (size s) [] s ys rest p h
 
-alone_read : {A : Type 0} (r : Read ScriptFault A) (x : A) → alone r ≡ Ok x → (rest : Stream) × (r ≡ Ok (x, rest))
+pub alone_read : {A : Type 0} (r : Read ScriptFault A) (x : A) → alone r ≡ Ok x → (rest : Stream) × (r ≡ Ok (x, rest))
 alone_read (Ok (y, rest)) x h = let e : y ≡ x = cc in (rest, ap (λ z. Ok (z, rest)) e)
 alone_read (Err f) x h = absurd cc
 

@@ -32,17 +32,14 @@ use Rattle.proof_script.specs.Listing.{Setting, Reader, optional, behind_mark, l
 use Rattle.proof_script.specs.Rules.{wanted_helper_of, helper_of, group_of, weight_of, helped_of, ranked_of, fair_of, node_of, group_level_of, group_levels_of, nested_node_of, manner_in, kind_in, just_nodes_of, chain_nodes_of, ranked_nodes_of, fair_nodes_of, nodes_of, nested_nodes_of, net_rule_of, as_net, response_diagram_of, ruled_of, rule_of}
 use Rattle.proof_script.specs.Steps.{invariance_rule, earlier_of, new_name_of, citations_of, invariance_of, waiting_goal_of, levels_of, wait_diagram_of, waiting_by_of, waiting_of, response_of, claimed_of, step_of}
 use Rattle.proof_script.specs.Script.{script_spelled}
-use Rattle.script_bounds.specs.Over.{SmallOver, GoalOver, NetNodeOver, LevelOver, NestedOver, RuleOver, StepOver}
+use Rattle.script_speech.specs.Over.{SmallOver, GoalOver, NetNodeOver, LevelOver, NestedOver, RuleOver, StepOver}
 use Rattle.proof_script.proofs.Inverses.{given, behind_it, optionally, operated, listed_few, few_listed, listed_fits, further_fits, bracketed_fits}
 use Rattle.proof_script.proofs.Unbroken.{completed_fits}
 use Rattle.proof_script.proofs.Grouping.{groups_keep, nested_completed_fits}
 use Rattle.proof_script.proofs.Drawn.{drawn_over}
 use Rattle.proof_script.proofs.Fitting.{drawn_is, matched_is}
 use Rattle.proof_script.proofs.Scripts.{setting_for, script_keeps}
-
-unit_is : {A : Type 0} (a : Answer A) (x : A) (rest : Stream) → unit_of a ≡ Ok (x, rest) → a ≡ Ok (x, rest)
-unit_is (Ok y) x rest h = cc
-unit_is (Err f) x rest h = absurd cc
+use Rattle.diagram_reader.proofs.Speaking.{unit_is}
 
 module _ (vs : List Variable) (locations : ℕ) where
   small : (k : ℕ) → k ≤ 64 → SmallOver vs locations (number (pos k))

@@ -3,7 +3,7 @@ use Rattle.std.specs.Prelude.{◌≡◌, ℕ, ◌≤◌, List, [], length, All, 
 use Rattle.st_program.specs.Names.{Names}
 use Rattle.transition_system.specs.Systems.{System}
 use Rattle.temporal_goals.specs.Texts.{PlainRule, basic, stronger, levels, net, diagram, nested, PlainStep}
-use Rattle.script_laws.specs.Obeying.{CiteLemmas, RuleFits, IsProof}
+use Rattle.rule_fits.specs.Obeying.{CiteLemmas, RuleFits, IsProof}
 use Rattle.proof_script.specs.declared.fault.ScriptFault.TheVariants.{Memory}
 use Rattle.proof_script.specs.Script.{script_spelled}
 

@@ -5,7 +5,7 @@ use Rattle.st_program.specs.Names.{Names}
 use Rattle.transition_system.specs.Systems.{System}
 use Rattle.temporal_goals.specs.Texts.{PlainStep}
 use Rattle.expression_typer.specs.Naming.{names_of, NamesOver}
-use Rattle.script_bounds.specs.Over.{StepOver}
+use Rattle.script_speech.specs.Over.{StepOver}
 use Rattle.proof_script.specs.Script.{script_spelled}
 
 -- A script that is read with such names speaks of no others.

@@ -11,7 +11,7 @@ use Rattle.transition_system.specs.Systems.{System}
 use Rattle.temporal_goals.specs.Texts.{PlainNode}
 use Rattle.temporal_goals.specs.Plain.{plain_node}
 use Rattle.temporal_goals.specs.declared.nets.Node.{Node}
-use Rattle.rule_laws.specs.Fitting.{fairness_of, NodeFits, NodesFit}
+use Rattle.rule_fits.specs.Fitting.{fairness_of, NodeFits, NodesFit}
 use Rattle.ranked_net.specs.Making.{owes_justice, owes_compassion, is_unfair, is_uncompassionate, node_fault, or_fault, first_fault}
 use Rattle.ranked_net.specs.declared.faults.NetFault.{NetFault}
 use Rattle.ranked_net.specs.declared.faults.NetFault.TheVariants as faults

@@ -10,7 +10,7 @@ use Rattle.vc_generator.specs.Building.{Draft, moved_of}
 use Rattle.vc_generator.specs.Walks.{by_mode}
 use Rattle.rule_laws.specs.Names.{is_name}
 use Rattle.rule_laws.specs.RankedNet.{kept_pairs, case_end, case_drop, case_free, case_inner, case_stay, grouped, cases_if, ranked_list}
-use Rattle.rule_laws.specs.Fitting.{NodesFit}
+use Rattle.rule_fits.specs.Fitting.{NodesFit}
 
 -- the number can be lowered by 1
 abbrev pub IsModest : Linear → Type 0

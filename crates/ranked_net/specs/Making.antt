@@ -6,7 +6,7 @@ use Rattle.transition_system.specs.Systems.{System}
 use Rattle.temporal_goals.specs.Texts.{PlainNode}
 use Rattle.temporal_goals.specs.Plain.{plain_net}
 use Rattle.temporal_goals.specs.declared.nets.Net.{Net}
-use Rattle.rule_laws.specs.Fitting.{fairness_of}
+use Rattle.rule_fits.specs.Fitting.{fairness_of}
 use Rattle.ranked_net.specs.declared.faults.NetFault.{NetFault}
 use Rattle.ranked_net.specs.declared.faults.NetFault.TheVariants as faults
 

@@ -3,7 +3,7 @@
 ghost use Rattle.std.specs.Prelude.{◌≡◌, true, map};
 ghost use Rattle.transition_system.specs.Plain.{plain_system};
 ghost use Rattle.temporal_goals.specs.Plain.{plain_node};
-ghost use Rattle.rule_laws.specs.Fitting.{NodeFits, NodesFit};
+ghost use Rattle.rule_fits.specs.Fitting.{NodeFits, NodesFit};
 ghost use Rattle.ranked_net.specs.Asked.{IsModest, AreModest};
 
 use crate::fairness::{is_uncompassionate, is_unfair};

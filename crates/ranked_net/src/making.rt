@@ -3,7 +3,7 @@
 ghost use Rattle.std.specs.Prelude.{◌≡◌, ◌<◌, ◌^◌, IfOk, length, map};
 ghost use Rattle.transition_system.specs.Plain.{plain_system};
 ghost use Rattle.temporal_goals.specs.Plain.{plain_node, plain_net};
-ghost use Rattle.rule_laws.specs.Fitting.{NodesFit};
+ghost use Rattle.rule_fits.specs.Fitting.{NodesFit};
 ghost use Rattle.ranked_net.specs.Making.{node_fault as node_fault_of, first_fault as first_fault_of, MakesNet};
 
 use crate::fairness::{is_uncompassionate, is_unfair};

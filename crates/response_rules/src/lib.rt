@@ -8,7 +8,7 @@ ghost use Rattle.st_linear.specs.Linear.{number};
 ghost use Rattle.st_form.specs.Plain.{plain};
 ghost use Rattle.transition_system.specs.Plain.{plain_system};
 ghost use Rattle.temporal_goals.specs.Plain.{plain_node, plain_net};
-ghost use Rattle.rule_laws.specs.Fitting.{NodesFit};
+ghost use Rattle.rule_fits.specs.Fitting.{NodesFit};
 ghost use Rattle.response_rules.specs.Forms.{plain_chain, plain_ranked, plain_fair, by_rank as by_rank_of, chain_nodes as chain_nodes_of, ranked_nodes as ranked_nodes_of, fair_under as fair_under_of, fair_nodes as fair_nodes_of, GivesNet};
 
 use ranked_net::{NetFault, make_net};

@@ -8,11 +8,7 @@ use Rattle.st_linear.proofs.Dividing.{common_divisor-is}
 use Rattle.elimination_laws.specs.Mixing.{Tracked, mixed, part_of, shared, first_factor, second_factor, against}
 use Rattle.st_linear.specs.Linear.{is_zero}
 use Rattle.elimination_laws.specs.Stages.{freed, paired}
-
-above_zero : (z : ℤ) → z ≢ pos 0 → unsigned_abs z ≢ 0
-above_zero (pos zero) h e = h refl
-above_zero (pos (suc n)) h e = absurd (omega arith)
-above_zero (negsuc n) h e = absurd (omega arith)
+use Rattle.basic_laws.proofs.Integers.{size_not_zero as above_zero}
 
 pub gcd-positive : (a c : ℤ) (g : ℕ) → a ≢ pos 0 → IsGcd (unsigned_abs a) (unsigned_abs c) g → g ≢ 0
 gcd-positive a c g h k e = above_zero a h (eq-zero_of_zero-dvd (subst (λ g. g ∣ unsigned_abs a) e k.0))

@@ -12,12 +12,10 @@ use Rattle.elimination_laws.specs.declared.stage.WideStage.TheVariants.{Rows, Va
 use Rattle.row_elimination.specs.Places.{use_plain, Halts, sift_from}
 use Rattle.row_elimination.specs.Runs.{IsStop, Stops, uses_plain, with_uses}
 use Rattle.row_elimination.proofs.Sifting.{sift-all}
+use Rattle.basic_laws.proofs.Numbers.{one-more}
 
 stages-suc : (k v : ℕ) (ts new : List Tracked) → sifted (made v ts) 4096 ≡ list new → stages (suc k) v ts ≡ with_use (use_of v ts) (stages k (v + 1) new)
 stages-suc k v ts new h = ap (λ s. then_stages (at_variable v) s (λ rest. with_use (use_of v ts) (stages k (v + 1) rest))) h
-
-one-more : (n v : ℕ) → v < n → n - v ≡ suc (n - (v + 1))
-one-more n v h = omega arith
 
 stages-ok : (n v : ℕ) (ts new : List Tracked) (u : Use) → v < n → sifted (made v ts) 4096 ≡ list new → u ≡ use_of v ts → stages (n - v) v ts ≡ with_use u (stages (n - (v + 1)) (v + 1) new)
 stages-ok n v ts new u h k e = ap (λ m. stages m v ts) (one-more n v h) ∙ stages-suc (n - (v + 1)) v ts new k ∙ ap (λ u. with_use u (stages (n - (v + 1)) (v + 1) new)) (sym e)

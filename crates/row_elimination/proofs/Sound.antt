@@ -16,7 +16,7 @@ use Rattle.elimination_laws.proofs.Refuting.{after, used}
 use Rattle.farkas_leaf.proofs.Laws.{lines_no_solution}
 use Rattle.elimination_laws.proofs.Clashing.{contradiction-closes, contradiction-limited}
 use Rattle.elimination_laws.proofs.Mixes.{and_then-some}
-use Rattle.elimination_laws.proofs.Heights.{times_zero}
+use Rattle.basic_laws.proofs.Integers.{times_zero}
 use Rattle.row_elimination.specs.declared.top.Elimination.{Elimination}
 use Rattle.st_memory.specs.declared.Memory.{Memory}
 use Rattle.row_elimination.specs.declared.top.Stop.{Stop}
@@ -24,6 +24,9 @@ use Rattle.row_elimination.specs.declared.top.Stop.TheVariants as stop
 use Rattle.row_elimination.specs.Runs.{Stops}
 use Rattle.elimination_laws.specs.Points.{evaluated_but, rest_value, meets, meets_if, holds_at, all_hold_at, if_all_hold, point_of, pointed}
 use Rattle.row_elimination.specs.Eliminations.{IsElimination, IsSound, HoldAt, StopGives}
+use Rattle.basic_laws.proofs.Integers.{by_test, held, least-is}
+use Rattle.elimination_laws.proofs.Keeping.{zero-is}
+use Rattle.elimination_laws.proofs.Refuting.{from-test}
 
 pub stop-exact : (s : Stop) (r : Result Elimination Memory) (lines : List Line) (n : ℕ) → Stops s (ending lines n) → StopGives s r → IfOk r (λ e. IsElimination lines n e)
 stop-exact (stop.Clash ps) r lines n h k = subst (λ r. IfOk r (λ e. IsElimination lines n e)) (sym k) h
@@ -52,20 +55,11 @@ stages-length (suc n) v ts us h =
     let e : use_of v ts ∷ b.0 ≡ us = through-is _ us (sym (ap (with_use (use_of v ts)) b.1) ∙ a.2) in
     omega (arith, ap length (sym e), r)
 
-from-test : (b : Bool) (e : Ending) (us : List Use) → (if b then too_wide at_rows else e) ≡ through us → e ≡ through us
-from-test true e us h = absurd (cc)
-from-test false e us h = h
-
 pub uses-length : (lines : List Line) (n : ℕ) (us : List Use) → ending lines n ≡ through us → length us ≡ n
 uses-length lines n us h =
     let i = from-test _ (then_stages at_rows (sifted (map Some (tracked 0 lines)) 4096) (stages n 0)) us h in
     let a = after at_rows (sifted (map Some (tracked 0 lines)) 4096) (stages n 0) us i in
     stages-length n 0 a.0 us a.2
-
--- the point meets each line
-by_test : (b : Bool) (z r : ℤ) → cond b None (Some z) ≡ Some r → z ≡ r
-by_test true z r h = absurd (cc)
-by_test false z r h = cc
 
 narrow-is : (z r : ℤ) → narrow z ≡ Some r → z ≡ r
 narrow-is z r h = by_test (is_wide z) z r h
@@ -92,15 +86,6 @@ evaluated-is v values h (e ∷ es) z r k =
           omega (arith, ints, narrow-is _ _ p.1, narrow-is _ _ q.1, evaluated-is v values h es q.0 r q.2)
     ]
 
-zero-is : (z : ℤ) → is_zero z ≡ true → z ≡ pos 0
-zero-is (pos zero) h = refl
-zero-is (pos (suc n)) h = absurd (cc)
-zero-is (negsuc n) h = absurd (cc)
-
-least-is : (z : ℤ) → int_le (pos 0) z ≡ true → pos 0 ≤ℤ z
-least-is (pos n) h = omega (arith, ints)
-least-is (negsuc n) h = absurd (cc)
-
 meets-by : (b : Bool) (z : ℤ) → meets b z ≡ true → HoldsBy b z
 meets-by true z h = zero-is z h
 meets-by false z h = least-is z h
@@ -125,10 +110,6 @@ and-both false c h = absurd (cc)
 all-hold : (values : List ℤ) (ls : List Line) → all_hold_at values ls ≡ true → AllHold (At values) ls
 all-hold values [] h = tt
 all-hold values (l ∷ ls) h = let b = and-both (holds_at values l) (all_hold_at values ls) h in (line-holds values l b.0, all-hold values ls b.1)
-
-held : (b : Bool) (vs ws : List ℤ) → (if b then Some vs else None) ≡ Some ws → (b ≡ true) × (vs ≡ ws)
-held true vs ws h = (refl, cc)
-held false vs ws h = absurd (cc)
 
 pub point-holds : (lines : List Line) (n : ℕ) (us : List Use) (o : Option (Vec ℤ Global)) → option_map (λ v. v.items) o ≡ point_of lines n us → HoldAt lines o
 point-holds lines n us None h = tt

@@ -1,3 +1,4 @@
+-- What an elimination answers: which it is, and what it means.
 use Rattle.std.specs.Prelude.{◌≡◌, ℕ, Option, Some, None, List, [], ◌∷◌, ℤ, pos, Vec, slice_index_or, Result, Ok, IfOk}
 use Rattle.std.specs.Option.{option_map}
 use Rattle.std.specs.Global.{Global}

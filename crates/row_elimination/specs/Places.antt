@@ -1,3 +1,4 @@
+-- How a list of lines grows while it is sifted: one line at a time, as the code does it. Nobody has to believe this.
 use Rattle.std.specs.Prelude.{◌≡◌, ℕ, Option, Some, None, Result, Ok, Err, List, [], ◌∷◌, ◌++◌, length, nat_lt, if◌then◌else◌, false, Vec, ◌<◌, ◌+◌, slice_index_or, take, drop, map, ◌≤◌, ℤ, true, vec_len}
 use Rattle.elimination_laws.specs.Mixing.{Tracked, part, is_up, is_down}
 use Rattle.st_linear.specs.Linear.{is_zero}

@@ -1,3 +1,4 @@
+-- The stops of the code, and the plain data of what it keeps on its way.
 use Rattle.std.specs.Prelude.{◌≡◌, ℕ, ◌^◌, Result, Ok, Err, List, [], ◌∷◌, map, pos, IsTrue, Vec}
 use Rattle.std.specs.Global.{Global}
 use Rattle.st_linear.specs.declared.rows.Line.{Line}

@@ -29,7 +29,7 @@ use Rattle.vc_generator.proofs.Walking.{mode-holds, first-hold, others-hold}
 use Rattle.vc_generator.proofs.Running.{step-at, enabled-at}
 use Rattle.rule_laws.specs.Names.{is_name, enabled_of}
 use Rattle.rule_laws.specs.Diagrams.{node_numbered, leaves_on, ends_of, case_on, case_at, lower_end, each_node, drawn_rank, drawn_help, unless_helper, chain_starts, chain_cases, chain_move, chain_list, rank_starts, rank_stays, rank_falls, rank_end, rank_cases, drawn_ranked, rank_move, rank_list}
-use Rattle.rule_laws.specs.Fitting.{DrawnFits, DrawnNodesFit}
+use Rattle.rule_fits.specs.Fitting.{DrawnFits, DrawnNodesFit}
 use Rattle.rule_laws.proofs.Enabled.{enabled-among}
 use Rattle.rule_laws.proofs.Among.{Among, among-next, among-split, among-map, map-among, among-single, other-name}
 use Rattle.rule_laws.proofs.NetSound.{lower-by}

@@ -31,7 +31,7 @@ use Rattle.vc_generator.proofs.Running.{step-at, enabled-at}
 use Rattle.rule_laws.specs.Names.{is_name, enabled_of}
 use Rattle.rule_laws.specs.RankedNet.{case_end, cases_if}
 use Rattle.rule_laws.specs.NestedNet.{top_at, base_at, agree, none_of, pairs_below, group_at, agreeing, each_depth, nested_starts, ranked_forms, enabled_groups, nested_helped, nested_fall, nested_free, nested_stay, falls_at, frees_at, nested_cases, nested_rank, nested_help, nested_move, nested_list}
-use Rattle.rule_laws.specs.Fitting.{fairness_of, LevelsFit, NestedFit}
+use Rattle.rule_fits.specs.Fitting.{fairness_of, LevelsFit, NestedFit}
 use Rattle.rule_laws.proofs.Enabled.{enabled-among}
 use Rattle.rule_laws.proofs.Among.{Among, among-next, among-split, among-map, map-among, among-single, among-if, other-name}
 use Rattle.rule_laws.proofs.NetSound.{not-true, lower-by}

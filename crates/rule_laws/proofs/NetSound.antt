@@ -28,7 +28,7 @@ use Rattle.vc_generator.proofs.Walking.{mode-holds, numbered-hold, first-hold, o
 use Rattle.vc_generator.proofs.Running.{step-at, enabled-at}
 use Rattle.rule_laws.specs.Names.{is_name, enabled_of}
 use Rattle.rule_laws.specs.RankedNet.{starts_on, ranked_form, helped_form, kept_pairs, case_end, case_drop, case_free, case_inner, case_stay, grouped, cases_if, net_cases, rank_of, help_of, move_of, ranked_list}
-use Rattle.rule_laws.specs.Fitting.{NodeFits, NodesFit}
+use Rattle.rule_fits.specs.Fitting.{NodeFits, NodesFit}
 use Rattle.rule_laws.proofs.Enabled.{enabled-among}
 use Rattle.rule_laws.proofs.Among.{Among, among-split, among-map, map-among, among-single, among-if, other-name, among-grouped}
 

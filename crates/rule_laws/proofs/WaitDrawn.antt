@@ -25,7 +25,7 @@ use Rattle.vc_generator.proofs.Leading.{entails-true, moved-leads, CaseHolds}
 use Rattle.vc_generator.proofs.Walking.{mode-holds, first-hold, others-hold}
 use Rattle.vc_generator.proofs.Running.{step-at}
 use Rattle.rule_laws.specs.Diagrams.{ends_of, case_on, lower_end, each_node, level_goal, wait_forms, wait_level, wait_cases, wait_move, wait_list}
-use Rattle.rule_laws.specs.Fitting.{LevelsExist}
+use Rattle.rule_fits.specs.Fitting.{LevelsExist}
 use Rattle.rule_laws.proofs.Among.{Among, among-split, among-map, among-single}
 use Rattle.rule_laws.proofs.DrawnSound.{each-hold, among-ends, LowerEnd, lower-end}
 use Rattle.rule_laws.proofs.DrawnSound.LowerEnd.{Terminal, Lower}

@@ -15,7 +15,7 @@ use Rattle.rule_laws.specs.WaitingFor.{waiting_list}
 use Rattle.rule_laws.specs.RankedNet.{ranked_list}
 use Rattle.rule_laws.specs.NestedNet.{nested_list}
 use Rattle.rule_laws.specs.Diagrams.{wait_list, chain_list, rank_list}
-use Rattle.rule_laws.specs.Fitting.{NodesFit, NestedFit, DrawnNodesFit, LevelsExist}
+use Rattle.rule_fits.specs.Fitting.{NodesFit, NestedFit, DrawnNodesFit, LevelsExist}
 
 -- the goal holds on each run on which the conditions and the cited formulas hold throughout
 abbrev pub Proves : System → List Formula → List Draft → PlainGoal → Type 0

@@ -4,5 +4,4 @@ pub mod Names
 pub mod RankedNet
 pub mod NestedNet
 pub mod Diagrams
-pub mod Fitting
 pub mod Laws

@@ -12,12 +12,7 @@ use Rattle.observations.specs.Goals.{level_form, LevelsFrom, WaitsFrom}
 use Rattle.run_judging.specs.Shown.{AreFlags, AreRows}
 use Rattle.run_judging.specs.Rows.{flags_at}
 use Rattle.run_judging.specs.Judging.{is_level, IsLowest}
-
-same-test : (n m : ℕ) → n ≡ m → (n == m) ≡ true
-same-test n m e = grind (arith, nat_tests)
-
-other-test : (n m : ℕ) → (n ≡ m → ⊥) → (n == m) ≡ false
-other-test n m e = grind (arith, nat_tests)
+use Rattle.basic_laws.proofs.Numbers.{other-test, same-test}
 
 -- the flag of a level stands so far from the end
 pub level-at : (row : List Bool) (i level : ℕ) (d : Bool) → i < length row → level ≡ length row - 1 - i → get_or row i d ≡ is_level row level

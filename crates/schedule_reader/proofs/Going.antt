@@ -5,8 +5,8 @@ use Rattle.st_reading.specs.declared.sign.Sign.{Sign}
 use Rattle.st_reading.specs.declared.sign.Sign.TheVariants as signs
 use Rattle.st_reading.specs.Reading.{Stop, Read, ◌>>=◌, IsStop, Label, ahead, name_of, then_reads, size}
 use Rattle.st_reading.proofs.Streams.{behind_size}
-use Rattle.schedule_reader.specs.declared.fault.ScheduleFault.{ScheduleFault}
-use Rattle.schedule_reader.specs.Items.{Reader, items_from, items}
+use Rattle.st_reading.specs.Breaches.{Breach, Reader}
+use Rattle.schedule_reader.specs.Items.{items_from, items}
 
 module _ {O S : Type 0} (begins : Sign → Option O) (item : O → Label → S → Reader S) where
   none_left : (k : ℕ) (x : S) (s : Stream) → None ≡ begins (ahead s) → items_from begins item k x s ≡ Ok (x, s)
@@ -24,7 +24,7 @@ module _ {O S : Type 0} (begins : Sign → Option O) (item : O → Label → S �
   one_more x (more t s) o (suc k) h none le = (k, omega arith, rw (← h) refl)
 
   -- `x` is what a loop has read, s is left, and the items from there are the whole
-  pub record Going (x : S) (s start : Stream) (whole : Read ScheduleFault S) : Type 0 where
+  pub record Going (x : S) (s start : Stream) (whole : Read Breach S) : Type 0 where
     pub shrinks : size s ≤ size start
     pub fuel : ℕ
     pub enough : size s ≤ fuel
@@ -33,7 +33,7 @@ module _ {O S : Type 0} (begins : Sign → Option O) (item : O → Label → S �
   pub starts : (x : S) (s : Stream) → Going x s s (items begins item x s)
   starts x s = record { shrinks = omega arith; fuel = size s; enough = omega arith; completes = refl }
 
-  module _ (none : None ≡ begins signs.Nothing) (x : S) (s start : Stream) (whole : Read ScheduleFault S) (g : Going x s start whole) where
+  module _ (none : None ≡ begins signs.Nothing) (x : S) (s start : Stream) (whole : Read Breach S) (g : Going x s start whole) where
     pub goes_on : (o : O) (l : Label) (y : S) (next after : Stream) → Some o ≡ begins (ahead s) → l ≡ name_of s → next ≡ behind s → item o l x next ≡ Ok (y, after) → size after ≤ size next → Going y after start whole
     goes_on o l y next after h at is e le =
         let m = one_more x s o g.fuel h none g.enough in
@@ -42,15 +42,15 @@ module _ {O S : Type 0} (begins : Sign → Option O) (item : O → Label → S �
           shrinks = omega (arith, g.shrinks, behind_size s, ap size is);
           fuel = m.0;
           enough = omega (arith, m.1, ap size is);
-          completes = sym (ap (λ (r : Read ScheduleFault S). r >>= λ y. items_from begins item m.0 y.0 y.1) read_so) ∙ sym m.2 ∙ g.completes;
+          completes = sym (ap (λ (r : Read Breach S). r >>= λ y. items_from begins item m.0 y.0 y.1) read_so) ∙ sym m.2 ∙ g.completes;
         }
 
     pub ends_so : None ≡ begins (ahead s) → whole ≡ Ok (x, s)
     ends_so h = sym g.completes ∙ none_left g.fuel x s h
 
-    pub fails_so : (o : O) (l : Label) (e : Option (Stop ScheduleFault)) (next : Stream) → Some o ≡ begins (ahead s) → l ≡ name_of s → next ≡ behind s → IsStop e (item o l x next) → IsStop e whole
+    pub fails_so : (o : O) (l : Label) (e : Option (Stop Breach)) (next : Stream) → Some o ≡ begins (ahead s) → l ≡ name_of s → next ≡ behind s → IsStop e (item o l x next) → IsStop e whole
     fails_so o l None next h at is bad = tt
     fails_so o l (Some f) next h at is bad =
         let m = one_more x s o g.fuel h none g.enough in
         let read_so : item o (name_of s) x (behind s) ≡ Err f = ap (λ a. item o a x (behind s)) (sym at) ∙ ap (item o l x) (sym is) ∙ bad in
-        sym g.completes ∙ m.2 ∙ ap (λ (r : Read ScheduleFault S). r >>= λ y. items_from begins item m.0 y.0 y.1) read_so
+        sym g.completes ∙ m.2 ∙ ap (λ (r : Read Breach S). r >>= λ y. items_from begins item m.0 y.0 y.1) read_so

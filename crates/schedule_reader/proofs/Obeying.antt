@@ -25,16 +25,17 @@ use Rattle.st_program.specs.Names.{Names}
 use Rattle.st_program.specs.Tree.{Statement, Processes, action}
 use Rattle.st_program.specs.Spots.{statement_at}
 use Rattle.expression_typer.specs.Naming.{is_text, variable_at, variable_named, names_of}
-use Rattle.schedule_reader.specs.declared.fault.ScheduleFault.{ScheduleFault}
-use Rattle.schedule_reader.specs.declared.fault.ScheduleFault.TheVariants as faults
+use Rattle.st_reading.specs.Rule as rules
+use Rattle.st_reading.specs.Breaches.{Breach, broke, Reader, present, unless, numeral_in, numeral_of, alone}
 use Rattle.schedule_reader.specs.declared.moving.Opening.{Opening}
 use Rattle.schedule_reader.specs.declared.moving.Opening.TheVariants.{Idling, Label as By, Number as Numbered}
-use Rattle.schedule_reader.specs.Items.{Reader, present, unless, items_from}
-use Rattle.schedule_reader.specs.Values.{numeral_in, value_in, numeral_of, value_of, has_type, typed_of, IsWritten}
+use Rattle.schedule_reader.specs.Items.{items_from}
+use Rattle.schedule_reader.specs.Values.{value_in, value_of, has_type, typed_of, IsWritten}
 use Rattle.schedule_reader.specs.Settings.{Settings, is_set, unset_variable, unset_in, setting_of}
 use Rattle.schedule_reader.specs.Moves.{opening_in, part_of, has_part, step_of, statement_of, named_by, move_of, next_move_of, too_many}
-use Rattle.schedule_reader.specs.Schedules.{PlainSchedule, all_set, only_name, settings_of, store_of, moves_of, schedule_of, told, schedule_spelled}
+use Rattle.schedule_reader.specs.Schedules.{PlainSchedule, all_set, only_name, settings_of, store_of, moves_of, schedule_of, schedule_spelled}
 use Rattle.schedule_reader.specs.Obeying.{IsName, Obeys}
+use Rattle.basic_laws.proofs.Truths.{not_false}
 
 module _ {E A B : Type 0} where
   -- both parts went through
@@ -48,28 +49,28 @@ module _ {E A B : Type 0} where
   both (Err e) q y h = absurd cc
 
 module _ {A : Type 0} where
-  given : (x y : A) (s rest : Stream) → gives {X = ScheduleFault} x s ≡ Ok (y, rest) → x ≡ y
+  given : (x y : A) (s rest : Stream) → gives {X = Breach} x s ≡ Ok (y, rest) → x ≡ y
   given x y s rest h = let e : (x, s) ≡ (y, rest) = cc in ap (λ (p : A × Stream). p.0) e
 
-  allowed : (broken : Bool) (fault : ScheduleFault) (x y : A) (s rest : Stream) → unless broken fault x s ≡ Ok (y, rest) → (broken ≡ false) × (x ≡ y)
+  allowed : (broken : Bool) (fault : Breach) (x y : A) (s rest : Stream) → unless broken fault x s ≡ Ok (y, rest) → (broken ≡ false) × (x ≡ y)
   allowed true fault x y s rest h = absurd cc
   allowed false fault x y s rest h = (refl, given x y s rest h)
 
-  there_is : (fault : ScheduleFault) (o : Option A) (y : A) (s rest : Stream) → present fault o s ≡ Ok (y, rest) → o ≡ Some y
+  there_is : (fault : Breach) (o : Option A) (y : A) (s rest : Stream) → present fault o s ≡ Ok (y, rest) → o ≡ Some y
   there_is fault None y s rest h = absurd cc
   there_is fault (Some x) y s rest h = ap Some (given x y s rest h)
 
-  abbrev taken : Option A → Stop ScheduleFault → Stream → Read ScheduleFault A
+  abbrev taken : Option A → Stop Breach → Stream → Read Breach A
   taken o stop s = on_operator o (Err stop) (λ x. Ok (x, behind s))
 
-  passed : (o : Option A) (stop : Stop ScheduleFault) (s : Stream) (y : A) (rest : Stream) → taken o stop s ≡ Ok (y, rest) → o ≡ Some y
+  passed : (o : Option A) (stop : Stop Breach) (s : Stream) (y : A) (rest : Stream) → taken o stop s ≡ Ok (y, rest) → o ≡ Some y
   passed None stop s y rest h = absurd cc
   passed (Some x) stop s y rest h = ap Some (given x y (behind s) rest h)
 
 -- what holds at first, and goes on to hold with each item, holds behind them all
 module _ {O S : Type 0} (begins : Sign → Option O) (item : O → Label → S → Reader S) (P : S → Type 0)
     (keeps : (o : O) (l : Label) (x y : S) (s rest : Stream) → P x → item o l x s ≡ Ok (y, rest) → P y) where
-  at_start : (next : S → Stream → Read ScheduleFault S) → ((x y : S) (s rest : Stream) → P x → next x s ≡ Ok (y, rest) → P y) → (b : Option O) (x y : S) (s rest : Stream) → P x
+  at_start : (next : S → Stream → Read Breach S) → ((x y : S) (s rest : Stream) → P x → next x s ≡ Ok (y, rest) → P y) → (b : Option O) (x y : S) (s rest : Stream) → P x
       → on_operator b (Ok (x, s)) (λ o. item o (name_of s) x (behind s) >>= λ z. next z.0 z.1) ≡ Ok (y, rest) → P y
   at_start next again None x y s rest h e = subst P (given x y s rest e) h
   at_start next again (Some o) x y s rest h e =
@@ -127,9 +128,15 @@ small (ends place) n h = cc
 small (breaks f) n h = cc
 small (more t s) n h = kind_small t.kind t.text n h
 
-numeral_small : (s : Stream) (n : ℕ) (rest : Stream) → numeral_of s ≡ Ok (n, rest) → n ≤ 2 ^ 30
+numeral_small : (s : Stream) (n : ℕ × ℕ) (rest : Stream) → numeral_of s ≡ Ok (n, rest) → n.0 ≤ 2 ^ 30
 unfolding numeral_of
-numeral_small s n rest h = small s n (passed (numeral_in (ahead s)) (refusal s) s n rest h)
+numeral_small s n rest h = by_number (numeral_in (ahead s)) refl h
+  where
+    by_number : (o : Option ℕ) → numeral_in (ahead s) ≡ o → on_operator {A = Read Breach (ℕ × ℕ)} o (Err (refusal s)) (λ k. Ok ((k, place_of s), behind s)) ≡ Ok (n, rest) → n.0 ≤ 2 ^ 30
+    by_number None q h = absurd cc
+    by_number (Some k) q h =
+        let e : (k, place_of s) ≡ n = given (k, place_of s) n (behind s) rest h in
+        subst (λ (m : ℕ × ℕ). m.0 ≤ 2 ^ 30) e (small s k q)
 
 -- values
 module _ (s : Stream) (d : Datum) where
@@ -152,17 +159,13 @@ module _ (s : Stream) (d : Datum) where
   unfolding value_of
   value_written rest h = at_minus (is (ahead s) marks.Minus) h
     where
-      at_minus : (b : Bool) → cond b (then_reads numeral_of (λ n. gives (Number (neg_ℤ (pos n)))) (behind s)) (taken (value_in (ahead s)) (refusal s) s) ≡ Ok (d, rest) → IsWritten d
+      at_minus : (b : Bool) → cond b (then_reads numeral_of (λ n. gives (Number (neg_ℤ (pos n.0)))) (behind s)) (taken (value_in (ahead s)) (refusal s) s) ≡ Ok (d, rest) → IsWritten d
       at_minus true h =
-          let r = both (numeral_of (behind s)) (λ x. gives (Number (neg_ℤ (pos x.0))) x.1) (d, rest) h in
+          let r = both (numeral_of (behind s)) (λ x. gives (Number (neg_ℤ (pos x.0.0))) x.1) (d, rest) h in
           let n = numeral_small (behind s) r.value.0 r.value.1 r.first in
-          let size : unsigned_abs (neg_ℤ (pos r.value.0)) ≤ 2 ^ 30 = omega (arith, unsigned_abs-neg (pos r.value.0), n) in
-          subst IsWritten (given (Number (neg_ℤ (pos r.value.0))) d r.value.1 rest r.second) size
+          let size : unsigned_abs (neg_ℤ (pos r.value.0.0)) ≤ 2 ^ 30 = omega (arith, unsigned_abs-neg (pos r.value.0.0), n) in
+          subst IsWritten (given (Number (neg_ℤ (pos r.value.0.0))) d r.value.1 rest r.second) size
       at_minus false h = token_written (passed (value_in (ahead s)) (refusal s) s d rest h)
-
-not_false : (b : Bool) → not b ≡ false → b ≡ true
-not_false true h = refl
-not_false false h = cc
 
 -- what is set for a variable of the type
 abbrev Slot : Bool → Option Datum → Type 0
@@ -172,8 +175,8 @@ Slot truth (Some d) = (has_type truth d ≡ true) × IsWritten d
 typed_slot : (truth : Bool) (s : Stream) (d : Datum) (rest : Stream) → typed_of truth s ≡ Ok (d, rest) → Slot truth (Some d)
 unfolding typed_of
 typed_slot truth s d rest h =
-    let r = both (value_of s) (λ x. unless (not (has_type truth x.0)) (faults.WrongType (place_of s)) x.0 x.1) (d, rest) h in
-    let a = allowed (not (has_type truth r.value.0)) (faults.WrongType (place_of s)) r.value.0 d r.value.1 rest r.second in
+    let r = both (value_of s) (λ x. unless (not (has_type truth x.0)) (broke rules.WrongType (place_of s)) x.0 x.1) (d, rest) h in
+    let a = allowed (not (has_type truth r.value.0)) (broke rules.WrongType (place_of s)) r.value.0 d r.value.1 rest r.second in
     subst (λ x. Slot truth (Some x)) a.1 (not_false (has_type truth r.value.0) a.0, value_written s r.value.0 r.value.1 r.first)
 
 abbrev Variables : Type 0
@@ -204,7 +207,7 @@ unset_found : (store : Settings) (place : ℕ) (o : Option (ℕ × Bool)) (v : �
 unset_found store place None v h = cc
 unset_found store place (Some w) v h = at_set (is_set store w.0) h
   where
-    at_set : (b : Bool) → (if b then Err (other (faults.Twice place)) else Ok w) ≡ Ok v → Some w ≡ Some v
+    at_set : (b : Bool) → (if b then Err (other (broke rules.Twice place)) else Ok w) ≡ Ok v → Some w ≡ Some v
     at_set true h = cc
     at_set false h = let e : w ≡ v = cc in ap Some e
 
@@ -272,7 +275,7 @@ store_valued names ds s rest h =
     let a = both (items_from only_name (λ o. setting_of names) (size s) start s) _ (ds, rest) h in
     let b = both (expected marks.Colons a.value.1) _ (ds, rest) a.second in
     let m = kept only_name (λ o. setting_of names) (Meets names.variables) (λ o l x y s rest m h. setting_meets names l x y s rest m h) (size s) start a.value.0 s a.value.1 (meets_none names.variables) a.first in
-    all_valued names.variables a.value.0 ds m (there_is (faults.Unset b.value.0) (all_set a.value.0) ds b.value.1 rest b.second)
+    all_valued names.variables a.value.0 ds m (there_is (broke rules.Unset b.value.0) (all_set a.value.0) ds b.value.1 rest b.second)
 
 -- moves
 module _ (names : Names) (p : Processes) where
@@ -297,10 +300,10 @@ module _ (names : Names) (p : Processes) where
   move_named Idling l m s rest h = subst (IsName p) (given Idle m s rest h) tt
   move_named By l m s rest h =
       let a = both (part_of s) _ (m, rest) h in
-      named_is (statement_of names By l) a.value.0 m (there_is (faults.UnknownTransition l.place) (named_by names p By l a.value.0) m a.value.1 rest a.second)
+      named_is (statement_of names By l) a.value.0 m (there_is (broke rules.UnknownTransition l.place) (named_by names p By l a.value.0) m a.value.1 rest a.second)
   move_named (Numbered n) l m s rest h =
       let a = both (part_of s) _ (m, rest) h in
-      named_is (statement_of names (Numbered n) l) a.value.0 m (there_is (faults.UnknownTransition l.place) (named_by names p (Numbered n) l a.value.0) m a.value.1 rest a.second)
+      named_is (statement_of names (Numbered n) l) a.value.0 m (there_is (broke rules.UnknownTransition l.place) (named_by names p (Numbered n) l a.value.0) m a.value.1 rest a.second)
 
   abbrev Few : List TransName → Type 0
   Few moves = (length moves ≤ 1000) × All (IsName p) moves
@@ -334,12 +337,12 @@ module _ (names : Names) (p : Processes) where
       let m = moves_few b.value.0 a.value.1 b.value.1 b.first in
       subst (Obeys names p) (given (record { store = a.value.0; moves = b.value.0 }) x c.value.1 rest c.second) (record { types = v.0; written = v.1; few = m.0; named = m.1 })
 
-told_read : (read : Read ScheduleFault PlainSchedule) (x : PlainSchedule) → told read ≡ Ok x → (rest : Stream) × (read ≡ Ok (x, rest))
-told_read (Ok (y, rest)) x h = let e : y ≡ x = cc in (rest, ap (λ z. Ok (z, rest)) e)
-told_read (Err f) x h = absurd cc
+alone_read : (read : Read Breach PlainSchedule) (x : PlainSchedule) → alone read ≡ Ok x → (rest : Stream) × (read ≡ Ok (x, rest))
+alone_read (Ok (y, rest)) x h = let e : y ≡ x = cc in (rest, ap (λ z. Ok (z, rest)) e)
+alone_read (Err f) x h = absurd cc
 
 pub schedule_obeys : (names : Names) (p : Processes) (text : List ℕ) (x : PlainSchedule) → schedule_spelled names p text ≡ Ok x → Obeys names p x
 unfolding schedule_spelled
 schedule_obeys names p text x h =
-    let r = told_read (schedule_of names p (text_stream text)) x h in
+    let r = alone_read (schedule_of names p (text_stream text)) x h in
     read_obeys names p x (text_stream text) r.0 r.1

@@ -1,24 +1,12 @@
--- Readers of schedules; items behind one another, each told by its first token.
-use Rattle.std.specs.Prelude.{ℕ, zero, suc, Bool, cond, Option, Some, None, Ok, Err}
-use Rattle.st_tokens.specs.Stream.{Stream, behind}
+-- Items behind one another, each told by its first token.
+use Rattle.std.specs.Prelude.{ℕ, zero, suc, Option, Ok}
+use Rattle.st_tokens.specs.Stream.{behind}
 use Rattle.st_reading.specs.declared.sign.Sign.{Sign}
-use Rattle.st_reading.specs.Reading.{Read, Label, other, ahead, name_of, then_reads, on_operator, size}
-use Rattle.schedule_reader.specs.declared.fault.ScheduleFault.{ScheduleFault}
+use Rattle.st_reading.specs.Reading.{Label, ahead, name_of, then_reads, on_operator, size}
+use Rattle.st_reading.specs.Breaches.{Reader}
 
-abbrev pub Reader : Type 0 → Type 0
-Reader A = Stream → Read ScheduleFault A
-
--- a value that has to be there
-abbrev pub present : {A : Type 0} → ScheduleFault → Option A → Reader A
-present fault None s = Err (other fault)
-present fault (Some x) s = Ok (x, s)
-
--- the value, unless it breaks a rule
-abbrev pub unless : {A : Type 0} → Bool → ScheduleFault → A → Reader A
-unless broken fault x s = cond broken (Err (other fault)) (Ok (x, s))
-
--- Items behind one another. `begins` tells an item by its first token, and `item` reads it behind this token, whose text and
--- place it gets, on top of what was read before. `fuel` is at least the number of tokens.
+-- `begins` tells an item by its first token, and `item` reads it behind this token, whose text and place it gets, on top of what
+-- was read before. `fuel` is at least the number of tokens.
 unfoldable pub items_from : {O S : Type 0} → (Sign → Option O) → (O → Label → S → Reader S) → ℕ → S → Reader S
 items_from begins item zero x s = Ok (x, s)
 items_from begins item (suc k) x s =

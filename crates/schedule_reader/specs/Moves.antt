@@ -7,6 +7,8 @@ use Rattle.st_reading.specs.declared.mark.Mark.TheVariants as marks
 use Rattle.st_reading.specs.declared.sign.Sign.{Sign}
 use Rattle.st_reading.specs.Sign.{is}
 use Rattle.st_reading.specs.Reading.{Read, Stop, other, Label, ahead, is_name, named, expected, gives, then_reads}
+use Rattle.st_reading.specs.Rule as rules
+use Rattle.st_reading.specs.Breaches.{Breach, broke, crowded, Reader, present, numeral_in}
 use Rattle.st_form.specs.declared.conditions.Part.{Part}
 use Rattle.st_form.specs.declared.conditions.Part.TheVariants.{Whole, Entry, Exit}
 use Rattle.st_form.specs.declared.conditions.TransName.{TransName}
@@ -16,12 +18,8 @@ use Rattle.st_program.specs.Names as tables
 use Rattle.st_program.specs.Tree.{Action, skip, block, select, cooperate, Processes, action}
 use Rattle.st_program.specs.Spots.{statement_at}
 use Rattle.expression_typer.specs.Naming.{is_text}
-use Rattle.schedule_reader.specs.declared.fault.ScheduleFault.{ScheduleFault}
-use Rattle.schedule_reader.specs.declared.fault.ScheduleFault.TheVariants as faults
 use Rattle.schedule_reader.specs.declared.moving.Opening.{Opening}
 use Rattle.schedule_reader.specs.declared.moving.Opening.TheVariants.{Idling, Label as By, Number}
-use Rattle.schedule_reader.specs.Items.{Reader, present}
-use Rattle.schedule_reader.specs.Values.{numeral_in}
 
 -- what a move begins with
 abbrev pub opening_in : Sign → Option Opening
@@ -73,14 +71,14 @@ named_by names p opening l part = option_and_then (λ o. option_and_then (step_o
 -- what stands behind the first token of a move, whose text and place are those of l
 unfoldable pub move_of : Names → Processes → Opening → Label → Reader TransName
 move_of names p Idling l s = Ok (Idle, s)
-move_of names p By l s = then_reads part_of (λ part. present (faults.UnknownTransition l.place) (named_by names p By l part)) s
-move_of names p (Number n) l s = then_reads part_of (λ part. present (faults.UnknownTransition l.place) (named_by names p (Number n) l part)) s
+move_of names p By l s = then_reads part_of (λ part. present (broke rules.UnknownTransition l.place) (named_by names p By l part)) s
+move_of names p (Number n) l s = then_reads part_of (λ part. present (broke rules.UnknownTransition l.place) (named_by names p (Number n) l part)) s
 
 -- the first fault of a move that is one too many, at its place: that it names no transition, or that it is too many; what
 -- breaks further on comes later
-abbrev pub too_many : ℕ → Read ScheduleFault TransName → Stop ScheduleFault
-too_many place (Err (other (faults.UnknownTransition p))) = other (faults.UnknownTransition p)
-too_many place _ = other (faults.Moves place)
+abbrev pub too_many : ℕ → Read Breach TransName → Stop Breach
+too_many place (Err (other (broke rules.UnknownTransition p))) = other (broke rules.UnknownTransition p)
+too_many place _ = other (crowded place)
 
 -- a further move, of at most 1,000: move ";"
 unfoldable pub next_move_of : Names → Processes → Opening → Label → List TransName → Reader (List TransName)

@@ -40,10 +40,10 @@ pub enum ScheduleFault {
 }
 
 impl From<ParseFault> for ScheduleFault {
-    ghost use Rattle.std.specs.Prelude.{◌≡◌};
-    ghost use Rattle.schedule_reader.specs.Faults.{from_parsing};
+    ghost use Rattle.st_reading.specs.Breaches.{Takes};
+    ghost use Rattle.schedule_reader.specs.Faults.{see};
 
-    ghost from_gives = { λ e fault. fault ≡ from_parsing e };
+    ghost from_gives = { λ e fault. Takes e (see fault) };
 
     fn from(fault: ParseFault) -> Self {
         match fault {

@@ -10,7 +10,6 @@
 //! text order, with `.entry` or `.exit` behind it for a cooperation.
 #![tactic(auto)]
 
-mod expecting;
 mod fault;
 pub mod laws;
 mod moving;

@@ -8,13 +8,11 @@ ghost use Rattle.st_reading.specs.Faults.{name_view};
 ghost use Rattle.schedule_reader.specs.Faults.{see};
 ghost use Rattle.schedule_reader.specs.Moves.{opening_in, part_named, part_of, has_part, step_of, labelled, statement_of, named_by, move_of, next_move_of};
 
-use crate::expecting::{expect, name};
 use crate::fault::ScheduleFault;
-use crate::value::numeral_in;
 use assertions::text_of;
 use st_form::{Part, TransName};
 use st_program::{Kind, NameTable, Program};
-use st_reading::{Mark, RawName, Sign, advance, ahead, is, is_name};
+use st_reading::{Mark, RawName, Sign, advance, ahead, expect, is, is_name, name, numeral_in};
 use st_tokens::Tokens;
 
 /// How many moves a schedule may have.

@@ -8,10 +8,10 @@ ghost use Rattle.std.specs.Option.{option_map};
 ghost use Rattle.st_tokens.specs.Stream.{stream};
 ghost use Rattle.st_program.specs.Plain.{plain_children};
 ghost use Rattle.st_reading.specs.Reading.{Reads, size};
+ghost use Rattle.st_reading.specs.Breaches.{Gives};
 ghost use Rattle.schedule_reader.specs.Faults.{see};
-ghost use Rattle.schedule_reader.specs.Schedules.{plain_schedule, all_set, settings_of, moves_of, store_of, schedule_of, schedule_spelled, GivesSchedule};
+ghost use Rattle.schedule_reader.specs.Schedules.{plain_schedule, all_set, settings_of, moves_of, store_of, schedule_of, schedule_spelled};
 
-use crate::expecting::{at_end, expect};
 use crate::fault::ScheduleFault;
 use crate::moving::{next_move, opening_in};
 use crate::schedule::Schedule;
@@ -19,7 +19,7 @@ use crate::setting::setting;
 use st_form::TransName;
 use st_memory::Memory;
 use st_program::{Datum, NameTable, Program};
-use st_reading::{Mark, advance, ahead, is_name, name_ahead};
+use st_reading::{Mark, advance, ahead, at_end, expect, is_name, name_ahead};
 use st_tokens::Tokens;
 use std::alloc::Global;
 
@@ -126,7 +126,7 @@ pub fn read_schedule(
 ) -> Result<Schedule, ScheduleFault>
     requires short { length text.now < 2 ^ 32 }
     requires names { map (λ v. v.1) names.now.variables ≡ map (λ v. v.truth) program.now.variables }
-    ensures { GivesSchedule result (schedule_spelled names.now (plain_children program.now.processes) text.now) }
+    ensures { Gives see plain_schedule result (schedule_spelled names.now (plain_children program.now.processes) text.now) }
 {
     let mut tokens = Tokens::new(text);
     schedule(alloc, names, program, &mut tokens)

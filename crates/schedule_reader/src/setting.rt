@@ -8,12 +8,11 @@ ghost use Rattle.expression_typer.specs.Naming.{names_of};
 ghost use Rattle.schedule_reader.specs.Faults.{see};
 ghost use Rattle.schedule_reader.specs.Settings.{is_set, unset_in, setting_of, Chosen};
 
-use crate::expecting::expect;
 use crate::fault::ScheduleFault;
 use crate::value::typed_value;
 use assertions::text_of;
 use st_program::{Datum, NameTable};
-use st_reading::{Mark, RawName};
+use st_reading::{Mark, RawName, expect};
 use st_tokens::Tokens;
 
 /// Whether the variable has a value.

@@ -4,23 +4,12 @@ ghost use Rattle.std.specs.Prelude.{◌≡◌, ◌≤◌, IfOk};
 ghost use Rattle.st_tokens.specs.Stream.{stream};
 ghost use Rattle.st_reading.specs.Reading.{Reads, size};
 ghost use Rattle.schedule_reader.specs.Faults.{see};
-ghost use Rattle.schedule_reader.specs.Values.{numeral_in, value_in, has_type, numeral_of, value_of, typed_of};
+ghost use Rattle.schedule_reader.specs.Values.{value_in, has_type, value_of, typed_of};
 
-use crate::expecting::refusal;
 use crate::fault::ScheduleFault;
 use st_program::Datum;
-use st_reading::{Mark, Sign, advance, ahead, is, place_of};
+use st_reading::{Mark, Sign, advance, ahead, is, numeral, numeral_in, place_of, refusal};
 use st_tokens::Tokens;
-
-/// The number of a numeral.
-pub fn numeral_in(sign: Sign) -> Option<u32>
-    ensures { result ≡ numeral_in sign }
-{
-    match sign {
-        Sign::Numeral(number) => Some(number),
-        _ => None,
-    }
-}
 
 /// The value that a token is by itself.
 fn value_in(sign: Sign) -> Option<Datum>
@@ -38,18 +27,6 @@ fn value_in(sign: Sign) -> Option<Datum>
     }
 }
 
-#[tactic(auto, unfolding(crate::specs::Values::numeral_of))]
-fn numeral(tokens: &mut Tokens) -> Result<u32, ScheduleFault>
-    ensures reads { Reads see (λ n. n) result (stream tokens.new) (numeral_of (stream tokens.old)) }
-    ensures shrinks { IfOk result (λ _. size (stream tokens.new) ≤ size (stream tokens.old)) }
-{
-    let Some(number) = numeral_in(ahead(tokens)) else {
-        return Err(refusal(tokens));
-    };
-    advance(tokens);
-    Ok(number)
-}
-
 /// A whole number or a truth value.
 #[tactic(auto, unfolding(crate::specs::Values::value_of))]
 fn value(tokens: &mut Tokens) -> Result<Datum, ScheduleFault>
@@ -58,11 +35,11 @@ fn value(tokens: &mut Tokens) -> Result<Datum, ScheduleFault>
 {
     if is(ahead(tokens), Mark::Minus) {
         advance(tokens);
-        let number = numeral(tokens)?;
+        let (number, _) = numeral(tokens)?;
         return Ok(Datum::Number(-i128::from(number)));
     }
     let Some(value) = value_in(ahead(tokens)) else {
-        return Err(refusal(tokens));
+        return Err(ScheduleFault::from(refusal(tokens)));
     };
     advance(tokens);
     Ok(value)

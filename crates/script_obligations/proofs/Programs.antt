@@ -13,8 +13,8 @@ use Rattle.farkas_check.specs.Limits.{IsNarrow}
 use Rattle.search_laws.specs.Forms.{AllForms}
 use Rattle.search_laws.specs.Ends.{HasOwner, IsTruth, IsTyped}
 use Rattle.search_laws.specs.Programs.{ProgramsAreInOrder}
-use Rattle.linear_prover.specs.Ready.{IsBelow}
-use Rattle.discharge.specs.Verdicts.{AreSearchable}
+use Rattle.search_laws.specs.Searchable.{IsBelow}
+use Rattle.search_laws.specs.Searchable.{AreSearchable}
 use Rattle.transition_system.specs.Systems.{System}
 use Rattle.vc_generator.specs.Building.{Draft}
 use Rattle.obligation_laws.specs.Obligations.{ValidIsEnough}

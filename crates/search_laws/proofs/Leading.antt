@@ -23,14 +23,15 @@ use Rattle.search_laws.specs.States.{State}
 use Rattle.search_laws.specs.Walks.{Failure, left_open, given_up, Move, closes, divides, fails, PathStep, Found, found, stopped, FoundAll, all, broke, onto_trees, then_rest, walk_all, divided_by, walk_node, walk, searched}
 use Rattle.search_laws.specs.Moves.{first_place_of, first_truth_of, component_for, divided, by_component, by_ending, by_disjunction, by_variable, by_place, by_conjuncts, move_of, open_at, wide_at, failed_at, verdict_of}
 use Rattle.search_laws.specs.Forms.{IsInOrder}
-use Rattle.search_laws.specs.Ends.{HasOwner, IsTruth, IsTyped, AllLiteralsOf, problem_at, IsAtLines, IsOpen, IsWide, EndsThere}
+use Rattle.search_laws.specs.Ends.{HasOwner, IsTruth, IsTyped, AllLiteralsOf, problem_at, IsAtLines, IsOpen, IsWide, EndsThere, IfLiterals}
 use Rattle.search_laws.proofs.Walking.{AllOf}
 use Rattle.search_laws.specs.Steady.{IsNoCut}
 use Rattle.search_laws.proofs.Describing.{IsDivided}
 use Rattle.search_laws.proofs.Finding.{is-divided}
-use Rattle.search_laws.proofs.Literals.{IfLiterals, all-weaker, places-fact, truths-fact, parts-literals, gathered-literals, Undecided, simple-literals, simples-literals, EachLiterals, split-literals}
+use Rattle.search_laws.proofs.Literals.{all-weaker, places-fact, truths-fact, parts-literals, gathered-literals, Undecided, simple-literals, simples-literals, EachLiterals, split-literals}
 use Rattle.search_laws.proofs.Choosing.{MayDecide, chosen}
 use Rattle.search_laws.proofs.Refuting.{HasKnown, division-known, first-known, none-listed, both-of}
+use Rattle.basic_laws.proofs.Truths.{if-true}
 
 -- ---- problems on which the search can go on
 abbrev OpenPlace : Setting → List (Option Alternative) → ℕ → Type 0
@@ -157,10 +158,6 @@ IfEnds k p (fails e) = EndsSo k p e
 
 divided-ends : (k : Setting) (p : Problem) (s : Step) (o : Option (List Problem)) (ps : List Problem) → o ≡ Some ps → IfEnds k p (divided s o)
 divided-ends k p s o ps e = subst (λ (o : Option (List Problem)). IfEnds k p (divided s o)) (sym e) tt
-
-if-true : {A : Type 0} (b : Bool) (x : A) → b ≡ true → (if b then Some x else None) ≡ Some x
-if-true true x h = refl
-if-true false x h = absurd (cc)
 
 is-free : {A : Type 0} (xs : List (Option A)) (c : ℕ) → c < length xs → slice_index_or xs c None ≡ None → is_free (slice_get xs c) ≡ true
 is-free [] c l h = absurd (omega (arith, l))

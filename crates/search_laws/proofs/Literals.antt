@@ -8,14 +8,10 @@ use Rattle.st_form.specs.Formula.{Formula, Formulas, truth_value, row, equal, bo
 use Rattle.st_form.specs.Simple.{Decided, is_constant, simple_row, simple_equal, simple_apart, leading, divides_constant, append, parts, gathered, closed, joined_parts, literal, simple, simples, opened}
 use Rattle.farkas_check.specs.Problem.{disjuncts_of, split_by, in_place, split_from}
 use Rattle.search_laws.specs.Moves.{or_else, first_place, first_place_of, first_truth, first_truth_of}
-use Rattle.search_laws.specs.Ends.{AllLiterals, AllLiteralsOf}
+use Rattle.search_laws.specs.Ends.{AllLiterals, AllLiteralsOf, IfLiterals}
 
 abbrev Fact : Type 1
 Fact = ℕ → Type 0
-
-abbrev pub IfLiterals : Fact → Fact → Option Formulas → Type 0
-IfLiterals L T None = Unit {0}
-IfLiterals L T (Some fs) = AllLiteralsOf L T fs
 
 mutual
   pub literals-weaker : (L M T U : Fact) → ((l : ℕ) → L l → M l) → ((v : ℕ) → T v → U v) → (f : Formula) → AllLiterals L T f → AllLiterals M U f

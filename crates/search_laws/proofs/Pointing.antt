@@ -8,13 +8,11 @@ use Rattle.st_linear.specs.Linear.{value, entries_value, narrow, is_wide, is_zer
 use Rattle.st_linear.specs.declared.rows.Line.{Line}
 use Rattle.st_linear.proofs.Replacing.{bind-some}
 use Rattle.elimination_laws.specs.Stages.{Use}
-use Rattle.elimination_laws.proofs.Heights.{times_zero}
+use Rattle.basic_laws.proofs.Integers.{times_zero}
 use Rattle.farkas_leaf.specs.Lines.{HoldsBy, Holds, AllHold}
 use Rattle.elimination_laws.specs.Points.{evaluated_but, rest_value, meets, meets_if, holds_at, all_hold_at, if_all_hold, point_of, pointed}
-
-by_test : (b : Bool) (z r : ℤ) → cond b None (Some z) ≡ Some r → z ≡ r
-by_test true z r h = absurd (cc)
-by_test false z r h = cc
+use Rattle.basic_laws.proofs.Integers.{by_test, held, least-is}
+use Rattle.elimination_laws.proofs.Keeping.{zero-is}
 
 narrow-is : (z r : ℤ) → narrow z ≡ Some r → z ≡ r
 narrow-is z r h = by_test (is_wide z) z r h
@@ -38,15 +36,6 @@ evaluated-is v values h (e ∷ es) z r k =
           omega (arith, ints, narrow-is _ _ p.1, narrow-is _ _ q.1, evaluated-is v values h es q.0 r q.2)
     ]
 
-zero-is : (z : ℤ) → is_zero z ≡ true → z ≡ pos 0
-zero-is (pos zero) h = refl
-zero-is (pos (suc n)) h = absurd (cc)
-zero-is (negsuc n) h = absurd (cc)
-
-least-is : (z : ℤ) → int_le (pos 0) z ≡ true → pos 0 ≤ℤ z
-least-is (pos n) h = omega (arith, ints)
-least-is (negsuc n) h = absurd (cc)
-
 meets-by : (b : Bool) (z : ℤ) → meets b z ≡ true → HoldsBy b z
 meets-by true z h = zero-is z h
 meets-by false z h = least-is z h
@@ -67,10 +56,6 @@ line-holds values l h =
 all-hold : (values : List ℤ) (ls : List Line) → all_hold_at values ls ≡ true → AllHold (valuation values) ls
 all-hold values [] h = tt
 all-hold values (l ∷ ls) h = let b = and_parts (holds_at values l) (all_hold_at values ls) h in (line-holds values l b.0, all-hold values ls b.1)
-
-held : (b : Bool) (vs ws : List ℤ) → (if b then Some vs else None) ≡ Some ws → (b ≡ true) × (vs ≡ ws)
-held true vs ws h = (refl, cc)
-held false vs ws h = absurd (cc)
 
 pub point-holds : (lines : List Line) (n : ℕ) (us : List Use) (point : List ℤ) → point_of lines n us ≡ Some point → AllHold (valuation point) lines
 point-holds lines n us point h =

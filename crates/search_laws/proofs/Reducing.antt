@@ -13,6 +13,7 @@ use Rattle.st_linear.specs.Simple.{divides_all, greatest_up_to, common_divisor, 
 use Rattle.st_linear.proofs.Dividing.{test-from_CommonTo, common_divisor-one, common_divisor-divides, quotient-exact, unsigned_abs-neg, AreEntries-divided, AreEntries-negated}
 use Rattle.st_form.specs.Simple.{is_constant, no_entries, leads_negative, leading, divides_constant}
 use Rattle.search_laws.specs.Steady.{IsReduced}
+use Rattle.basic_laws.proofs.Integers.{above_zero}
 
 abbrev Entries : Type 0
 Entries = List (ℕ × ℤ)
@@ -32,11 +33,6 @@ at-least (suc n) d es l c = by_test (divides_all (suc n) es) refl (λ m. at-leas
           absurd (let f = sym t ∙ h in cc)
       | inr under ↦ r under
     ]
-
-above_zero : (z : ℤ) → z ≢ pos 0 → 0 < unsigned_abs z
-above_zero (pos zero) h = absurd (h refl)
-above_zero (pos (suc n)) h = omega arith
-above_zero (negsuc n) h = omega arith
 
 greatest : (d v : ℕ) (z : ℤ) (es : Entries) → z ≢ pos 0 → CommonTo d ((v, z) ∷ es) → d ≤ common_divisor ((v, z) ∷ es)
 unfolding common_divisor

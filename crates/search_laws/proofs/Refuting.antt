@@ -31,6 +31,8 @@ use Rattle.search_laws.proofs.Finding.{division-shaped, is-divided}
 use Rattle.search_laws.proofs.Standing.{stand, IsKnown, AreKnown, follows, in-control, listed-active}
 use Rattle.search_laws.proofs.Returning.{free-none, meets-back, first-back}
 use Rattle.search_laws.proofs.Pointing.{point-holds}
+use Rattle.basic_laws.proofs.Numbers.{less}
+use Rattle.basic_laws.proofs.Truths.{and_both}
 
 -- ---- conjuncts at the end
 none-else : {A : Type 0} (a b : Option A) → or_else a b ≡ None → (a ≡ None) × (b ≡ None)
@@ -43,7 +45,7 @@ least-test z h = grind (arith, ints)
 zero-test : (z : ℤ) → z ≡ pos 0 → is_zero z ≡ true
 zero-test z h = rw h refl
 
-abbrev Any : Linear → Type 0
+abbrev pub Any : Linear → Type 0
 Any f = Unit {0}
 
 conjunct-true : (s : Situation) (f : Formula) (rest : List Line) → IsPart Any f true → first_place f ≡ None → first_truth f ≡ None → disjuncts_of f ≡ None → AllHold s.numbers (lines_with f rest) → (truth s f ≡ true) × AllHold s.numbers rest
@@ -76,10 +78,6 @@ no-disjunctions none before h = tt
 no-disjunctions (more f fs) before h =
     let r = no-disjunct before fs (λ j. split_from (append before (more f none)) j fs) (disjuncts_of f) h in
     (r.0, no-disjunctions fs (append before (more f none)) r.1)
-
-and_both : (a b : Bool) → a ≡ true → b ≡ true → (a && b) ≡ true
-and_both true b h k = k
-and_both false b h k = absurd (cc)
 
 -- rows and equations alone, whose lines hold
 conjuncts-true : (s : Situation) (fs : Formulas) → AreParts Any fs true → first_place_of fs ≡ None → first_truth_of fs ≡ None → HaveNoDisjunction fs → AllHold s.numbers (lines_of fs) → every_truth s fs ≡ true
@@ -129,9 +127,6 @@ cases-known k p fs c g free (a ∷ rest) n h = (known-case k.control p.cases c a
 splits-known : (k : Setting) (p : Problem) → HasKnown k p → (ls : List Formulas) → AllOf (HasKnown k) (split_problems p ls)
 splits-known k p g [] = tt
 splits-known k p g (fs ∷ rest) = (g, splits-known k p g rest)
-
-pub less : (m n : ℕ) → nat_lt m n ≡ true → m < n
-less m n h = grind (arith, nat_tests)
 
 pub division-known : (k : Setting) (p : Problem) (fs : Formulas) (t : Step) (ps : List Problem) → IsNoCut t → HasKnown k p → divided_into k p fs t ≡ Some ps → AllOf (HasKnown k) ps
 division-known k p fs (by_case c) ps n g e = by_test (may_case k.control p.cases c) refl e

@@ -16,6 +16,8 @@ use Rattle.farkas_check.specs.Meaning.{hold, Meets}
 use Rattle.search_laws.proofs.Walking.{OneOf}
 use Rattle.search_laws.specs.Steady.{IsNoCut}
 use Rattle.std.specs.Prelude.{nat_lt, length, not, zero, suc}
+use Rattle.basic_laws.proofs.Truths.{and_both}
+use Rattle.farkas_check.proofs.Dividing.{OneHolds, hold-said}
 
 -- ---- tables
 pub free-none : {A : Type 0} (xs : List (Option A)) (c : ℕ) → is_free (slice_get xs c) ≡ true → slice_index_or xs c None ≡ None
@@ -33,15 +35,6 @@ kept-set xs c o free d x h = elim (cases_eq d c) [
   | inl same ↦ let e = sym (free-none xs c free) ∙ subst (λ (n : ℕ). slice_index_or xs n None ≡ Some x) same h in absurd (cc)
   | inr other ↦ get_or-set_other xs c d o None other ∙ h
 ]
-
--- ---- decisions
-and_both : (a b : Bool) → a ≡ true → b ≡ true → (a && b) ≡ true
-and_both true b h k = k
-and_both false b h k = absurd (cc)
-
-hold-said : (s : Situation) (o : Option Formulas) → hold s o ≡ said true s o
-hold-said s None = refl
-hold-said s (Some fs) = refl
 
 posed-back : (k : ControlFacts) (m : ℕ → Alternative) (s : Situation) (cases : List (Option Alternative)) (truths : List (Option Bool)) (fs : Formulas) → Meets k m s (posed k cases truths fs) → every_truth s fs ≡ true
 posed-back k m s cases truths fs g =
@@ -69,11 +62,6 @@ truth-back k m s p fs v b e free g = record {
   truths = λ d x i. g.truths d x (kept-set p.truths v (Some b) free d x i);
   conjuncts = holding s p.conjuncts fs e (posed-back k m s p.cases (slice_set p.truths v (Some b)) fs g);
 }
-
--- ---- splits
-abbrev OneHolds : Situation → List Formulas → Type 0
-OneHolds s [] = ⊥
-OneHolds s (fs ∷ rest) = (every_truth s fs ≡ true) ⊎ OneHolds s rest
 
 both-hold : (s : Situation) (fs gs : Formulas) → every_truth s (append fs gs) ≡ true → (every_truth s fs ≡ true) × (every_truth s gs ≡ true)
 both-hold s fs gs h = and_parts (every_truth s fs) (every_truth s gs) (sym (append_truth true s fs gs) ∙ h)

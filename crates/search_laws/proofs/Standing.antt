@@ -12,6 +12,8 @@ use Rattle.farkas_check.specs.Problem.{is_within, known_active}
 use Rattle.search_laws.specs.States.{taken, next_standing, standing_from, standing, listed, stands_at, is_located}
 use Rattle.search_laws.specs.Forms.{IsInOrder}
 use Rattle.search_laws.specs.Laws.{IsListed}
+use Rattle.basic_laws.proofs.Numbers.{same_test, test_same}
+use Rattle.basic_laws.proofs.Types.{some_same}
 
 abbrev Table : Type 0
 Table = List (Option Alternative)
@@ -62,16 +64,6 @@ stands-at cases before (x ∷ xs) zero c h e g =
 stands-at cases before (x ∷ xs) (suc i) c h e g =
     let n : Option Alternative = next_standing cases before x in
     stands-at cases (before ++ n ∷ []) xs i c (omega (arith, h)) (omega (arith, e, length-append before (n ∷ []))) g
-
--- ---- the table of a problem
-some_same : {A : Type 0} (x y : A) → Some x ≡ Some y → x ≡ y
-some_same x y h = cc
-
-same_test : (n : ℕ) → (n == n) ≡ true
-same_test n = grind (arith, nat_tests)
-
-test_same : (m n : ℕ) → (m == n) ≡ true → m ≡ n
-test_same m n h = grind (arith, nat_tests)
 
 pub within-is : (o : ℕ) (d : Option Alternative) → is_within o d ≡ true → d ≡ Some (Inside o)
 within-is o None h = absurd (cc)

@@ -33,6 +33,10 @@ abbrev mutual
   AllLiteralsOf L T none = Unit {0}
   AllLiteralsOf L T (more f fs) = AllLiterals L T f × AllLiteralsOf L T fs
 
+abbrev pub IfLiterals : (ℕ → Type 0) → (ℕ → Type 0) → Option Formulas → Type 0
+IfLiterals L T None = Unit {0}
+IfLiterals L T (Some fs) = AllLiteralsOf L T fs
+
 -- a location is that of a component
 abbrev pub HasOwner : ControlFacts → ℕ → Type 0
 HasOwner k l = (c : ℕ) × (slice_get k.owners l ≡ Some c) × (c < length k.components)

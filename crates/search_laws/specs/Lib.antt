@@ -7,3 +7,4 @@ pub mod Laws
 pub mod Ends
 pub mod Steady
 pub mod Programs
+pub mod Searchable

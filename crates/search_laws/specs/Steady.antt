@@ -8,6 +8,7 @@ use Rattle.st_form.specs.Simple.{Decided, is_constant, leads_negative, simple}
 use Rattle.st_certificate.specs.Tree.{Step, by_case, by_truth, by_split, by_cut}
 use Rattle.farkas_check.specs.Problem.{Setting, Problem, divided_into, first_problem}
 use Rattle.farkas_check.specs.Limits.{IsLiteral}
+pub use Rattle.st_form.specs.Forms.{HasEntries}
 use Rattle.search_laws.specs.Forms.{AllForms}
 use Rattle.search_laws.specs.Ends.{AllLiterals}
 
@@ -50,9 +51,6 @@ IsUntouched d f = AllLiterals (λ l. d.places l ≡ None) (λ v. d.truths v ≡ 
 
 abbrev pub SteadyConjunctsStay : Type 0
 SteadyConjunctsStay = (d : Decided) (f : Formula) → IsSteady f true → IsUntouched d f → simple d f true ≡ f
-
-abbrev pub HasEntries : Linear → Type 0
-HasEntries f = AreEntries f.entries
 
 abbrev pub FirstConjunctsAreSteady : Type 0
 FirstConjunctsAreSteady = (k : Setting) (given shown : Formula) → AllForms HasEntries given → AllForms HasEntries shown

@@ -10,13 +10,15 @@ use Rattle.control_states.specs.Place.{place}
 use Rattle.farkas_check.specs.Problem.{Setting, Problem, case_problems, decided_by, posed, truth_problem}
 use Rattle.farkas_check.specs.Limits.{AreFit}
 use Rattle.farkas_check.proofs.Bounds.{fit-posed}
-use Rattle.search_laws.proofs.Literals.{IfLiterals, all-weaker}
+use Rattle.search_laws.specs.Ends.{IfLiterals}
+use Rattle.search_laws.proofs.Literals.{all-weaker}
 use Rattle.form_table.specs.Contents.{Choice, Contents, Grows, decision_at, formulas_of}
 use Rattle.form_table.specs.Lists.{IsListed, conjuncts_of}
 use Rattle.sharing_laws.specs.Lists.{by_case_alone, by_truth_alone, under}
 use Rattle.sharing_laws.proofs.Agreeing.{AreSame, same-simples}
 use Rattle.sharing_laws.proofs.Placing.{place-nothing, same-case, same-entry}
-use Rattle.sharing_laws.proofs.Starting.{IsFreePlace, IsFreeTruth, posed-fresh}
+use Rattle.sharing_laws.specs.Fresh.{IsFreePlace, IsFreeTruth}
+use Rattle.sharing_laws.proofs.Starting.{posed-fresh}
 use Rattle.sharing_laws.proofs.Deciding.{AreFree}
 use Rattle.shared_search.specs.Lists.{conjuncts_at}
 use Rattle.shared_search.specs.Books.{AreDecisions, truth_decisions}

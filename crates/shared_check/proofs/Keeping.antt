@@ -7,7 +7,7 @@ use Rattle.farkas_check.specs.Problem.{Setting, Problem}
 use Rattle.farkas_check.specs.Limits.{AreFit}
 use Rattle.form_table.specs.Table.{Extends}
 use Rattle.form_table.specs.Lists.{IsList}
-use Rattle.sharing_laws.proofs.Starting.{IsFresh}
+use Rattle.sharing_laws.specs.Fresh.{IsFresh}
 use Rattle.shared_search.specs.Lists.{conjuncts_at, IfList}
 use Rattle.shared_search.proofs.Listing.{at-later, if-list-later}
 use Rattle.shared_check.specs.declared.problems.Listed.{Listed}

@@ -15,14 +15,14 @@ use Rattle.st_certificate.specs.Tree.{Step, by_case, by_cut, by_split, by_truth}
 use Rattle.farkas_check.specs.Problem.{Setting, Problem, are_integers, case_problems, cut_problem, divided_into, division, is_free, known_active, may_case, may_truth, split_from, split_problems, truth_problem, with_conjuncts}
 use Rattle.farkas_check.specs.Limits.{AllFit, AreFit, DivisionFits, IsSlight}
 use Rattle.farkas_check.proofs.Bounds.{fit-cut, fit-split}
-use Rattle.search_laws.specs.Ends.{AllLiteralsOf}
-use Rattle.search_laws.proofs.Literals.{EachLiterals, IfEach, IfLiterals, Undecided, literals-weaker, parts-literals, simple-literals, split-literals}
-use Rattle.search_laws.proofs.Refuting.{less}
+use Rattle.search_laws.specs.Ends.{AllLiteralsOf, IfLiterals}
+use Rattle.search_laws.proofs.Literals.{EachLiterals, IfEach, Undecided, literals-weaker, parts-literals, simple-literals, split-literals}
+use Rattle.basic_laws.proofs.Numbers.{less}
 use Rattle.form_table.specs.Contents.{Contents, Grows, formulas_of}
 use Rattle.form_table.specs.Lists.{AreLists, AreSplit, IsListed, conjuncts_of}
 use Rattle.form_table.proofs.Calling as calling
-use Rattle.sharing_laws.proofs.Starting.{IsFreePlace, IsFreeTruth, IsFresh}
-use Rattle.sharing_laws.proofs.Deciding.{if-true}
+use Rattle.sharing_laws.specs.Fresh.{IsFreePlace, IsFreeTruth, IsFresh}
+use Rattle.basic_laws.proofs.Truths.{if-true}
 use Rattle.shared_search.specs.Lists.{conjuncts_at, IfList}
 use Rattle.shared_search.proofs.Listing.{conjuncts-later, handed-list, handed-same}
 use Rattle.shared_check.specs.declared.problems.Listed.{Listed}

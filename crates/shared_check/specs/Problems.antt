@@ -3,7 +3,7 @@ use Rattle.std.specs.Prelude.{◌≡◌, ℕ, List, [], ◌∷◌, map, All, Opt
 use Rattle.st_form.specs.Formula.{Formula}
 use Rattle.farkas_check.specs.Problem.{Setting, Problem}
 use Rattle.farkas_check.specs.Limits.{AreFit}
-use Rattle.sharing_laws.proofs.Starting.{IsFresh}
+use Rattle.sharing_laws.specs.Fresh.{IsFresh}
 use Rattle.shared_search.specs.Lists.{conjuncts_at, IfList}
 use Rattle.shared_check.specs.declared.problems.Listed.{Listed}
 use Rattle.shared_check.specs.declared.problems.Division.{Division}

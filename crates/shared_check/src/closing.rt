@@ -87,10 +87,7 @@ pub fn closes(
                 alloc, table, decisions, components, variables, parts, division,
             )
         }
-        Certificate::Farkas(picks) => {
-            let yes = farkas_closes(alloc, table, problem.list, picks.as_slice())?;
-            Ok(Some(yes))
-        }
+        Certificate::Farkas(picks) => Ok(Some(farkas_closes(alloc, table, problem.list, picks)?)),
         Certificate::Linear(picks) => {
             let yes = linear_sum_closes(alloc, table, problem.list, picks.as_slice())?;
             Ok(Some(yes))

@@ -3,8 +3,7 @@ use Rattle.std.proofs.Common.{◌≡◌, ℕ, Bool, refl, ap, ◌∙◌, Option,
 use Rattle.std.specs.Prelude.{not}
 use Rattle.st_form.specs.Formula.{Formula, Formulas, truth_value, row, equal, bool_var, at, negation, every, some, none, more}
 use Rattle.st_form.specs.Simple.{Decided, gathered, joined_parts, literal, simple, simples}
-use Rattle.search_laws.specs.Ends.{AllLiterals, AllLiteralsOf}
-use Rattle.search_laws.proofs.Literals.{IfLiterals}
+use Rattle.search_laws.specs.Ends.{AllLiterals, AllLiteralsOf, IfLiterals}
 
 abbrev pub AreSame : (ℕ → Option Bool) → (ℕ → Option Bool) → ℕ → Type 0
 AreSame d e i = d i ≡ e i

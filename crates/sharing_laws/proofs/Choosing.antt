@@ -13,7 +13,7 @@ use Rattle.control_states.specs.Control.{ControlFacts, ComponentFacts, component
 use Rattle.control_states.specs.Place.{place}
 use Rattle.farkas_check.specs.Problem.{is_free, is_within, known_active, may_case}
 use Rattle.search_laws.specs.Moves.{or_else, if_undecided, outermost, component_for}
-use Rattle.search_laws.proofs.Refuting.{less}
+use Rattle.basic_laws.proofs.Numbers.{less}
 use Rattle.sharing_laws.specs.Contexts.{is_around, has_inside}
 use Rattle.sharing_laws.proofs.Placing.{owner-free}
 

@@ -18,7 +18,8 @@ use Rattle.sharing_laws.proofs.Following.{AreLike}
 use Rattle.sharing_laws.proofs.Agreeing.{AreSame, same-simples}
 use Rattle.sharing_laws.proofs.Placing.{same-entry, same-case, place-nothing}
 use Rattle.sharing_laws.proofs.Choosing.{Keeps, kept-more, length-more, free-entry}
-use Rattle.sharing_laws.proofs.Starting.{IsFreePlace, IsFreeTruth, IsFresh, posed-fresh}
+use Rattle.sharing_laws.specs.Fresh.{IsFreePlace, IsFreeTruth, IsFresh}
+use Rattle.sharing_laws.proofs.Starting.{posed-fresh}
 
 -- a fresh problem, its conjuncts and its context
 pub record IsSeen (k : Setting) (p : Problem) (x : InContext) : Type 0 where
@@ -29,10 +30,6 @@ pub record IsSeen (k : Setting) (p : Problem) (x : InContext) : Type 0 where
 
 abbrev pub AreFree : Setting → Problem → Formulas → Type 0
 AreFree k p fs = AllLiteralsOf (IsFreePlace k.control p.cases) (IsFreeTruth p.truths) fs
-
-pub if-true : {A : Type 0} (b : Bool) (x : A) → b ≡ true → (if b then Some x else None) ≡ Some x
-if-true true x h = refl
-if-true false x h = absurd (cc)
 
 pub cases-like : (k : Setting) (p : Problem) (context : List (Option Alternative)) (fs : Formulas) (c : ℕ) → IsFresh k p → length context ≡ length k.control.components → Keeps k.control context p.cases → AreFree k p fs → c < length k.control.components
     → (choices : List Alternative) → AreLike (IsSeen k) (case_problems k.control p fs c choices) (case_lists_in k.control context fs c choices)

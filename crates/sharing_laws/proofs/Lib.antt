@@ -6,4 +6,3 @@ pub mod Choosing
 pub mod Starting
 pub mod Deciding
 pub mod Moving
-pub mod Flattening

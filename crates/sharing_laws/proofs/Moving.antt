@@ -14,8 +14,9 @@ use Rattle.farkas_check.specs.Problem.{Setting, Problem, is_free, known_active, 
 use Rattle.elimination_laws.specs.Stages.{Ending, through, contradiction, too_wide, ending}
 use Rattle.search_laws.specs.Walks.{left_open, divides, fails}
 use Rattle.search_laws.specs.Moves.{first_place_of, first_truth_of, component_for, divided, by_component, by_ending, by_disjunction, by_variable, by_place, by_conjuncts, move_of, verdict_of}
-use Rattle.search_laws.proofs.Literals.{IfLiterals, places-fact, truths-fact, EachLiterals, IfEach, split-literals}
-use Rattle.search_laws.proofs.Refuting.{less}
+use Rattle.search_laws.specs.Ends.{IfLiterals}
+use Rattle.search_laws.proofs.Literals.{places-fact, truths-fact, EachLiterals, IfEach, split-literals}
+use Rattle.basic_laws.proofs.Numbers.{less}
 use Rattle.sharing_laws.specs.Lists.{truth_lists}
 use Rattle.sharing_laws.specs.Lists as lists
 use Rattle.sharing_laws.specs.Contexts.{has_inside, InContext, in_context, case_lists_in, by_component_in, moved_in, by_place_in, by_conjuncts_in, context_move, first_context, ContextsFindTheSame}
@@ -23,8 +24,10 @@ use Rattle.sharing_laws.proofs.Following.{AreLike, IsLike, MovesAreLike, finds-f
 use Rattle.sharing_laws.proofs.Walking.{walk-finds}
 use Rattle.sharing_laws.proofs.Placing.{empty-at}
 use Rattle.sharing_laws.proofs.Choosing.{kept-none, same-component, component-free, same-may}
-use Rattle.sharing_laws.proofs.Starting.{IsFreePlace, IsFreeTruth, first-fresh}
-use Rattle.sharing_laws.proofs.Deciding.{IsSeen, AreFree, if-true, cases-like, truth-like, has-within, free-may}
+use Rattle.sharing_laws.specs.Fresh.{IsFreePlace, IsFreeTruth}
+use Rattle.sharing_laws.proofs.Starting.{first-fresh}
+use Rattle.sharing_laws.proofs.Deciding.{IsSeen, AreFree, cases-like, truth-like, has-within, free-may}
+use Rattle.basic_laws.proofs.Truths.{if-true}
 
 -- ---- components
 place-like : (k : Setting) (p : Problem) (x : InContext) (fs : Formulas) (l : ℕ) → IsSeen k p x → AreFree k p fs → place k.control p.cases l ≡ None

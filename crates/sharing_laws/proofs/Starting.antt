@@ -1,5 +1,4 @@
--- Fresh problems: the tables have all components and variables, and no literal of the conjuncts is decided. So is the
--- problem of a condition, and so is each problem whose conjuncts are simplified under its decisions.
+-- The problem of a condition is fresh, and so is each problem whose conjuncts are simplified under its decisions.
 use Rattle.std.proofs.Common.{◌≡◌, ℕ, List, length, replicate, Bool, true, Option, None}
 use Rattle.std.specs.Prelude.{slice_index_or}
 use Rattle.std.proofs.lemmas.List.{length-replicate}
@@ -9,20 +8,11 @@ use Rattle.control_states.specs.declared.alternative.Alternative.{Alternative}
 use Rattle.control_states.specs.Control.{ControlFacts}
 use Rattle.control_states.specs.Place.{place}
 use Rattle.farkas_check.specs.Problem.{Setting, Problem, decided_by, posed, first_problem}
-use Rattle.search_laws.proofs.Literals.{IfLiterals, Undecided, all-weaker, gathered-literals, simples-literals}
+use Rattle.search_laws.specs.Ends.{IfLiterals}
+use Rattle.search_laws.proofs.Literals.{Undecided, all-weaker, gathered-literals, simples-literals}
+use Rattle.sharing_laws.specs.Fresh.{IsFreePlace, IsFreeTruth, IsFresh}
 use Rattle.sharing_laws.proofs.Agreeing.{any-literals-of, any-literals-if}
 use Rattle.sharing_laws.proofs.Placing.{empty-at, place-nothing}
-
-abbrev pub IsFreePlace : ControlFacts → List (Option Alternative) → ℕ → Type 0
-IsFreePlace k cases l = place k cases l ≡ None
-
-abbrev pub IsFreeTruth : List (Option Bool) → ℕ → Type 0
-IsFreeTruth truths v = slice_index_or truths v None ≡ None
-
-pub record IsFresh (k : Setting) (p : Problem) : Type 0 where
-  pub cases : length p.cases ≡ length k.control.components
-  pub truths : length p.truths ≡ length k.variables
-  pub free : IfLiterals (IsFreePlace k.control p.cases) (IsFreeTruth p.truths) p.conjuncts
 
 abbrev Any : ℕ → Type 0
 Any i = Unit {0}

@@ -1,20 +1,15 @@
--- The search over lists of conjuncts alone. Where no component stands inside another, what is done at a problem hangs on
--- its conjuncts alone: no literal of theirs is decided, so the first location's component is free, and a decision more
--- changes the conjuncts as that decision alone does. So equal lists have equal trees, and each list is searched once.
-use Rattle.std.specs.Prelude.{◌≡◌, ℕ, nat_lt, if◌then◌else◌, Bool, true, false, List, [], ◌∷◌, length, map, replicate, slice_get, slice_set, Option, Some, None}
+-- What is made of a list of conjuncts by a decision, and what is done at one where no location is left. No literal of a list
+-- is decided, so a decision more changes it as that decision alone does. What is done about a location hangs on the list's
+-- context too (Contexts).
+use Rattle.std.specs.Prelude.{ℕ, if◌then◌else◌, Bool, true, false, List, [], ◌∷◌, length, map, replicate, slice_get, slice_set, Option, Some, None}
 use Rattle.st_form.specs.Formula.{Formulas, none}
 use Rattle.st_form.specs.Simple.{Decided, gathered, simples}
 use Rattle.control_states.specs.declared.alternative.Alternative.{Alternative}
-use Rattle.control_states.specs.Control.{ControlFacts, component_at}
-use Rattle.st_certificate.specs.Tree.{by_case, by_truth, by_split, impossible, linear}
+use Rattle.control_states.specs.Control.{ControlFacts}
+use Rattle.st_certificate.specs.Tree.{by_truth, by_split, linear}
 use Rattle.farkas_check.specs.Problem.{Setting, decided_by, has_truth, lines_of, split_from}
 use Rattle.elimination_laws.specs.Stages.{Ending, through, contradiction, too_wide, ending}
-use Rattle.search_laws.specs.Moves.{first_place_of, first_truth_of}
 use Rattle.search_laws.specs.Walks.{left_open, Move, closes, divides, fails}
-
--- no component stands inside another
-abbrev pub IsFlat : ControlFacts → Type 0
-IsFlat k = (c : ℕ) → (component_at k.components c).around ≡ None
 
 -- n places, of which the i-th alone has something
 abbrev pub only : {A : Type 0} → ℕ → ℕ → A → List (Option A)
@@ -41,12 +36,6 @@ case_lists k fs c (a ∷ rest) = under (by_case_alone k c a) fs ∷ case_lists k
 abbrev pub truth_lists : Setting → Formulas → ℕ → List (Option Formulas)
 truth_lists k fs v = under (by_truth_alone k v true) fs ∷ under (by_truth_alone k v false) fs ∷ []
 
-abbrev pub by_owner : Setting → Formulas → Option ℕ → Move (Option Formulas)
-by_owner k fs None = fails (left_open None)
-by_owner k fs (Some c) =
-    if nat_lt c (length k.control.components) then divides (by_case c) (case_lists k.control fs c (component_at k.control.components c).alternatives)
-    else fails (left_open None)
-
 -- a contradiction closes; what else elimination comes to isn't told apart
 abbrev pub by_ending : Ending → Move (Option Formulas)
 by_ending (contradiction picks) = closes (linear picks)
@@ -60,12 +49,3 @@ by_disjunction k fs None = by_ending (ending (lines_of fs) (length k.variables))
 abbrev pub by_variable : Setting → Formulas → Option ℕ → Move (Option Formulas)
 by_variable k fs (Some v) = if has_truth (slice_get k.variables v) then divides (by_truth v) (truth_lists k fs v) else fails (left_open None)
 by_variable k fs None = by_disjunction k fs (split_from none 0 fs)
-
-abbrev pub by_place : Setting → Formulas → Option ℕ → Move (Option Formulas)
-by_place k fs (Some l) = by_owner k fs (slice_get k.control.owners l)
-by_place k fs None = by_variable k fs (first_truth_of fs)
-
--- what is done at a list of conjuncts, or at a false problem
-abbrev pub list_move : Setting → Option Formulas → Move (Option Formulas)
-list_move k None = closes impossible
-list_move k (Some fs) = by_place k fs (first_place_of fs)

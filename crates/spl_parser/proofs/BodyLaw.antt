@@ -18,9 +18,10 @@ use Rattle.spl_parser.specs.Begun.{Begun, fresh, after_name, after_label}
 use Rattle.expression_parser.specs.Calm.{calm, calm_but, calm_but2}
 use Rattle.expression_parser.specs.Reading.{Reader}
 use Rattle.spl_parser.specs.Statements.{Lower, an_item, labelled_item, named_item, item_of, turned_by, continuing, closed_body, rest_of_body, body_of, child_of, children_of}
-use Rattle.expression_parser.proofs.Quiet.{but_calm, but_none, but2_but, but2_other, but2_none, name_token}
+use Rattle.expression_parser.proofs.Quiet.{but_calm, but_none, but2_but, but2_other, but2_none, name_token, name_spelled}
 use Rattle.spl_parser.proofs.Witnesses.{witness_is, witness_in, lawful_mark, close_block_mark, open_block_mark, colon_mark, bars_mark}
 use Rattle.spl_parser.proofs.ListLaw.{any_of, same}
+use Rattle.expression_parser.proofs.FormulaTheorems.{quiet}
 
 pub name_is : is_name (sign_of name_token) ≡ true
 unfolding name_token
@@ -29,10 +30,6 @@ name_is = refl
 pub name_calm : calm (sign_of name_token) ≡ true
 unfolding name_token calm
 name_calm = refl
-
-pub quiet : calm signs.Nothing ≡ true
-unfolding calm
-quiet = refl
 
 close_calm : calm (sign_of close_block_mark.token) ≡ true
 unfolding number calm
@@ -73,7 +70,7 @@ module _ {I : Type 0} (value : Reader Expr) (values : I → Reader Expr)
 
   lawful_labelled : (n : ℕ) (l : Label) → Lawful calm calm (labelled_item value lower n l) (λ i. labelled_item (values i) (lowers i) n l)
   lawful_labelled n l =
-      lawful_fork calm calm calm quiet closes refl (λ place m. gives (last l, n)) (λ i place m. gives (last l, n)) (plain (after_label l) n) (λ i. plains i (after_label l) n) close_block_mark.token (witness_is marks.CloseBlock close_block_mark) close_calm
+      lawful_fork calm calm calm quiet closes refl (λ place m. gives (last l, n)) (λ i place m. gives (last l, n)) (plain (after_label l) n) (λ i. plains i (after_label l) n) close_block_mark.token close_block_mark.spelled (witness_is marks.CloseBlock close_block_mark) close_calm
       (λ i. completes_gives anything calm (any_of calm) (last l, n)) (λ place m. lawful_gives anything calm (last l, n)) (syntax 0) (plain_ends (after_label l) n) (lawful_plain (after_label l) n)
 
   abbrev colon : Sign → Bool
@@ -81,23 +78,23 @@ module _ {I : Type 0} (value : Reader Expr) (values : I → Reader Expr)
 
   labelled_viable : (n : ℕ) (l : Label) (i : I) → Viable anything calm (labelled_item (values i) (lowers i) n l) []
   labelled_viable n l i =
-      fork_completes anything calm calm quiet closes refl (λ place m. gives (last l, n)) (λ i place m. gives (last l, n)) (plain (after_label l) n) (λ i. plains i (after_label l) n) close_block_mark.token (witness_is marks.CloseBlock close_block_mark) refl
+      fork_completes anything calm calm quiet closes refl (λ place m. gives (last l, n)) (λ i place m. gives (last l, n)) (plain (after_label l) n) (λ i. plains i (after_label l) n) close_block_mark.token close_block_mark.spelled (witness_is marks.CloseBlock close_block_mark) refl
       i (completes_gives anything calm (any_of calm) (last l, n))
 
   lawful_named_item : (n : ℕ) (l : Label) → Lawful calm calm (named_item value lower n l) (λ i. named_item (values i) (lowers i) n l)
   lawful_named_item n l =
-      lawful_fork calm calm calm quiet colon refl (λ place m. labelled_item value lower n l) (λ i place m. labelled_item (values i) (lowers i) n l) (plain (after_name l) n) (λ i. plains i (after_name l) n) colon_mark.token (witness_is marks.Colon colon_mark) colon_calm
+      lawful_fork calm calm calm quiet colon refl (λ place m. labelled_item value lower n l) (λ i place m. labelled_item (values i) (lowers i) n l) (plain (after_name l) n) (λ i. plains i (after_name l) n) colon_mark.token colon_mark.spelled (witness_is marks.Colon colon_mark) colon_calm
       (labelled_viable n l) (λ place m. lawful_weak calm anything calm (any_of calm) (labelled_item value lower n l) (λ i. labelled_item (values i) (lowers i) n l) (lawful_labelled n l)) (syntax 0) (plain_ends (after_name l) n) (lawful_plain (after_name l) n)
 
   named_viable : (n : ℕ) (l : Label) (i : I) → Viable anything calm (named_item (values i) (lowers i) n l) []
   named_viable n l i =
-      fork_completes anything calm calm quiet colon refl (λ place m. labelled_item value lower n l) (λ i place m. labelled_item (values i) (lowers i) n l) (plain (after_name l) n) (λ i. plains i (after_name l) n) colon_mark.token (witness_is marks.Colon colon_mark) refl
+      fork_completes anything calm calm quiet colon refl (λ place m. labelled_item value lower n l) (λ i place m. labelled_item (values i) (lowers i) n l) (plain (after_name l) n) (λ i. plains i (after_name l) n) colon_mark.token colon_mark.spelled (witness_is marks.Colon colon_mark) refl
       i (labelled_viable n l i)
 
   pub lawful_item : (n : ℕ) → Lawful calm calm (item_of value lower n) (λ i. item_of (values i) (lowers i) n)
   unfolding item_of
   lawful_item n =
-      lawful_fork calm calm calm quiet is_name refl (λ place l. named_item value lower n l) (λ i place l. named_item (values i) (lowers i) n l) (plain (fresh false) n) (λ i. plains i (fresh false) n) name_token name_is name_calm
+      lawful_fork calm calm calm quiet is_name refl (λ place l. named_item value lower n l) (λ i place l. named_item (values i) (lowers i) n l) (plain (fresh false) n) (λ i. plains i (fresh false) n) name_token name_spelled name_is name_calm
       (named_viable n (label_of name_token)) (λ place l. lawful_weak calm anything calm (any_of calm) (named_item value lower n l) (λ i. named_item (values i) (lowers i) n l) (lawful_named_item n l)) (syntax 0) (plain_ends (fresh false) n) (lawful_plain (fresh false) n)
 
   -- BODIES

@@ -11,6 +11,7 @@ use Rattle.st_reading.specs.Reading.{Label, ahead, expected, named, gives, then_
 use Rattle.st_reading.specs.Steady.{Viable, anything}
 use Rattle.st_reading.proofs.Steadiness.{viable_named}
 use Rattle.st_reading.proofs.Chains.{chain_none}
+use Rattle.st_reading.proofs.Spelled.{none_spelled}
 use Rattle.st_reading.proofs.Branches.{completes_calmer, completes_gives, completes_bind, completes_map}
 use Rattle.spl_parser.specs.declared.sign.Start.{Start}
 use Rattle.spl_parser.specs.declared.sign.Start.TheVariants as starts
@@ -20,20 +21,20 @@ use Rattle.spl_parser.specs.Begun.{Begun, fresh}
 use Rattle.expression_parser.specs.Calm.{calm, calm_but, calm_but2}
 use Rattle.expression_parser.specs.Reading.{Reader}
 use Rattle.spl_parser.specs.Statements.{Lower, listed_of, right_side_of, all_assigned_of, sequence_of, selection_of, continuing, closed_body, rest_of_body, body_of, child_of, children_of, branch_of, conditional_of, doing, enclosed, action_of}
-use Rattle.expression_parser.proofs.Quiet.{but_calm, but_none, but_false, but2_other, but2_none, name_token}
+use Rattle.expression_parser.proofs.Quiet.{but_calm, but_none, but_false, but2_other, but2_none, name_token, name_spelled}
 use Rattle.spl_parser.proofs.Witnesses.{Witness, completes_mark, becomes_mark, comma_mark, open_mark, close_mark, close_block_mark, close_group_mark, open_block_mark, then_mark, fi_mark, do_mark, forever_mark, either_mark, bars_mark, coend_mark}
 use Rattle.spl_parser.proofs.ListLaw.{any_of, same}
 use Rattle.spl_parser.proofs.BodyLaw.{in_body, apart, name_is, name_calm}
 
 name_completes : Viable {X = Passed} calm calm named []
-name_completes = viable_named calm calm name_token name_is name_calm
+name_completes = viable_named calm calm name_token name_spelled name_is name_calm
 
 -- A LIST ENDS AT ONCE
 further_completes : {A : Type 0} (mark : Mark) (r : Reader A) (xs : List A) → Viable (calm_but mark) (calm_but mark) (further mark r xs) []
-further_completes mark r xs = record { others = []; value = xs; begins = λ n after h. h; reads = λ after h. chain_none (only mark) (listing r) gives (size after) xs after (sym (but_none mark (ahead after) h)) }
+further_completes mark r xs = record { others = []; spelled = none_spelled; value = xs; begins = λ n after h. h; reads = λ after h. chain_none (only mark) (listing r) gives (size after) xs after (sym (but_none mark (ahead after) h)) }
 
 linked_completes : {A : Type 0} (mark : Mark) (r : ℕ → Reader (Counted A)) (xs : Counted (List A)) → Viable (calm_but mark) (calm_but mark) (linked mark r xs) []
-linked_completes mark r xs = record { others = []; value = xs; begins = λ n after h. h; reads = λ after h. chain_none (only mark) (counting (λ o. r)) gives (size after) xs after (sym (but_none mark (ahead after) h)) }
+linked_completes mark r xs = record { others = []; spelled = none_spelled; value = xs; begins = λ n after h. h; reads = λ after h. chain_none (only mark) (counting (λ o. r)) gives (size after) xs after (sym (but_none mark (ahead after) h)) }
 
 -- LISTS WITH COMMAS
 listed_completes : {A : Type 0} (r : Reader A) → Viable calm calm r [] → Viable calm anything (listed_of r) []
@@ -87,6 +88,7 @@ module _ (value : Reader Expr) (vv : Viable calm calm value []) where
         ended : (xs : Counted (List Statement)) → Viable in_body in_body (rest_of_body value lower xs) []
         ended xs = record {
           others = (closes xs).others;
+          spelled = (closes xs).spelled;
           value = (closes xs).value;
           begins = (closes xs).begins;
           reads = λ after h. chain_none (only marks.Semicolon) (continuing value lower) closed_body (size ((closes xs).others ++> after)) xs ((closes xs).others ++> after) (sym (but_none marks.Semicolon (ahead ((closes xs).others ++> after)) ((closes xs).begins refl after h))) ∙ (closes xs).reads after h;
@@ -104,7 +106,7 @@ module _ (value : Reader Expr) (vv : Viable calm calm value []) where
         (λ m. completes_bind calm in_body apart apart (but2_other marks.Bars marks.Semicolon) (child_of value lower x.1) (λ y. linked marks.Bars (child_of value lower) (x.0 ∷ y.0 ∷ [], y.1)) (child_completes x.1) (λ y. no_further (x.0 ∷ y.0 ∷ [], y.1))))
       where
         no_further : (xs : Counted (List Body)) → Viable apart apart (linked marks.Bars (child_of value lower) xs) []
-        no_further xs = record { others = []; value = xs; begins = λ n after h. h; reads = λ after h. chain_none (only marks.Bars) (counting (λ o. child_of value lower)) gives (size after) xs after (sym (but2_none marks.Bars marks.Semicolon (ahead after) h)) }
+        no_further xs = record { others = []; spelled = none_spelled; value = xs; begins = λ n after h. h; reads = λ after h. chain_none (only marks.Bars) (counting (λ o. child_of value lower)) gives (size after) xs after (sym (but2_none marks.Bars marks.Semicolon (ahead after) h)) }
 
     conditional_completes : (inner : Bool) (n : ℕ) → Viable calm calm (conditional_of value lower inner n) []
     unfolding conditional_of branch_of number calm calm_but
@@ -116,7 +118,7 @@ module _ (value : Reader Expr) (vv : Viable calm calm value []) where
         (λ y. wanted (calm_but marks.Else) calm calm marks.Fi fi_mark refl (λ z. gives (conditional e x.0 y.0, y.1)) (λ z. completes_gives calm calm (same calm) (conditional e x.0 y.0, y.1))))))
       where
         no_else : (m : ℕ) → Viable (calm_but marks.Else) (calm_but marks.Else) (branch_of value lower inner m) []
-        no_else m = record { others = []; value = (no_branch, m); begins = λ n after h. h; reads = λ after h. let e = but_false marks.Else (ahead after) h in rw e refl }
+        no_else m = record { others = []; spelled = none_spelled; value = (no_branch, m); begins = λ n after h. h; reads = λ after h. let e = but_false marks.Else (ahead after) h in rw e refl }
 
     enclosed_completes : {A : Type 0} (set : Sign → Bool) (r : Reader (Counted (List A))) (action : List A → Action) (mark : Mark) (w : Witness mark) → set (signs.Marked mark) ≡ true → Viable calm set r [] → Viable calm calm (enclosed action mark r) []
     enclosed_completes set r action mark w h v =

@@ -67,7 +67,7 @@ module _ (value : Reader Expr) (vv : Viable calm calm value []) where
   -- the "skip" is all that is asked of what may begin
   pub fresh_completes : (set : Sign → Bool) → set (sign_of skip_mark.token) ≡ true → (room : ℕ) (inner : Bool) (n : ℕ) → Viable set calm (inside value unlimited (suc room) (fresh inner) n) []
   fresh_completes set h room inner n =
-      completes_behind set calm calm (inside value unlimited (suc room) (fresh inner) n) (gives (stated None skip_mark.token.start skip, n + 1)) skip_mark.token h
+      completes_behind set calm calm (inside value unlimited (suc room) (fresh inner) n) (gives (stated None skip_mark.token.start skip, n + 1)) skip_mark.token skip_mark.spelled h
       (λ after. on_token room (fresh inner) n skip_mark.token after (ap (begins inner) skip_starts ∙ begins_skip inner) ∙ statement_skip (inside value unlimited room) inner (n + 1) after)
       (completes_gives calm calm (same calm) (stated None skip_mark.token.start skip, n + 1))
 
@@ -75,11 +75,11 @@ module _ (value : Reader Expr) (vv : Viable calm calm value []) where
   unfolding statement_of assigned_of
   inside_completes room (fresh inner) n = fresh_completes calm skip_calm room inner n
   inside_completes room (after_label l) n =
-      completes_behind calm calm calm (inside value unlimited (suc room) (after_label l) n) (gives (stated (Some l) skip_mark.token.start skip, n + 1)) skip_mark.token skip_calm
+      completes_behind calm calm calm (inside value unlimited (suc room) (after_label l) n) (gives (stated (Some l) skip_mark.token.start skip, n + 1)) skip_mark.token skip_mark.spelled skip_calm
       (λ after. on_token room (after_label l) n skip_mark.token after (ap (begins false) skip_starts) ∙ bare_skip (inside value unlimited room) false (Some l) (n + 1) after)
       (completes_gives calm calm (same calm) (stated (Some l) skip_mark.token.start skip, n + 1))
   inside_completes room (after_name l) n =
-      completes_behind calm calm calm (inside value unlimited (suc room) (after_name l) n) (then_reads value (λ e. gives (stated None l.place (assign l e), n + 1))) becomes_mark.token becomes_calm
+      completes_behind calm calm calm (inside value unlimited (suc room) (after_name l) n) (then_reads value (λ e. gives (stated None l.place (assign l e), n + 1))) becomes_mark.token becomes_mark.spelled becomes_calm
       (λ after. on_token room (after_name l) n becomes_mark.token after (witness_is marks.Becomes becomes_mark) ∙ behind_becomes after)
       (completes_map calm calm (λ e. (stated None l.place (assign l e), n + 1)) value vv)
     where
@@ -106,18 +106,18 @@ module _ (value : Reader Expr) (vv : Viable calm calm value []) where
 
     bare_first : (inner : Bool) (label : Option Label) (n : ℕ) → Viable calm calm (bare_of value lower inner label n) []
     unfolding lower
-    bare_first inner label n = completes_behind calm calm calm (bare_of value lower inner label n) (gives (stated label skip_mark.token.start skip, n)) skip_mark.token skip_calm (bare_skip lower inner label n) (completes_gives calm calm (same calm) (stated label skip_mark.token.start skip, n))
+    bare_first inner label n = completes_behind calm calm calm (bare_of value lower inner label n) (gives (stated label skip_mark.token.start skip, n)) skip_mark.token skip_mark.spelled skip_calm (bare_skip lower inner label n) (completes_gives calm calm (same calm) (stated label skip_mark.token.start skip, n))
 
     named_first : (l : Label) (n : ℕ) → Viable calm calm (named_of value lower l n) []
     unfolding named_of
-    named_first l n = completes_behind calm calm calm (named_of value lower l n) (bare_of value lower false (Some l) n) colon_mark.token colon_calm (λ after. rw (witness_is marks.Colon colon_mark) refl) (bare_first false (Some l) n)
+    named_first l n = completes_behind calm calm calm (named_of value lower l n) (bare_of value lower false (Some l) n) colon_mark.token colon_mark.spelled colon_calm (λ after. rw (witness_is marks.Colon colon_mark) refl) (bare_first false (Some l) n)
 
     fresh_over : (t : Lexeme) (n : ℕ) (c : Bool) → c ≡ is_name (sign_of t) → begins false (start (sign_of t)) ≡ true → Viable calm calm (statement_of value lower (fresh false) n) (t ∷ [])
     unfolding statement_of
     fresh_over t n true e h = completes_over calm calm calm (statement_of value lower (fresh false) n) (named_of value lower (label_of t) n) t (λ after. rw (← e) refl) (named_first (label_of t) n)
     fresh_over t n false e h =
         let v = some_start t false None n (start (sign_of t)) refl h in
-        record { others = v.others; value = v.value; begins = λ n. cc; reads = λ after k. rw (← e) (v.reads after k) }
+        record { others = v.others; spelled = v.spelled; value = v.value; begins = λ n. cc; reads = λ after k. rw (← e) (v.reads after k) }
 
     statement_over : (t : Lexeme) (b : Begun) (n : ℕ) → goes_on b (sign_of t) ≡ true → Viable calm calm (statement_of value lower b n) (t ∷ [])
     unfolding statement_of
@@ -131,4 +131,4 @@ module _ (value : Reader Expr) (vv : Viable calm calm value []) where
     unfolding lower
     inside_over t b n h =
         let v = statement_over t b (n + 1) h in
-        record { others = v.others; value = v.value; begins = λ n. cc; reads = λ after k. on_token (suc room) b n t (v.others ++> after) h ∙ v.reads after k }
+        record { others = v.others; spelled = v.spelled; value = v.value; begins = λ n. cc; reads = λ after k. on_token (suc room) b n t (v.others ++> after) h ∙ v.reads after k }

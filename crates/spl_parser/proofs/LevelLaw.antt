@@ -19,7 +19,7 @@ use Rattle.expression_parser.specs.Calm.{calm}
 use Rattle.expression_parser.specs.Reading.{Reader}
 use Rattle.spl_parser.specs.Statements.{Lower, goes_on, front_place, statement_of, inside}
 use Rattle.spl_parser.proofs.ListLaw.{same}
-use Rattle.spl_parser.proofs.BodyLaw.{quiet}
+use Rattle.expression_parser.proofs.FormulaTheorems.{quiet}
 use Rattle.spl_parser.proofs.WholeLaw.{lawful_statement, statement_ends}
 use Rattle.spl_parser.proofs.ProgramSoundness.{Lowered, inside_sound}
 use Rattle.spl_parser.proofs.InsideLaw.{unlimited, deeper, inside_completes, inside_over}

@@ -13,7 +13,7 @@ use Rattle.spl_parser.specs.ProgramTree.{Action, assign_all}
 use Rattle.expression_parser.specs.Calm.{calm, calm_but}
 use Rattle.expression_parser.specs.Reading.{Reader}
 use Rattle.spl_parser.specs.Statements.{listed_of, right_side_of, all_assigned_of}
-use Rattle.expression_parser.proofs.Quiet.{but_calm, but_none, name_token}
+use Rattle.expression_parser.proofs.Quiet.{but_calm, but_none, name_token, name_spelled}
 use Rattle.spl_parser.proofs.Witnesses.{lawful_mark, becomes_mark, comma_mark, close_mark, open_mark}
 
 pub any_of : (f : Sign → Bool) → Within f anything
@@ -39,7 +39,7 @@ opening = lawful_mark marks.Open open_mark anything refl
 
 pub lawful_name : {I : Type 0} → Lawful {I = I} {X = Passed} calm calm named (λ i. named)
 unfolding name_token calm
-lawful_name = lawful_named calm calm name_token refl refl
+lawful_name = lawful_named calm calm name_token name_spelled refl refl
 
 module _ {I A : Type 0} (item : Reader A) (items : I → Reader A) (li : Lawful calm calm item items) where
   abbrev but : Sign → Bool

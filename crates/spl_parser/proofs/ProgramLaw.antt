@@ -26,11 +26,12 @@ use Rattle.expression_parser.specs.Calm.{calm, calm_but, calm_but2}
 use Rattle.expression_parser.specs.Reading.{Reader, expression_of, disjunction_of, conjunction_of, negation_of, comparison_of, sum_of, product_of, unary_of, atom_of}
 use Rattle.spl_parser.specs.Statements.{rest_of_body, body_of}
 use Rattle.spl_parser.specs.Programs.{Limits, Totals, totals, limited_name, value_of, lower_of, variable_of, names_of, type_of, initial_of, declaration_of, declarations_of, process_name, process, process_of, processes_of, spelled_of}
-use Rattle.expression_parser.proofs.Quiet.{and_parts, but_calm, but_none, but_false, but2_other, but2_none, name_token}
+use Rattle.expression_parser.proofs.Quiet.{and_parts, but_calm, but_none, but_false, but2_other, but2_none, name_token, name_spelled}
 use Rattle.expression_parser.proofs.ExpressionLaw.{larger, lawful_formula}
 use Rattle.spl_parser.proofs.Witnesses.{witness_in, lawful_mark, colon_mark, colons_mark, semicolon_mark, open_block_mark, integer_mark, skip_mark}
 use Rattle.spl_parser.proofs.ListLaw.{any_of, same}
-use Rattle.spl_parser.proofs.BodyLaw.{in_body, apart, quiet, name_is, name_calm, lawful_rest_of_body}
+use Rattle.spl_parser.proofs.BodyLaw.{in_body, apart, name_is, name_calm, lawful_rest_of_body}
+use Rattle.expression_parser.proofs.FormulaTheorems.{quiet}
 use Rattle.spl_parser.proofs.ProgramSoundness.{Value, value_sound}
 use Rattle.spl_parser.proofs.InsideLaw.{unlimited, deeper, fresh_completes}
 use Rattle.spl_parser.proofs.LevelLaw.{inside_ends, lawful_inside}
@@ -63,7 +64,7 @@ module _ {A : Type 0} (set : Sign → Bool) (set_has : set (sign_of name_token) 
   free s = limited_name limited true f s
 
   free_completes : Viable set anything free []
-  free_completes = completes_behind set anything anything free (gives (f (label_of name_token))) name_token set_has (λ after. rw name_is refl) (completes_gives anything anything (same anything) (f (label_of name_token)))
+  free_completes = completes_behind set anything anything free (gives (f (label_of name_token))) name_token name_spelled set_has (λ after. rw name_is refl) (completes_gives anything anything (same anything) (f (label_of name_token)))
 
   free_over : (t : Lexeme) → is_name (sign_of t) ≡ true → Viable set anything free (t ∷ [])
   free_over t e = completes_over set anything anything free (gives (f (label_of t))) t (λ after. rw e refl) (completes_gives anything anything (same anything) (f (label_of t)))
@@ -153,7 +154,7 @@ module _ (limit : Limits) where
   lawful_type : Lawful {I = ℕ} anything anything (type_of limit) (λ i. type_of (beyond limit i))
   unfolding type_of
   lawful_type =
-      lawful_pick anything anything kind refl (λ truth place l. gives truth) (λ i truth place l. gives truth) integer_mark.token false integer_is refl (λ i. completes_gives anything anything (same anything) false) (λ truth place l. lawful_gives anything anything truth)
+      lawful_pick anything anything kind refl (λ truth place l. gives truth) (λ i truth place l. gives truth) integer_mark.token integer_mark.spelled false integer_is refl (λ i. completes_gives anything anything (same anything) false) (λ truth place l. lawful_gives anything anything truth)
 
   lawful_initial : Lawful but_where but_where (initial_of limit) (λ i. initial_of (beyond limit i))
   unfolding initial_of

@@ -21,11 +21,12 @@ use Rattle.spl_parser.specs.Begun.{Begun, fresh, after_name, after_label}
 use Rattle.expression_parser.specs.Calm.{calm, calm_but, calm_but2}
 use Rattle.expression_parser.specs.Reading.{Reader}
 use Rattle.spl_parser.specs.Statements.{Lower, right_side_of, all_assigned_of, assigned_of, sequence_of, selection_of, children_of, conditional_of, doing, enclosed, action_of, standing, bare_of, named_of, statement_of}
-use Rattle.expression_parser.proofs.Quiet.{but_calm, name_token}
+use Rattle.expression_parser.proofs.Quiet.{but_calm, name_token, name_spelled}
 use Rattle.spl_parser.proofs.Witnesses.{Witness, witness_is, witness_in, lawful_mark, close_block_mark, close_group_mark, open_block_mark, colon_mark, do_mark, forever_mark, coend_mark, skip_mark}
 use Rattle.spl_parser.proofs.ListLaw.{any_of, same, lawful_name, lawful_right_side, lawful_all_assigned}
 use Rattle.spl_parser.proofs.StatementLaw.{lawful_sequence, lawful_selection, lawful_enclosed, lawful_conditional}
-use Rattle.spl_parser.proofs.BodyLaw.{in_body, apart, apart_calm, lawful_children, quiet, name_is, name_calm, colon_calm}
+use Rattle.spl_parser.proofs.BodyLaw.{in_body, apart, apart_calm, lawful_children, name_is, name_calm, colon_calm}
+use Rattle.expression_parser.proofs.FormulaTheorems.{quiet}
 
 pub skip_starts : start (sign_of skip_mark.token) ≡ Some starts.Skip
 unfolding number
@@ -111,12 +112,12 @@ module _ {I : Type 0} (value : Reader Expr) (values : I → Reader Expr) (lawful
   pub lawful_bare : (inner : Bool) (label : Option Label) (n : ℕ) → Lawful calm calm (bare_of value lower inner label n) (λ i. bare_of (values i) (lowers i) inner label n)
   unfolding bare_of
   lawful_bare inner label n =
-      lawful_pick calm calm start refl (behind_first inner label n) (λ i. behind_firsts i inner label n) skip_mark.token starts.Skip skip_starts skip_calm (λ i. skips i inner label n skip_mark.token.start (label_of skip_mark.token))
+      lawful_pick calm calm start refl (behind_first inner label n) (λ i. behind_firsts i inner label n) skip_mark.token skip_mark.spelled starts.Skip skip_starts skip_calm (λ i. skips i inner label n skip_mark.token.start (label_of skip_mark.token))
       (λ x place l. lawful_weak calm anything calm (any_of calm) (behind_first inner label n x place l) (λ i. behind_firsts i inner label n x place l) (lawful_behind_first inner label n x place l))
 
   pub bare_completes : (set : Sign → Bool) → set (sign_of skip_mark.token) ≡ true → (inner : Bool) (label : Option Label) (n : ℕ) (i : I) → Viable set calm (bare_of (values i) (lowers i) inner label n) []
   unfolding bare_of
-  bare_completes set h inner label n i = pick_completes set calm start refl (behind_first inner label n) (λ i. behind_firsts i inner label n) skip_mark.token starts.Skip skip_starts h i (skips i inner label n skip_mark.token.start (label_of skip_mark.token))
+  bare_completes set h inner label n i = pick_completes set calm start refl (behind_first inner label n) (λ i. behind_firsts i inner label n) skip_mark.token skip_mark.spelled starts.Skip skip_starts h i (skips i inner label n skip_mark.token.start (label_of skip_mark.token))
 
   lawful_assigned : (l : Label) (n : ℕ) → Lawful calm calm (assigned_of value l n) (λ i. assigned_of (values i) l n)
   unfolding assigned_of
@@ -132,14 +133,14 @@ module _ {I : Type 0} (value : Reader Expr) (values : I → Reader Expr) (lawful
   pub lawful_named_statement : (l : Label) (n : ℕ) → Lawful calm calm (named_of value lower l n) (λ i. named_of (values i) (lowers i) l n)
   unfolding named_of
   lawful_named_statement l n =
-      lawful_fork calm calm calm quiet colon refl (λ place m. bare_of value lower false (Some l) n) (λ i place m. bare_of (values i) (lowers i) false (Some l) n) (assigned_of value l n) (λ i. assigned_of (values i) l n) colon_mark.token (witness_is marks.Colon colon_mark) colon_calm
+      lawful_fork calm calm calm quiet colon refl (λ place m. bare_of value lower false (Some l) n) (λ i place m. bare_of (values i) (lowers i) false (Some l) n) (assigned_of value l n) (λ i. assigned_of (values i) l n) colon_mark.token colon_mark.spelled (witness_is marks.Colon colon_mark) colon_calm
       (bare_completes anything refl false (Some l) n) (λ place m. lawful_weak calm anything calm (any_of calm) (bare_of value lower false (Some l) n) (λ i. bare_of (values i) (lowers i) false (Some l) n) (lawful_bare false (Some l) n))
       (syntax 0) (assigned_ends l n) (lawful_assigned l n)
 
   named_completes : (l : Label) (n : ℕ) (i : I) → Viable anything calm (named_of (values i) (lowers i) l n) []
   unfolding named_of
   named_completes l n i =
-      fork_completes anything calm calm quiet colon refl (λ place m. bare_of value lower false (Some l) n) (λ i place m. bare_of (values i) (lowers i) false (Some l) n) (assigned_of value l n) (λ i. assigned_of (values i) l n) colon_mark.token (witness_is marks.Colon colon_mark) refl
+      fork_completes anything calm calm quiet colon refl (λ place m. bare_of value lower false (Some l) n) (λ i place m. bare_of (values i) (lowers i) false (Some l) n) (assigned_of value l n) (λ i. assigned_of (values i) l n) colon_mark.token colon_mark.spelled (witness_is marks.Colon colon_mark) refl
       i (bare_completes anything refl false (Some l) n i)
 
   pub bare_ends : (inner : Bool) (label : Option Label) (n : ℕ) → bare_of value lower inner label n (ends 0) ≡ Err (syntax 0)
@@ -150,7 +151,7 @@ module _ {I : Type 0} (value : Reader Expr) (values : I → Reader Expr) (lawful
   unfolding statement_of
   lawful_statement (fresh true) n = lawful_bare true None n
   lawful_statement (fresh false) n =
-      lawful_fork calm calm calm quiet is_name refl (λ place l. named_of value lower l n) (λ i place l. named_of (values i) (lowers i) l n) (bare_of value lower false None n) (λ i. bare_of (values i) (lowers i) false None n) name_token name_is name_calm
+      lawful_fork calm calm calm quiet is_name refl (λ place l. named_of value lower l n) (λ i place l. named_of (values i) (lowers i) l n) (bare_of value lower false None n) (λ i. bare_of (values i) (lowers i) false None n) name_token name_spelled name_is name_calm
       (named_completes (label_of name_token) n) (λ place l. lawful_weak calm anything calm (any_of calm) (named_of value lower l n) (λ i. named_of (values i) (lowers i) l n) (lawful_named_statement l n)) (syntax 0) (bare_ends false None n) (lawful_bare false None n)
   lawful_statement (after_name l) n = lawful_assigned l n
   lawful_statement (after_label l) n = lawful_bare false (Some l) n

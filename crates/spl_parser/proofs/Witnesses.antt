@@ -2,7 +2,7 @@
 use Rattle.std.proofs.Common.{◌≡◌, ℕ, Bool, true, List, [], codes, ◌==◌, refl, ap, ◌∙◌, arith}
 use Rattle.std.proofs.lemmas.Bool.Decides.{nat_tests}
 use Rattle.st_tokens.specs.declared.kind.TokenKind.TheVariants as kinds
-use Rattle.st_tokens.specs.Stream.{Lexeme}
+use Rattle.st_tokens.specs.Stream.{Lexeme, IsSpelled}
 use Rattle.st_reading.specs.declared.mark.Mark.{Mark}
 use Rattle.st_reading.specs.declared.mark.Mark.TheVariants as marks
 use Rattle.st_reading.specs.declared.sign.Sign.{Sign}
@@ -15,9 +15,10 @@ use Rattle.st_reading.specs.Steady.{Viable, anything}
 use Rattle.st_reading.proofs.Steadiness.{viable_expected}
 use Rattle.st_reading.proofs.Lawful.{Lawful, lawful_expected}
 
--- a token that is the mark
+-- a token that is the mark, and that texts have
 pub record Witness (m : Mark) : Type 0 where
   pub token : Lexeme
+  pub spelled : IsSpelled token
   pub sign : sign_of token ≡ signs.Marked m
 
 equal_self : (n : ℕ) → (n == n) ≡ true
@@ -34,10 +35,10 @@ witness_in m w set h = ap set w.sign ∙ h
 
 -- the token that is wanted
 pub lawful_mark : {I : Type 0} (m : Mark) (w : Witness m) (set : Sign → Bool) → set (signs.Marked m) ≡ true → Lawful {I = I} {X = Passed} set anything (expected m) (λ i. expected m)
-lawful_mark m w set h = lawful_expected set anything m w.token (witness_is m w) (witness_in m w set h)
+lawful_mark m w set h = lawful_expected set anything m w.token w.spelled (witness_is m w) (witness_in m w set h)
 
 pub completes_mark : (m : Mark) (w : Witness m) (set calm : Sign → Bool) → set (signs.Marked m) ≡ true → Viable {X = Passed} set calm (expected m) []
-completes_mark m w set calm h = viable_expected set calm m w.token (witness_is m w) (witness_in m w set h)
+completes_mark m w set calm h = viable_expected set calm m w.token w.spelled (witness_is m w) (witness_in m w set h)
 
 symbol_at : List ℕ → Lexeme
 symbol_at text = record { kind = kinds.Symbol; text = text; start = 0 }
@@ -47,80 +48,80 @@ word_at text = record { kind = kinds.Keyword; text = text; start = 0 }
 
 pub open_mark : Witness marks.Open
 unfolding symbol_at
-open_mark = record { token = symbol_at (codes "("); sign = refl }
+open_mark = record { token = symbol_at (codes "("); spelled = refl; sign = refl }
 
 pub close_mark : Witness marks.Close
 unfolding symbol_at
-close_mark = record { token = symbol_at (codes ")"); sign = refl }
+close_mark = record { token = symbol_at (codes ")"); spelled = refl; sign = refl }
 
 pub open_block_mark : Witness marks.OpenBlock
 unfolding symbol_at
-open_block_mark = record { token = symbol_at (codes "["); sign = refl }
+open_block_mark = record { token = symbol_at (codes "["); spelled = refl; sign = refl }
 
 pub close_block_mark : Witness marks.CloseBlock
 unfolding symbol_at
-close_block_mark = record { token = symbol_at (codes "]"); sign = refl }
+close_block_mark = record { token = symbol_at (codes "]"); spelled = refl; sign = refl }
 
 pub close_group_mark : Witness marks.CloseGroup
 unfolding symbol_at
-close_group_mark = record { token = symbol_at (codes ">>"); sign = refl }
+close_group_mark = record { token = symbol_at (codes ">>"); spelled = refl; sign = refl }
 
 pub colon_mark : Witness marks.Colon
 unfolding symbol_at
-colon_mark = record { token = symbol_at (codes ":"); sign = refl }
+colon_mark = record { token = symbol_at (codes ":"); spelled = refl; sign = refl }
 
 pub colons_mark : Witness marks.Colons
 unfolding symbol_at
-colons_mark = record { token = symbol_at (codes "::"); sign = refl }
+colons_mark = record { token = symbol_at (codes "::"); spelled = refl; sign = refl }
 
 pub semicolon_mark : Witness marks.Semicolon
 unfolding symbol_at
-semicolon_mark = record { token = symbol_at (codes ";"); sign = refl }
+semicolon_mark = record { token = symbol_at (codes ";"); spelled = refl; sign = refl }
 
 pub comma_mark : Witness marks.Comma
 unfolding symbol_at
-comma_mark = record { token = symbol_at (codes ","); sign = refl }
+comma_mark = record { token = symbol_at (codes ","); spelled = refl; sign = refl }
 
 pub becomes_mark : Witness marks.Becomes
 unfolding symbol_at
-becomes_mark = record { token = symbol_at (codes ":="); sign = refl }
+becomes_mark = record { token = symbol_at (codes ":="); spelled = refl; sign = refl }
 
 pub bars_mark : Witness marks.Bars
 unfolding symbol_at
-bars_mark = record { token = symbol_at (codes "||"); sign = refl }
+bars_mark = record { token = symbol_at (codes "||"); spelled = refl; sign = refl }
 
 pub skip_mark : Witness marks.Skip
 unfolding word_at declaring_word basic_word compound_word
-skip_mark = record { token = word_at (codes "skip"); sign = refl }
+skip_mark = record { token = word_at (codes "skip"); spelled = refl; sign = refl }
 
 pub then_mark : Witness marks.Then
 unfolding word_at declaring_word basic_word compound_word
-then_mark = record { token = word_at (codes "then"); sign = refl }
+then_mark = record { token = word_at (codes "then"); spelled = refl; sign = refl }
 
 pub fi_mark : Witness marks.Fi
 unfolding word_at declaring_word basic_word compound_word
-fi_mark = record { token = word_at (codes "fi"); sign = refl }
+fi_mark = record { token = word_at (codes "fi"); spelled = refl; sign = refl }
 
 pub forever_mark : Witness marks.Forever
 unfolding word_at declaring_word basic_word compound_word
-forever_mark = record { token = word_at (codes "forever"); sign = refl }
+forever_mark = record { token = word_at (codes "forever"); spelled = refl; sign = refl }
 
 pub do_mark : Witness marks.Do
 unfolding word_at declaring_word basic_word compound_word
-do_mark = record { token = word_at (codes "do"); sign = refl }
+do_mark = record { token = word_at (codes "do"); spelled = refl; sign = refl }
 
 pub either_mark : Witness marks.Either
 unfolding word_at declaring_word basic_word compound_word
-either_mark = record { token = word_at (codes "or"); sign = refl }
+either_mark = record { token = word_at (codes "or"); spelled = refl; sign = refl }
 
 pub coend_mark : Witness marks.Coend
 unfolding word_at declaring_word basic_word compound_word
-coend_mark = record { token = word_at (codes "coend"); sign = refl }
+coend_mark = record { token = word_at (codes "coend"); spelled = refl; sign = refl }
 
 pub integer_mark : Witness marks.Integer
 unfolding word_at declaring_word basic_word compound_word
-integer_mark = record { token = word_at (codes "integer"); sign = refl }
+integer_mark = record { token = word_at (codes "integer"); spelled = refl; sign = refl }
 
 pub where_mark : Witness marks.Where
 unfolding word_at declaring_word basic_word compound_word
-where_mark = record { token = word_at (codes "where"); sign = refl }
+where_mark = record { token = word_at (codes "where"); spelled = refl; sign = refl }

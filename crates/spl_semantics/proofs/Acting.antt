@@ -19,11 +19,13 @@ use Rattle.st_program.specs.Residuals.{Rest}
 use Rattle.spl_semantics.specs.declared.faults.MoveFault.{MoveFault}
 use Rattle.spl_semantics.specs.Answers.{Answers}
 use Rattle.spl_semantics.specs.Limits.{wide_first, wide_at}
-use Rattle.spl_semantics.specs.Steps.{Act, first_acts, acts_at}
+use Rattle.spl_semantics.specs.Steps.{first_acts, acts_at}
+use Rattle.spl_semantics.specs.Going.{Act}
 use Rattle.spl_semantics.specs.Stores.{Store}
 use Rattle.spl_semantics.specs.Numbers.{begun_before}
 use Rattle.spl_semantics.proofs.Members.{at_member, member_none, member_left, member_right, member_cases}
-use Rattle.spl_semantics.proofs.Texts.{either, closed_inside}
+use Rattle.spl_semantics.proofs.Texts.{closed_inside}
+use Rattle.basic_laws.proofs.Types.{either}
 
 module _ (vs : List Variable) (ds : List Datum) (fits : StoreFits vs ds) where
   has_type : (v : ℕ) (b : Bool) → MayChange vs v b → slice_get (types ds) v ≡ Some b

@@ -7,10 +7,11 @@ use Rattle.st_program.specs.Tree.{Statement, stated, Action, skip, if_then, if_e
 use Rattle.st_program.specs.Member.{Member, here, there}
 use Rattle.st_program.specs.Spots.{entry, bodies, bodies_inside, bodies_in, bodies_of, Body, Spot, at_spot, spots, spots_within, spots_along, spots_among, spots_inside, all_spots, spot, IsNumbered, items_of, body}
 use Rattle.st_program.specs.Residuals.{Done}
-use Rattle.spl_semantics.specs.Steps.{begin}
+use Rattle.spl_semantics.specs.Going.{begin}
 use Rattle.spl_semantics.specs.Control.{starts}
 use Rattle.spl_semantics.proofs.Members.{member_none, member_left, member_right, member_cases}
-use Rattle.spl_semantics.proofs.Texts.{either, Has, found, own_first, near, near_along, near_first, along_region}
+use Rattle.spl_semantics.proofs.Texts.{Has, found, own_first, near, near_along, near_first, along_region}
+use Rattle.basic_laws.proofs.Types.{either}
 use Rattle.spl_semantics.proofs.Fits.{place_at, fronts_to, Top, ProcessTops, Layout, FitsAll, Body_in, join_at}
 
 pub entry_is : (ss : Statements) (e : ℕ) → entry ss e ≡ place_at ss 0 e

@@ -7,7 +7,8 @@ use Rattle.st_program.specs.Tree.{Processes}
 use Rattle.st_program.specs.Member.{Member}
 use Rattle.st_program.specs.Residuals.{Rests}
 use Rattle.st_program.specs.Spots.{IsNumbered}
-use Rattle.spl_semantics.specs.Steps.{Act, act, steps_of}
+use Rattle.spl_semantics.specs.Steps.{steps_of}
+use Rattle.spl_semantics.specs.Going.{Act, act}
 use Rattle.spl_semantics.specs.Cases.{Steps}
 use Rattle.spl_semantics.specs.Runs.{State, LeadsBy}
 use Rattle.spl_semantics.proofs.CasesAgree.{in_lists, of_lists}
@@ -24,4 +25,4 @@ pub listed : (p : Processes) → IsNumbered p → (s t : State) (o : ℕ) (part 
 listed p numbered s t o part mode l = (act (Step o part) mode t.left t.store, in_lists p numbered l, refl, refl, refl)
 
 pub by_cases : (p : Processes) → IsNumbered p → (s : State) (o : ℕ) (part : Part) (a : Act Rests) → Member a (steps_of s.left p s.store) → a.name ≡ Step o part → LeadsBy p s (Step o part) a.mode (behind_act a)
-by_cases p numbered s o part a m e = subst (λ n. Steps p s.left s.store n a.mode a.left a.store) e (of_lists p numbered s.left s.store a m)
+by_cases p numbered s o part a m e = subst (λ n. Steps p s.store s.left (act n a.mode a.left a.store)) e (of_lists p numbered s.left s.store a m)

@@ -18,7 +18,7 @@ use Rattle.spl_semantics.specs.Data.{StoreFits}
 use Rattle.spl_semantics.specs.InOrder.{InOrder, name_place, part_place}
 use Rattle.spl_semantics.specs.Names.{same_part, same_name}
 use Rattle.spl_semantics.specs.Plain.{plain_move, plain_moves, move_stores, AllOfTypes}
-use Rattle.spl_semantics.specs.Steps.{Act}
+use Rattle.spl_semantics.specs.Going.{Act}
 
 -- places tell names apart
 differ : (a b : ℕ) → (a ≡ b → ⊥) → (a == b) ≡ false

@@ -3,7 +3,6 @@ use Rattle.std.proofs.Common.{◌≡◌, ℕ, zero, suc, ◌+◌, Bool, true, fa
 use Rattle.std.specs.Prelude.{slice_get, if◌then◌else◌}
 use Rattle.st_form.specs.Formula.{Formula, row}
 use Rattle.st_form.specs.declared.conditions.Part.TheVariants.{Whole, Exit}
-use Rattle.st_form.specs.declared.conditions.TransName.{TransName}
 use Rattle.st_form.specs.declared.conditions.TransName.TheVariants as names
 use Rattle.st_program.specs.Tree.{Statement, stated, Action, Statements, no_statement, statement, Processes, Pieces, occurrence, location, nth}
 use Rattle.st_program.specs.Tree
@@ -12,10 +11,12 @@ use Rattle.st_program.specs.Groups.{Link, paths_along}
 use Rattle.st_program.specs.Spots.{entry, bodies, Spot, at_spot, spots, spots_among, all_spots, spot, Body, body, IsNumbered}
 use Rattle.st_program.specs.Residuals.{Rest, Done, Run, Then, Again, Inside, Rests, no_rest, rests}
 use Rattle.spl_semantics.specs.Stores.{Store, holds, walked, one_less}
-use Rattle.spl_semantics.specs.Steps.{Act, act, around, join, joined_acts, back, all_done, path_act, path_acts, first_acts, acts_along, acts_among, acts_at, steps, steps_of}
-use Rattle.spl_semantics.specs.Cases.{Stands, Branch, this, later, Step, Steps, skip, critical, noncritical, assign_all, await, request, release, if_true, if_false, if_else_true, if_else_false, while_true, while_false, block, select, enter, walk, then_step, again_step, child, leave, here_one, there_one}
+use Rattle.spl_semantics.specs.Steps.{joined_acts, path_act, path_acts, own_acts, first_acts, acts_along, acts_among, acts_at, steps, steps_of}
+use Rattle.spl_semantics.specs.Going.{Act, act, around, join, back, all_done}
+use Rattle.spl_semantics.specs.Cases.{Acts, skips, is_critical, is_noncritical, assigns, awaits, requests, releases, if_holds, if_fails, either_holds, either_fails, while_holds, while_fails, walks, StandsBehind, Stands, Branch, this, later, Step, Steps, by_itself, in_block, in_branch, enters, in_child, leaves, in_front, in_loop, here_one, there_one}
 use Rattle.spl_semantics.proofs.Members.{member_none, member_left, member_right, member_cases, member_map, map_member}
-use Rattle.spl_semantics.proofs.Texts.{either, found, found_has, own_first, whole}
+use Rattle.spl_semantics.proofs.Texts.{found, found_has, own_first, whole}
+use Rattle.basic_laws.proofs.Types.{either}
 use Rattle.spl_semantics.proofs.Bodies.{body_of_block}
 
 pick_true : {A : Type 0} {x : A} (b : Bool) (xs ys : List A) → b ≡ true → Member x xs → Member x (if b then xs else ys)
@@ -47,7 +48,7 @@ join_last s b (Inside c rs) = refl
 
 module _ (p : Processes) (numbered : IsNumbered p) where
   -- the steps of a statement that stands in p
-  at_run : (o c : ℕ) (a : Action) (σ : Store) (x : Act Rest) → (st : Stands p o a c) → Member x (first_acts (stated o st.0 a) (length (all_spots p) + c) σ) → Member x (steps (Run o) p σ)
+  at_run : (o c : ℕ) (a : Action) (σ : Store) (x : Act Rest) → (st : StandsBehind p o a c) → Member x (first_acts (stated o st.0 a) (length (all_spots p) + c) σ) → Member x (steps (Run o) p σ)
   at_run o c a σ x st m = subst (λ z. Member x (acts_at z (length (all_spots p)) σ)) (sym st.2) m
 
   from_run : (s : Statement) (next c : ℕ) (σ : Store) (a : Act Rest) → Member (at_spot s next c) (all_spots p) → Member a (steps (Run (occurrence s)) p σ) → Member a (first_acts s (length (all_spots p) + c) σ)
@@ -77,45 +78,49 @@ module _ (p : Processes) (numbered : IsNumbered p) where
       let k : length (all_spots p) + (c + length (bodies r)) ≡ length (all_spots p) + c + length (bodies r) = omega arith in
       member_right (first_acts r (length (all_spots p) + c) σ) (subst (λ z. Member a (acts_among ss z σ)) k (among_row next (c + length (bodies r)) σ a (λ y i. sub y (member_right (spots r next c) i)) b m))
 
-  mutual
-    pub in_list : {r r' : Rest} {σ τ : Store} {n : TransName} {m : ℕ} → Step p r σ n m r' τ → Member (act n m r' τ) (steps r p σ)
-    in_list (skip st) = at_run _ _ _ _ _ st (here refl)
-    in_list (critical st) = at_run _ _ _ _ _ st (here refl)
-    in_list (noncritical st) = at_run _ _ _ _ _ st (here refl)
-    in_list (assign_all st) = at_run _ _ _ _ _ st (here refl)
-    in_list (await st h) = at_run _ _ _ _ _ st (pick_true _ _ _ h (here refl))
-    in_list (request st h) = at_run _ _ _ _ _ st (pick_true _ _ _ h (here refl))
-    in_list (release st) = at_run _ _ _ _ _ st (here refl)
-    in_list (if_true st h) = at_run _ _ _ _ _ st (pick_true _ _ _ h (here refl))
-    in_list (if_false st h) = at_run _ _ _ _ _ st (pick_false _ _ _ h (here refl))
-    in_list (if_else_true st h) = at_run _ _ _ _ _ st (pick_true _ _ _ h (here refl))
-    in_list (if_else_false st h) = at_run _ _ _ _ _ st (pick_false _ _ _ h (here refl))
-    in_list (while_true st h) = at_run _ _ _ _ _ st (pick_true _ _ _ h (here refl))
-    in_list (while_false st h) = at_run _ _ _ _ _ st (pick_false _ _ _ h (here refl))
-    in_list (block {b = b} {c = c} {ss = ss} {σ = σ} st d) =
-        at_run b c (Tree.block ss) σ _ st (block_row ss b st.0 st.1 c σ _ (found_has p numbered b _ st.2) (in_list d))
-    in_list (select {o = o} {c = c} {ss = ss} {σ = σ} st i d) =
-        at_run o c (Tree.select ss) σ _ st (among_row st.1 c σ _ (λ y j. (whole p).closed_in (at_spot (stated o st.0 (Tree.select ss)) st.1 c) y (found_has p numbered o _ st.2) (there j)) i (in_list d))
-    in_list (enter st) = at_run _ _ _ _ _ st (here refl)
-    in_list (walk {o = o} {c = c} {k = k} {xs = xs} {path = path} {σ = σ} {τ = τ} st q w) =
-        let e : 1 + k ≡ suc k = omega arith in
-        at_run o c (Tree.group xs) σ _ st (subst (λ z. Member (act (names.Step o Whole) z Done τ) (path_acts o 1 (paths_along xs) σ)) e (path_row o 1 k (paths_along xs) path σ τ q w))
-    in_list (then_step {b = b} {k = k} {m = m} {x = x} {n = n} {σ = σ} {τ = τ} {r = r} {r' = r'} h d) =
-        subst (λ z. Member (act n m (join x.0 r' b k) τ) (joined_acts z b k (steps r p σ))) (sym h) (map_member (around (λ z. join x.0 z b k)) (in_list d))
-    in_list (again_step {w = w} d) = map_member (around (back w)) (in_list d)
-    in_list (child {c = c} d) = member_left _ (map_member (around (Inside c)) (in_lists d))
-    in_list (leave {c = c} {σ = σ} {rs = rs} h) = member_right (map (around (Inside c)) (steps_of rs p σ)) (pick_true _ _ _ h (here refl))
+  -- what a statement does by itself is among the first steps of its kind
+  by_own : (o c : ℕ) {σ : Store} {a : Action} {m : ℕ} {r : Rest} {τ : Store} → Acts o σ a m r τ → Member (act (names.Step o Whole) m r τ) (own_acts a o c σ)
+  by_own o c skips = here refl
+  by_own o c is_critical = here refl
+  by_own o c is_noncritical = here refl
+  by_own o c assigns = here refl
+  by_own o c (awaits h) = pick_true _ _ _ h (here refl)
+  by_own o c (requests h) = pick_true _ _ _ h (here refl)
+  by_own o c releases = here refl
+  by_own o c (if_holds h) = pick_true _ _ _ h (here refl)
+  by_own o c (if_fails h) = pick_false _ _ _ h (here refl)
+  by_own o c (either_holds h) = pick_true _ _ _ h (here refl)
+  by_own o c (either_fails h) = pick_false _ _ _ h (here refl)
+  by_own o c (while_holds h) = pick_true _ _ _ h (here refl)
+  by_own o c (while_fails h) = pick_false _ _ _ h (here refl)
+  by_own o c {σ} (walks {xs = xs} {k = k} {path = path} {τ = τ} q w) =
+      let e : 1 + k ≡ suc k = omega arith in
+      subst (λ z. Member (act (names.Step o Whole) z Done τ) (path_acts o 1 (paths_along xs) σ)) e (path_row o 1 k (paths_along xs) path σ τ q w)
 
-    pub in_lists : {rs rs' : Rests} {σ τ : Store} {n : TransName} {m : ℕ} → Steps p rs σ n m rs' τ → Member (act n m rs' τ) (steps_of rs p σ)
+  mutual
+    pub in_list : {r : Rest} {σ : Store} {x : Act Rest} → Step p σ r x → Member x (steps r p σ)
+    in_list {σ = σ} (by_itself {o = o} {a = a} st acts) = at_run o st.0 a σ _ st.1 (by_own o (length (all_spots p) + st.0) acts)
+    in_list {σ = σ} (in_block {b = b} {ss = ss} st d) =
+        at_run b st.0 (Tree.block ss) σ _ st.1 (block_row ss b st.1.0 st.1.1 st.0 σ _ (found_has p numbered b _ st.1.2) (in_list d))
+    in_list {σ = σ} (in_branch {o = o} {ss = ss} st i d) =
+        at_run o st.0 (Tree.select ss) σ _ st.1 (among_row st.1.1 st.0 σ _ (λ y j. (whole p).closed_in (at_spot (stated o st.1.0 (Tree.select ss)) st.1.1 st.0) y (found_has p numbered o _ st.1.2) (there j)) i (in_list d))
+    in_list (enters st) = at_run _ _ _ _ _ st (here refl)
+    in_list (in_child {o = o} d) = member_left _ (map_member (around (Inside o)) (in_lists d))
+    in_list {σ = σ} (leaves {o = o} {rs = rs} h) = member_right (map (around (Inside o)) (steps_of rs p σ)) (pick_true _ _ _ h (here refl))
+    in_list {σ = σ} (in_front {b = b} {k = k} {y = y} {r = r} {x = x} h d) =
+        subst (λ z. Member (around (λ z. join y.0 z b k) x) (joined_acts z b k (steps r p σ))) (sym h) (map_member (around (λ z. join y.0 z b k)) (in_list d))
+    in_list (in_loop {w = w} d) = map_member (around (back w)) (in_list d)
+
+    pub in_lists : {rs : Rests} {σ : Store} {x : Act Rests} → Steps p σ rs x → Member x (steps_of rs p σ)
     in_lists (here_one {rs = rs} d) = member_left _ (map_member (around (λ x. rests x rs)) (in_list d))
-    in_lists (there_one {σ = σ} {r = r} {rs = rs} d) = member_right (map (around (λ x. rests x rs)) (steps r p σ)) (map_member (around (λ xs. rests r xs)) (in_lists d))
+    in_lists {σ = σ} (there_one {r = r} {rs = rs} d) = member_right (map (around (λ x. rests x rs)) (steps r p σ)) (map_member (around (λ xs. rests r xs)) (in_lists d))
 
   -- the other way round
-  stands : (o l : ℕ) (a : Action) (next c : ℕ) → Member (at_spot (stated o l a) next c) (all_spots p) → Stands p o a c
-  stands o l a next c h = (l, next, found p numbered (at_spot (stated o l a) next c) h)
+  stands : (o l : ℕ) (a : Action) (next c : ℕ) → Member (at_spot (stated o l a) next c) (all_spots p) → Stands p o a
+  stands o l a next c h = (c, (l, next, found p numbered (at_spot (stated o l a) next c) h))
 
   abbrev Row : Rest → Store → Act Rest → Type 0
-  Row r σ a = Step p r σ a.name a.mode a.left a.store
+  Row r σ a = Step p σ r a
 
   of_one : {r : Rest} {σ : Store} (a b : Act Rest) → Member a (b ∷ []) → Row r σ b → Row r σ a
   of_one {r} {σ} a b (here q) d = subst (Row r σ) (sym q) d
@@ -141,25 +146,25 @@ module _ (p : Processes) (numbered : IsNumbered p) where
       at_path (Some τ) q m =
           let r = places 0 path refl in
           let e : suc r.0 ≡ j = let f : suc r.0 ≡ j + 0 = r.2 in omega arith in
-          of_one a _ m (subst (λ z. Step p (Run o) σ (names.Step o Whole) z Done τ) e (walk (stands o l (Tree.group xs) next c h) r.1 q))
+          of_one a _ m (subst (λ z. Row (Run o) σ (act (names.Step o Whole) z Done τ)) e (by_itself (stands o l (Tree.group xs) next c h) (walks r.1 q)))
 
   mutual
     pub in_rows : (s : Statement) (next c : ℕ) (σ : Store) (a : Act Rest) → Member (at_spot s next c) (all_spots p) → Member a (first_acts s (length (all_spots p) + c) σ) → Row (Run (occurrence s)) σ a
-    in_rows (stated o l Tree.skip) next c σ a h m = of_one a _ m (skip (stands _ l _ next c h))
-    in_rows (stated o l Tree.critical) next c σ a h m = of_one a _ m (critical (stands _ l _ next c h))
-    in_rows (stated o l Tree.noncritical) next c σ a h m = of_one a _ m (noncritical (stands _ l _ next c h))
-    in_rows (stated o l (Tree.assign xs)) next c σ a h m = of_one a _ m (assign_all (stands _ l _ next c h))
-    in_rows (stated o l (Tree.await t)) next c σ a h m = if_only a _ t (holds t σ) refl m (λ q. await (stands _ l _ next c h) q)
-    in_rows (stated o l (Tree.request v)) next c σ a h m = if_only a _ (row (one_less v)) (holds (row (one_less v)) σ) refl m (λ q. request (stands _ l _ next c h) q)
-    in_rows (stated o l (Tree.release v)) next c σ a h m = of_one a _ m (release (stands _ l _ next c h))
-    in_rows (stated o l (Tree.if_then t y)) next c σ a h m = by_if a _ _ t (holds t σ) refl m (λ q. if_true (stands _ l _ next c h) q) (λ q. if_false (stands _ l _ next c h) q)
-    in_rows (stated o l (Tree.if_else t y z)) next c σ a h m = by_if a _ _ t (holds t σ) refl m (λ q. if_else_true (stands _ l _ next c h) q) (λ q. if_else_false (stands _ l _ next c h) q)
-    in_rows (stated o l (Tree.while_do t b)) next c σ a h m = by_if a _ _ t (holds t σ) refl m (λ q. while_true (stands _ l _ next c h) q) (λ q. while_false (stands _ l _ next c h) q)
+    in_rows (stated o l Tree.skip) next c σ a h m = of_one a _ m (by_itself (stands _ l _ next c h) skips)
+    in_rows (stated o l Tree.critical) next c σ a h m = of_one a _ m (by_itself (stands _ l _ next c h) is_critical)
+    in_rows (stated o l Tree.noncritical) next c σ a h m = of_one a _ m (by_itself (stands _ l _ next c h) is_noncritical)
+    in_rows (stated o l (Tree.assign xs)) next c σ a h m = of_one a _ m (by_itself (stands _ l _ next c h) assigns)
+    in_rows (stated o l (Tree.await t)) next c σ a h m = if_only a _ t (holds t σ) refl m (λ q. by_itself (stands _ l _ next c h) (awaits q))
+    in_rows (stated o l (Tree.request v)) next c σ a h m = if_only a _ (row (one_less v)) (holds (row (one_less v)) σ) refl m (λ q. by_itself (stands _ l _ next c h) (requests q))
+    in_rows (stated o l (Tree.release v)) next c σ a h m = of_one a _ m (by_itself (stands _ l _ next c h) releases)
+    in_rows (stated o l (Tree.if_then t y)) next c σ a h m = by_if a _ _ t (holds t σ) refl m (λ q. by_itself (stands _ l _ next c h) (if_holds q)) (λ q. by_itself (stands _ l _ next c h) (if_fails q))
+    in_rows (stated o l (Tree.if_else t y z)) next c σ a h m = by_if a _ _ t (holds t σ) refl m (λ q. by_itself (stands _ l _ next c h) (either_holds q)) (λ q. by_itself (stands _ l _ next c h) (either_fails q))
+    in_rows (stated o l (Tree.while_do t b)) next c σ a h m = by_if a _ _ t (holds t σ) refl m (λ q. by_itself (stands _ l _ next c h) (while_holds q)) (λ q. by_itself (stands _ l _ next c h) (while_fails q))
     in_rows (stated o l (Tree.block ss)) next c σ a h m = rows_along ss o l next c σ a h m
     in_rows (stated o l (Tree.select ss)) next c σ a h m =
         let r = rows_among ss next c σ a (λ y j. (whole p).closed_in (at_spot (stated o l (Tree.select ss)) next c) y h (there j)) m in
-        select (stands _ l _ next c h) r.1 r.2
-    in_rows (stated o l (Tree.cooperate ps)) next c σ a h m = of_one a _ m (enter (stands _ l _ next c h))
+        in_branch (stands _ l _ next c h) r.1 r.2
+    in_rows (stated o l (Tree.cooperate ps)) next c σ a h m = of_one a _ m (enters (l, next, found p numbered (at_spot (stated o l (Tree.cooperate ps)) next c) h))
     in_rows (stated o l (Tree.group xs)) next c σ a h m = of_path o l next c xs σ a h (paths_along xs) 1 (λ k path q. (k, q, omega arith)) m
 
     rows_along : (ss : Statements) (o l next c : ℕ) (σ : Store) (a : Act Rest) → Member (at_spot (stated o l (Tree.block ss)) next c) (all_spots p) → Member a (acts_along ss o (length (all_spots p) + c) σ) → Row (Run o) σ a
@@ -168,13 +173,13 @@ module _ (p : Processes) (numbered : IsNumbered p) where
         let x = member_map (around (λ r. join (statement s no_statement) r o 1)) a _ m in
         let d = in_rows s next c σ x.0 ((whole p).closed_in (at_spot (stated o l (Tree.block (statement s no_statement))) next c) _ h (there (member_left _ (own_first s next c)))) x.1 in
         let e : a ≡ x.0 = x.2 ∙ ap (λ r. record { name = x.0.name; mode = x.0.mode; left = r; store = x.0.store }) (join_last s o x.0.left) in
-        subst (Row (Run o) σ) (sym e) (block (stands _ l _ next c h) d)
+        subst (Row (Run o) σ) (sym e) (in_block (stands _ l _ next c h) d)
     rows_along (statement s (statement r ss)) o l next c σ a h m =
         let all = statement s (statement r ss) in
         let x = member_map (around (λ z. join all z o 1)) a _ m in
         let d = in_rows s (entry (statement r ss) next) c σ x.0 ((whole p).closed_in (at_spot (stated o l (Tree.block all)) next c) _ h (there (member_left _ (own_first s (entry (statement r ss) next) c)))) x.1 in
         let named = body_of_block p numbered o l all next c h in
-        subst (Row (Run o) σ) (sym x.2) (block (stands _ l _ next c h) (then_step named d))
+        subst (Row (Run o) σ) (sym x.2) (in_block (stands _ l _ next c h) (in_front named d))
 
     rows_among : (ss : Statements) (next c : ℕ) (σ : Store) (a : Act Rest) → ((y : Spot) → Member y (spots_among ss next c) → Member y (all_spots p)) → Member a (acts_among ss (length (all_spots p) + c) σ) → (s : Statement) × Branch s ss × Row (Run (occurrence s)) σ a
     rows_among no_statement next c σ a sub m = member_none m
@@ -201,26 +206,26 @@ module _ (p : Processes) (numbered : IsNumbered p) where
         behind_body None q m down = member_none m
         behind_body (Some x) q m down =
             let y = member_map (around (λ z. join x.0 z b k)) a _ m in
-            subst (Row (Then r b k) σ) (sym y.2) (then_step q (down y.0 y.1))
+            subst (Row (Then r b k) σ) (sym y.2) (in_front q (down y.0 y.1))
     of_list (Again r w) σ a m =
         let y = member_map (around (back w)) a _ m in
-        subst (Row (Again r w) σ) (sym y.2) (again_step (of_list r σ y.0 y.1))
+        subst (Row (Again r w) σ) (sym y.2) (in_loop (of_list r σ y.0 y.1))
     of_list (Inside c rs) σ a m =
         either (member_cases (map (around (Inside c)) (steps_of rs p σ)) m)
-        (λ m. let y = member_map (around (Inside c)) a _ m in subst (Row (Inside c rs) σ) (sym y.2) (child (of_lists rs σ y.0 y.1)))
+        (λ m. let y = member_map (around (Inside c)) a _ m in subst (Row (Inside c rs) σ) (sym y.2) (in_child (of_lists rs σ y.0 y.1)))
         (λ m. at_end (all_done rs) refl m)
       where
         at_end : (b : Bool) → all_done rs ≡ b → Member a (if b then act (names.Step c Exit) 1 Done σ ∷ [] else []) → Row (Inside c rs) σ a
-        at_end true q m = of_one a _ m (leave q)
+        at_end true q m = of_one a _ m (leaves q)
         at_end false q m = member_none m
 
-    pub of_lists : (rs : Rests) (σ : Store) (a : Act Rests) → Member a (steps_of rs p σ) → Steps p rs σ a.name a.mode a.left a.store
+    pub of_lists : (rs : Rests) (σ : Store) (a : Act Rests) → Member a (steps_of rs p σ) → Steps p σ rs a
     of_lists no_rest σ a m = member_none m
     of_lists (rests r rs) σ a m =
         either (member_cases (map (around (λ x. rests x rs)) (steps r p σ)) m)
         (λ m.
         let y = member_map (around (λ x. rests x rs)) a _ m in
-        subst (λ z. Steps p (rests r rs) σ z.name z.mode z.left z.store) (sym y.2) (here_one (of_list r σ y.0 y.1)))
+        subst (Steps p σ (rests r rs)) (sym y.2) (here_one (of_list r σ y.0 y.1)))
         (λ m.
         let y = member_map (around (λ xs. rests r xs)) a _ m in
-        subst (λ z. Steps p (rests r rs) σ z.name z.mode z.left z.store) (sym y.2) (there_one (of_lists rs σ y.0 y.1)))
+        subst (Steps p σ (rests r rs)) (sym y.2) (there_one (of_lists rs σ y.0 y.1)))

@@ -21,7 +21,8 @@ use Rattle.spl_semantics.specs.Control.{children_of, children_at}
 use Rattle.spl_semantics.specs.Runs.{State, Reached, control, image}
 use Rattle.spl_semantics.specs.Facts.{MeetsControl}
 use Rattle.spl_semantics.proofs.Members.{member_none, member_left, member_right, member_cases}
-use Rattle.spl_semantics.proofs.Texts.{either, near_along, found, along_region}
+use Rattle.spl_semantics.proofs.Texts.{near_along, found, along_region}
+use Rattle.basic_laws.proofs.Types.{either}
 use Rattle.spl_semantics.proofs.Fits.{location_of, Layout, Fits, FitsAll}
 use Rattle.spl_semantics.proofs.Bodies.{HasAt, has_front, has_back, has_all}
 use Rattle.spl_semantics.proofs.Layouts.{layout_of, ends_of, apart_of}

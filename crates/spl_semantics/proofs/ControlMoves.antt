@@ -11,7 +11,8 @@ use Rattle.st_program.specs.Spots.{bodies_of, at_spot, all_spots}
 use Rattle.st_program.specs.Programs.{WellFormed}
 use Rattle.st_program.specs.Residuals.{Rests}
 use Rattle.spl_semantics.specs.Stores.{Store}
-use Rattle.spl_semantics.specs.Steps.{Act, begin, steps_of}
+use Rattle.spl_semantics.specs.Steps.{steps_of}
+use Rattle.spl_semantics.specs.Going.{Act, begin}
 use Rattle.spl_semantics.specs.Control.{starts, ends, fronts}
 use Rattle.spl_semantics.proofs.TextMoves.{Move, spot_moves, all_moves}
 use Rattle.spl_semantics.specs.Names.{all_names}
@@ -19,7 +20,8 @@ use Rattle.spl_semantics.specs.Runs.{State, Leads, Reached, first, next, control
 use Rattle.spl_semantics.proofs.Moving.{Moves, NamedMove, StepsAreMoves, MovesAreSteps, ControlMoves}
 use Rattle.spl_semantics.proofs.ByCases.{behind_act, listed}
 use Rattle.spl_semantics.proofs.Members.{member_left, member_right, member_cases}
-use Rattle.spl_semantics.proofs.Texts.{either, Has, same_number}
+use Rattle.spl_semantics.proofs.Texts.{Has, same_number}
+use Rattle.basic_laws.proofs.Types.{either}
 use Rattle.spl_semantics.proofs.Fits.{fronts_to, Layout, FitsAll}
 use Rattle.spl_semantics.proofs.Bodies.{has_all, begin_at}
 use Rattle.spl_semantics.proofs.Follows.{LandsAll, all_leads}

@@ -6,10 +6,12 @@ use Rattle.st_program.specs.Member.{Member, here, there}
 use Rattle.st_program.specs.Spots.{entry, bodies, bodies_in, bodies_of, Body, Spot, at_spot, spots, spots_along, spots_among, spots_inside, all_spots, body}
 use Rattle.st_program.specs.Residuals.{Rest, Done, Run, Then, Again, Inside, Rests, no_rest, rests}
 use Rattle.spl_semantics.specs.Stores.{Store}
-use Rattle.spl_semantics.specs.Steps.{Act, around, join, joined_acts, back, first_acts, acts_along, acts_among, acts_at, steps, steps_of}
+use Rattle.spl_semantics.specs.Steps.{joined_acts, first_acts, acts_along, acts_among, acts_at, steps, steps_of}
+use Rattle.spl_semantics.specs.Going.{Act, around, join, back}
 use Rattle.spl_semantics.specs.Control.{children_at, location_at}
 use Rattle.spl_semantics.proofs.Members.{member_none, member_left, member_right, member_cases, map_member}
-use Rattle.spl_semantics.proofs.Texts.{either, Has, same_number, near_along, Region, along_region}
+use Rattle.spl_semantics.proofs.Texts.{Has, same_number, near_along, Region, along_region}
+use Rattle.basic_laws.proofs.Types.{either}
 use Rattle.spl_semantics.proofs.Fits.{location_or, body_place, location_of, front_to, fronts_to, IsGoing, IsActing, firsts, firsts_along, firsts_among, Layout, Fits, FitsAll}
 use Rattle.spl_semantics.proofs.Bodies.{HasAt, has_back, own_bodies}
 

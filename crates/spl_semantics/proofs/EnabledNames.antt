@@ -9,8 +9,10 @@ use Rattle.st_program.specs.Residuals.{Rests}
 use Rattle.st_program.specs.Spots.{IsNumbered}
 use Rattle.st_program.specs.Tree.{Processes}
 use Rattle.spl_semantics.specs.Names.{same_name}
-use Rattle.spl_semantics.specs.Steps.{Act, steps_of}
-use Rattle.spl_semantics.specs.Runs.{State, Leads, is_enabled}
+use Rattle.spl_semantics.specs.Steps.{steps_of}
+use Rattle.spl_semantics.specs.Going.{Act}
+use Rattle.spl_semantics.specs.Runs.{State, Leads}
+use Rattle.spl_semantics.specs.Observed.{is_enabled}
 use Rattle.spl_semantics.proofs.ByCases.{behind_act, listed, by_cases}
 use Rattle.spl_semantics.proofs.NameOrder.{same_name_is, name_same}
 

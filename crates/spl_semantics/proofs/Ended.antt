@@ -11,10 +11,12 @@ use Rattle.st_program.specs.Member.{Member, here, there}
 use Rattle.st_program.specs.Spots.{bodies_in, Spot, at_spot, spots_along, spots_inside, all_spots, body}
 use Rattle.st_program.specs.Residuals.{Rest, Done, Run, Then, Again, Inside, Rests, no_rest, rests}
 use Rattle.spl_semantics.specs.Stores.{Store}
-use Rattle.spl_semantics.specs.Steps.{Act, act, around, join, joined_acts, back, all_done, steps, steps_of}
+use Rattle.spl_semantics.specs.Steps.{joined_acts, steps, steps_of}
+use Rattle.spl_semantics.specs.Going.{Act, act, around, join, back, all_done}
 use Rattle.spl_semantics.specs.Control.{children_of, children_at, location_at, ends}
 use Rattle.spl_semantics.proofs.Members.{member_none, member_left, member_right, member_cases}
-use Rattle.spl_semantics.proofs.Texts.{either, Has, same_number, near_along, Region, along_region}
+use Rattle.spl_semantics.proofs.Texts.{Has, same_number, near_along, Region, along_region}
+use Rattle.basic_laws.proofs.Types.{either}
 use Rattle.spl_semantics.proofs.Fits.{location_or, body_place, location_of, front_to, fronts_to, IsGoing, Layout, Fits, FitsAll}
 use Rattle.spl_semantics.proofs.Enabled.{Does, does_around, does_left, does_right}
 

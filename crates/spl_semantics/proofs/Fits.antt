@@ -8,7 +8,7 @@ use Rattle.st_program.specs.Tree.{Statement, stated, skip, if_then, if_else, whi
 use Rattle.st_program.specs.Member.{Member}
 use Rattle.st_program.specs.Spots.{bodies_in, Body, Spot, at_spot, spots_along, all_spots, spot, IsNumbered, body}
 use Rattle.st_program.specs.Residuals.{Rest, Done, Run, Then, Again, Inside, Rests, no_rest, rests}
-use Rattle.spl_semantics.specs.Steps.{behind, go_on, join, back}
+use Rattle.spl_semantics.specs.Going.{behind, go_on, join, back}
 use Rattle.spl_semantics.specs.Control.{children_at, location_at}
 use Rattle.spl_semantics.proofs.Texts.{near_along, Has, Region, found}
 

@@ -12,11 +12,13 @@ use Rattle.st_program.specs.Spots.{entry, bodies, bodies_in, Spot, at_spot, spot
 use Rattle.st_program.specs.Groups.{Link, paths_along}
 use Rattle.st_program.specs.Residuals.{Rest, Done, Run, Then, Again, Inside, Rests, no_rest, rests}
 use Rattle.spl_semantics.specs.Stores.{Store, holds, walked, one_less}
-use Rattle.spl_semantics.specs.Steps.{Act, act, around, join, joined_acts, back, begin, all_done, path_act, path_acts, first_acts, acts_along, acts_among, acts_at, steps, steps_of}
+use Rattle.spl_semantics.specs.Steps.{joined_acts, path_act, path_acts, first_acts, acts_along, acts_among, acts_at, steps, steps_of}
+use Rattle.spl_semantics.specs.Going.{Act, act, around, join, back, begin, all_done}
 use Rattle.spl_semantics.specs.Control.{children_at, location_at, ends}
 use Rattle.spl_semantics.proofs.TextMoves.{Move, path_moves, spot_moves, all_moves}
 use Rattle.spl_semantics.proofs.Members.{member_none, member_left, member_right, member_cases, member_map}
-use Rattle.spl_semantics.proofs.Texts.{either, Has, found, own_first, near, near_along, near_among, near_first, Region, along_region}
+use Rattle.spl_semantics.proofs.Texts.{Has, found, own_first, near, near_along, near_among, near_first, Region, along_region}
+use Rattle.basic_laws.proofs.Types.{either}
 use Rattle.spl_semantics.proofs.Fits.{location_or, place_at, body_place, location_of, front_to, fronts_to, Top, SameLocs, Layout, Fits, FitsAll, run_at, join_at, back_at}
 use Rattle.spl_semantics.proofs.Bodies.{entry_is, own_bodies, body_of_block, in_body, begin_at}
 

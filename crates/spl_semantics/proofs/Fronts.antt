@@ -6,7 +6,8 @@ use Rattle.st_program.specs.Spots.{bodies_in, Spot, at_spot, spots_along, spots_
 use Rattle.st_program.specs.Residuals.{Rest, Done, Run, Then, Again, Inside, Rests, no_rest, rests}
 use Rattle.spl_semantics.specs.Control.{children_at, location_at, front, fronts}
 use Rattle.spl_semantics.proofs.Members.{member_none, member_left, member_right, member_cases}
-use Rattle.spl_semantics.proofs.Texts.{either, near_along, Region, along_region}
+use Rattle.spl_semantics.proofs.Texts.{near_along, Region, along_region}
+use Rattle.basic_laws.proofs.Types.{either}
 use Rattle.spl_semantics.proofs.Fits.{location_or, body_place, location_of, front_to, fronts_to, IsGoing, Layout, Fits, FitsAll}
 use Rattle.spl_semantics.proofs.Ended.{Spans, Ends, above, below}
 

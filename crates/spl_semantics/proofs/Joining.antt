@@ -8,7 +8,7 @@ use Rattle.st_program.specs.declared.residuals.Residual as GResidual
 use Rattle.st_program.specs.Tree.{Statement, Statements, nth}
 use Rattle.st_program.specs.Plain.{plain_stmt, plain_stmts}
 use Rattle.st_program.specs.Residuals.{Rest, Done, Run, Then, Again, Inside, Rests, rests, plain_residual, plain_residuals}
-use Rattle.spl_semantics.specs.Steps.{behind, go_on, join, back, all_done}
+use Rattle.spl_semantics.specs.Going.{behind, go_on, join, back, all_done}
 use Rattle.spl_semantics.specs.Data.{is_done}
 
 nth_in : (xs : List GStmt.Stmt) (k : ℕ) (d : GStmt.Stmt) → k < length xs → nth (plain_stmts xs) k ≡ Some (plain_stmt (get_or xs k d))

@@ -10,11 +10,13 @@ use Rattle.spl_semantics.specs.Stores.{Store, holds, one_less, walked}
 use Rattle.st_form.specs.Formula.{row}
 use Rattle.spl_semantics.specs.Control.{children_of}
 use Rattle.spl_semantics.specs.Fitting.{IsLoop, FitsRest, FitsEach, FitsProgram}
-use Rattle.spl_semantics.specs.Steps.{Act, around, behind, go_on, join, back, begin, all_done, path_act, path_acts, first_acts, own_acts, acts_along, acts_among, acts_at, joined_acts, steps, steps_of}
+use Rattle.spl_semantics.specs.Steps.{path_act, path_acts, first_acts, own_acts, acts_along, acts_among, acts_at, joined_acts, steps, steps_of}
+use Rattle.spl_semantics.specs.Going.{Act, around, behind, go_on, join, back, begin, all_done}
 use Rattle.spl_semantics.proofs.Bodies.{HasAt, along_item, has_front, has_back, has_all, own_bodies, body_of_component, body_of_block}
 use Rattle.spl_semantics.proofs.Fits.{place_at}
 use Rattle.spl_semantics.proofs.Members.{member_none, member_left, member_right, member_cases, member_map, at_member}
-use Rattle.spl_semantics.proofs.Texts.{either, Has, found, own_first, closed_inside}
+use Rattle.spl_semantics.proofs.Texts.{Has, found, own_first, closed_inside}
+use Rattle.basic_laws.proofs.Types.{either}
 
 -- the statements of a component stand in the text
 module _ (x : Body) where

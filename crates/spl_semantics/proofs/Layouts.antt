@@ -10,7 +10,7 @@ use Rattle.st_program.specs.Locations.{location_end, within_end, head_end, along
 use Rattle.st_program.specs.Programs.{WellFormed}
 use Rattle.spl_semantics.specs.Control.{children_of, ends}
 use Rattle.spl_semantics.proofs.Members.{member_none, member_left, member_right, member_cases, at_member}
-use Rattle.spl_semantics.proofs.Texts.{either}
+use Rattle.basic_laws.proofs.Types.{either}
 use Rattle.spl_semantics.proofs.Fits.{IsActing, firsts, firsts_along, firsts_among, Top, AllTop, ProcessTops, TopOk, SameLocs, HeadOk, Layout}
 use Rattle.spl_semantics.proofs.Enabled.{Apart}
 use Rattle.spl_semantics.proofs.Ended.{Between, InSpan, Spans, Ends}

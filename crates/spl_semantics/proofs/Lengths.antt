@@ -9,7 +9,7 @@ use Rattle.st_program.specs.Tree.{Statement, stated, Action, skip, if_then, if_e
 use Rattle.st_program.specs.Plain.{plain_stmts}
 use Rattle.st_program.specs.Spots.{entry, Body, bodies, bodies_inside, bodies_in, bodies_of, Spot, spots, spots_within, spots_along, spots_among, spots_inside, all_spots, spot, block_items, items_of, body}
 use Rattle.spl_semantics.proofs.Members.{member_none, member_cases, at_member}
-use Rattle.spl_semantics.proofs.Texts.{either}
+use Rattle.basic_laws.proofs.Types.{either}
 
 abbrev count : Statements → ℕ
 count no_statement = 0

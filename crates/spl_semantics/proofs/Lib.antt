@@ -26,6 +26,7 @@ pub mod Joining
 pub mod Counting
 pub mod Starting
 pub mod EnabledNames
+pub mod SeenRuns
 pub mod Walking
 pub mod Pieces
 pub mod Acting

@@ -7,7 +7,8 @@ use Rattle.st_program.specs.Member.{Member}
 use Rattle.st_program.specs.Spots.{all_spots}
 use Rattle.st_program.specs.Residuals.{Rests}
 use Rattle.spl_semantics.specs.Stores.{Store}
-use Rattle.spl_semantics.specs.Steps.{Act, steps_of}
+use Rattle.spl_semantics.specs.Steps.{steps_of}
+use Rattle.spl_semantics.specs.Going.{Act}
 use Rattle.spl_semantics.proofs.TextMoves.{Move, all_moves}
 use Rattle.spl_semantics.specs.Runs.{State, Reached, control}
 use Rattle.spl_semantics.proofs.ByCases.{behind_act}

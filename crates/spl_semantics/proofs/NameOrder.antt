@@ -14,7 +14,8 @@ use Rattle.st_program.specs.Spots.{Spot, all_spots, IsNumbered}
 use Rattle.spl_semantics.specs.Names.{own_names, all_names, same_part, same_name}
 use Rattle.spl_semantics.specs.Runs.{place_in, place_of}
 use Rattle.spl_semantics.proofs.Members.{member_none, member_cases}
-use Rattle.spl_semantics.proofs.Texts.{either}
+use Rattle.basic_laws.proofs.Types.{either}
+use Rattle.basic_laws.proofs.Truths.{both_true}
 
 abbrev pub Named : Type 0
 Named = TransName × Fairness
@@ -34,10 +35,6 @@ part_same : (q : Part) → same_part q q ≡ true
 part_same Whole = refl
 part_same Entry = refl
 part_same Exit = refl
-
-both_true : (a b : Bool) → (a && b) ≡ true → (a ≡ true) × (b ≡ true)
-both_true true b e = (refl, e)
-both_true false b e = cc
 
 pub same_name_is : (m n : TransName) → same_name m n ≡ true → m ≡ n
 same_name_is Idle Idle e = refl

@@ -16,7 +16,8 @@ use Rattle.st_program.specs.Residuals.{Rest, Done, Inside, Rests, rests, plain_r
 use Rattle.st_program.specs.Spots.{Body}
 use Rattle.spl_semantics.specs.Stores.{Store}
 use Rattle.spl_semantics.specs.Limits.{wide_rest, wide_rests}
-use Rattle.spl_semantics.specs.Steps.{Act, act, around, all_done, join, joined_acts, steps, steps_of}
+use Rattle.spl_semantics.specs.Steps.{joined_acts, steps, steps_of}
+use Rattle.spl_semantics.specs.Going.{Act, act, around, all_done, join}
 use Rattle.spl_semantics.specs.Plain.{plain_act, plain_acts, act_stores, move_stores, AllOfTypes, in_front}
 
 twice-around : {X Y Z : Type 0} (f : Y → Z) (g : X → Y) (h : X → Z) → ((x : X) → f (g x) ≡ h x) → (acts : List (Act X)) → map (around f) (map (around g) acts) ≡ map (around h) acts

@@ -14,12 +14,13 @@ use Rattle.st_program.specs.Spots.{Spot, all_spots}
 use Rattle.st_program.specs.Groups.{Link, paths_along}
 use Rattle.st_program.specs.Residuals.{Rest, Done, Run, Again, Inside}
 use Rattle.spl_semantics.specs.Stores.{Store, holds, assigned, walked, one_less, one_more}
-use Rattle.spl_semantics.specs.Steps.{Act, act, begin, path_act, path_acts, first_acts}
+use Rattle.spl_semantics.specs.Steps.{path_act, path_acts, first_acts}
+use Rattle.spl_semantics.specs.Going.{Act, act, begin}
 use Rattle.spl_semantics.specs.Names.{own_names, all_names}
 use Rattle.spl_semantics.specs.Control.{ends}
 use Rattle.spl_semantics.proofs.TextMoves.{Move, test_moves, path_moves, own_moves, spot_moves, all_moves}
 use Rattle.spl_semantics.proofs.Members.{member_none, member_left, member_right, member_cases}
-use Rattle.spl_semantics.proofs.Texts.{either}
+use Rattle.basic_laws.proofs.Types.{either}
 use Rattle.spl_semantics.proofs.Fits.{IsActing}
 
 -- an act of the statement that the move is

@@ -14,12 +14,15 @@ use Rattle.st_program.specs.Tree.{Processes}
 use Rattle.st_program.specs.Member.{Member, here, there}
 use Rattle.st_program.specs.Spots.{IsNumbered}
 use Rattle.st_program.specs.Residuals.{Rests}
-use Rattle.spl_semantics.specs.Steps.{Act, steps_of}
+use Rattle.spl_semantics.specs.Steps.{steps_of}
+use Rattle.spl_semantics.specs.Going.{Act}
 use Rattle.spl_semantics.specs.Names.{all_names, same_name}
-use Rattle.spl_semantics.specs.Runs.{State, LeadsBy, Leads, Follows, image, is_enabled, enabled_names, seen, place_of, observed}
+use Rattle.spl_semantics.specs.Runs.{State, LeadsBy, Leads, Follows, image, place_of}
+use Rattle.spl_semantics.specs.Observed.{is_enabled, enabled_names, seen, observed}
 use Rattle.spl_semantics.specs.Facts.{GoesOn}
 use Rattle.spl_semantics.proofs.ByCases.{behind_act, by_cases}
 use Rattle.spl_semantics.proofs.NameOrder.{Named, same_name_is, place_at}
+use Rattle.spl_semantics.proofs.SeenRuns.{observed_seen}
 
 -- an observation of other states, with the same names
 module _ {S T : Type 0} (f : S → T) where
@@ -195,6 +198,8 @@ module _ (p : Processes) (numbered : IsNumbered p) where
       record {
         more = more;
         follow = run.0;
+        seen = observed p s (later ++ more);
+        seen_of = observed_seen p numbered s (later ++ more);
         begin = ends.begin;
         behind = let h = ends.behind in let e = whole_length later in omega arith;
         rounds = subst (λ z. Rounds z n ends.begin (length (later ++ more))) (seen_whole s (later ++ more)) (other_rounds (image p) (whole_run s (later ++ more)) n ends.begin (length (later ++ more)) counted);

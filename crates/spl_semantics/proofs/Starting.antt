@@ -7,7 +7,7 @@ use Rattle.st_program.specs.declared.residuals.Residual as GResidual
 use Rattle.st_program.specs.Plain.{plain_stmts, plain_children}
 use Rattle.st_program.specs.Residuals.{Rest, Done, Rests, no_rest, rests, rests_of, plain_residual, plain_residuals}
 use Rattle.st_program.specs.Spots.{bodies_in}
-use Rattle.spl_semantics.specs.Steps.{join, begin}
+use Rattle.spl_semantics.specs.Going.{join, begin}
 use Rattle.spl_semantics.proofs.Counting.{next-child}
 
 abbrev pub rest_list : Rests → List Rest

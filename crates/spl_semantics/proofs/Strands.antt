@@ -12,8 +12,10 @@ use Rattle.control_states.specs.Control.{ComponentFacts, IsOneOf}
 use Rattle.control_facts.specs.Alternatives.{own, own_within, own_among, once, inside_at, alternatives_at, alternatives_of, strands, strands_within, strands_among, strands_inside, owners, owners_head, owners_along, owners_among, owners_inside}
 use Rattle.control_facts.proofs.Owners.{owned}
 use Rattle.spl_semantics.proofs.Members.{member_none, member_left, member_right, member_cases, map_member}
-use Rattle.spl_semantics.proofs.Texts.{either, near, near_within, near_along, near_among}
+use Rattle.spl_semantics.proofs.Texts.{near, near_within, near_along, near_among}
+use Rattle.basic_laws.proofs.Types.{either}
 use Rattle.spl_semantics.proofs.Bodies.{HasAt, has_front, has_back}
+use Rattle.basic_laws.proofs.Numbers.{same_test}
 
 -- a statement near in a part of the text is one of its own
 mutual
@@ -72,9 +74,6 @@ pub one_of : (a : Alternative) (bs : List Alternative) → Member a bs → IsOne
 one_of a [] m = member_none m
 one_of a (b ∷ bs) (here q) = inl q
 one_of a (b ∷ bs) (there m) = inr (one_of a bs m)
-
-same_test : (n : ℕ) → (n == n) ≡ true
-same_test n = grind (arith, nat_tests)
 
 -- what a component can be at
 pub at_end : (ss : Statements) (end : ℕ) → Member (Location end) (alternatives_of ss end)

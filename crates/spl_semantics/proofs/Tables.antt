@@ -8,7 +8,8 @@ use Rattle.control_states.specs.declared.alternative.Alternative.{Alternative}
 use Rattle.control_states.specs.declared.alternative.Alternative.TheVariants.{Location, Inside as Held}
 use Rattle.spl_semantics.specs.Control.{children_of, children_at, location_at, front, fronts}
 use Rattle.spl_semantics.proofs.Members.{member_none, member_left, member_right, member_cases}
-use Rattle.spl_semantics.proofs.Texts.{either, near_along}
+use Rattle.spl_semantics.proofs.Texts.{near_along}
+use Rattle.basic_laws.proofs.Types.{either}
 use Rattle.spl_semantics.proofs.Fits.{location_of, Layout, Fits, FitsAll}
 use Rattle.spl_semantics.proofs.Ended.{only}
 

@@ -4,10 +4,7 @@ use Rattle.st_program.specs.Tree.{Statement, stated, Action, skip, if_then, if_e
 use Rattle.st_program.specs.Member.{Member, here, there}
 use Rattle.st_program.specs.Spots.{entry, bodies, Spot, at_spot, spots, spots_within, spots_along, spots_among, spots_inside, all_spots, spot, IsNumbered}
 use Rattle.spl_semantics.proofs.Members.{member_none, member_left, member_right, member_cases, member_at, at_member}
-
-pub either : {A B C : Type 0} → A ⊎ B → (A → C) → (B → C) → C
-either (inl a) f g = f a
-either (inr b) f g = g b
+use Rattle.basic_laws.proofs.Types.{either}
 
 abbrev pub own_spots : Spot → List Spot
 own_spots x = spots x.stmt x.next x.before

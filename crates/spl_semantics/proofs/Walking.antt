@@ -11,11 +11,13 @@ use Rattle.st_program.specs.Tree.{Piece, Pieces, piece_skip, piece_assign, piece
 use Rattle.st_program.specs.Groups.{Link, tested, given, paths, paths_along}
 use Rattle.st_program.specs.Residuals.{Rest, Done}
 use Rattle.spl_semantics.specs.Stores.{Store, holds, assigned, is_wanted, walked}
-use Rattle.spl_semantics.specs.Steps.{Act, act, path_act, path_acts}
+use Rattle.spl_semantics.specs.Steps.{path_act, path_acts}
+use Rattle.spl_semantics.specs.Going.{Act, act}
 use Rattle.spl_semantics.specs.Limits.{wide_formula, wide_targets, wide_path, wide_paths}
 use Rattle.spl_semantics.specs.Data.{PieceMeets, PiecesMeet}
 use Rattle.spl_semantics.proofs.Exits.{or_here, or_none}
 use Rattle.spl_semantics.specs.Walks.{Walk, behind_path, walk, walk_along, through, wide_walk, wide_walk_along}
+use Rattle.basic_laws.proofs.Truths.{or_false}
 
 -- the walks of a list of paths, each with its number
 abbrev run : ℕ → Option Store → List (ℕ × Store)
@@ -243,10 +245,6 @@ met_by (Some t) f = f t
 or_or : (a b c : Bool) → ((a || b) || c) ≡ (a || (b || c))
 or_or true b c = refl
 or_or false b c = refl
-
-or_false : (a : Bool) → (a || false) ≡ a
-or_false true = refl
-or_false false = refl
 
 wide-append : (p q : List Link) (s : Store) → wide_path (p ++ q) s ≡ (wide_path p s || met_by (walked p s) (λ t. wide_path q t))
 wide-append [] q s = refl

@@ -1,5 +1,7 @@
 -- Stores of the program as stores: a variable has the value of its datum.
 use Rattle.std.specs.Prelude.{◌≡◌, ◌≤◌, ℕ, Bool, length, true, false, List, [], ◌∷◌, map, slice_get, ℤ, pos, Option, Some, None, ⊤}
+use Rattle.st_form.specs.Formula.{Situation}
+use Rattle.st_form.specs.Exchange.{is_listed}
 use Rattle.st_form.specs.declared.variables.Variable.{Variable}
 use Rattle.st_program.specs.declared.residuals.Datum.{Datum}
 use Rattle.st_program.specs.declared.residuals.Datum.TheVariants.{Number, Truth}
@@ -7,7 +9,7 @@ use Rattle.st_program.specs.Tree.{Term, number, truth, Piece, Pieces, piece_skip
 use Rattle.st_program.specs.Groups.{paths_along}
 use Rattle.st_program.specs.Types.{is_truth, IsNoTarget}
 use Rattle.st_program.specs.Residuals.{Rest, Done, Run, Then, Again, Inside}
-use Rattle.spl_semantics.specs.Stores.{Store, holds}
+use Rattle.spl_semantics.specs.Stores.{Store, situation, holds}
 use Rattle.st_linear.specs.Linear.{value}
 
 -- the number of a datum, and its truth value; 0 and false where there is none
@@ -23,6 +25,10 @@ truth_in (Some (Truth b)) = b
 
 abbrev pub store_of : List Datum → Store
 store_of ds = record { numbers = λ v. number_in (slice_get ds v); truths = λ v. truth_in (slice_get ds v) }
+
+-- what is seen of the store, with control at these locations
+abbrev pub seen_at : List Datum → List ℕ → Situation
+seen_at store fronts = situation (store_of store) (λ l. is_listed l fronts)
 
 -- what a right side gives
 abbrev pub datum_of : Term → Store → Datum

@@ -15,7 +15,7 @@ use Rattle.spl_semantics.specs.declared.faults.MoveFault.{MoveFault}
 use Rattle.spl_semantics.specs.Answers.{Fails}
 use Rattle.spl_semantics.specs.Names.{same_name}
 use Rattle.spl_semantics.specs.Plain.{plain_moves}
-use Rattle.spl_semantics.specs.Steps.{Act}
+use Rattle.spl_semantics.specs.Going.{Act}
 
 -- the place of a name: names of an earlier occurrence come first, and an entry comes before its exit
 abbrev pub part_place : Part → ℕ

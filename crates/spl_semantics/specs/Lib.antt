@@ -1,9 +1,11 @@
 pub mod Stores
-pub mod Steps
+pub mod Going
 pub mod Cases
 pub mod Control
 pub mod Names
 pub mod Runs
+pub mod Steps
+pub mod Observed
 pub mod Facts
 pub mod Data
 pub mod Numbers

@@ -9,20 +9,20 @@ use Rattle.spl_semantics.specs.declared.acts.Act.{Act}
 use Rattle.spl_semantics.specs.declared.acts.Move.{Move}
 use Rattle.st_program.specs.declared.residuals.State as GState
 use Rattle.spl_semantics.specs.Runs.{State}
-use Rattle.spl_semantics.specs.Steps as steps
+use Rattle.spl_semantics.specs.Going as going
 use Rattle.spl_semantics.specs.Data.{store_of, types}
 use Rattle.spl_semantics.specs.Walks.{Walk}
 
-abbrev pub plain_act : Act → steps.Act Rest
+abbrev pub plain_act : Act → going.Act Rest
 plain_act a = record { name = a.name; mode = a.mode; left = plain_residual a.left; store = store_of a.store.items }
 
-abbrev pub plain_acts : List Act → List (steps.Act Rest)
+abbrev pub plain_acts : List Act → List (going.Act Rest)
 plain_acts xs = map plain_act xs
 
-abbrev pub plain_move : Move → steps.Act Rests
+abbrev pub plain_move : Move → going.Act Rests
 plain_move m = record { name = m.name; mode = m.mode; left = plain_residuals m.state.residuals.items; store = store_of m.state.store.items }
 
-abbrev pub plain_moves : List Move → List (steps.Act Rests)
+abbrev pub plain_moves : List Move → List (going.Act Rests)
 plain_moves xs = map plain_move xs
 
 -- the data of the stores behind steps

@@ -4,7 +4,7 @@
 ghost use Rattle.std.specs.Prelude.{◌≡◌, ◌<◌, ◌+◌, ◌++◌, IfOk, OnOk, drop, length, map, take};
 ghost use Rattle.st_program.specs.Residuals.{Inside, rests, plain_residual, plain_residuals};
 ghost use Rattle.spl_semantics.specs.Plain.{plain_acts, plain_moves, act_stores, move_stores, in_front};
-ghost use Rattle.spl_semantics.specs.Steps as steps;
+ghost use Rattle.spl_semantics.specs.Going as going;
 
 use crate::acts::{Act, Move};
 use st_memory::Memory;
@@ -38,7 +38,7 @@ pub fn place_all(
 ) -> Result<(), Memory>
     requires { place < length residuals.now }
     ensures steps { OnOk result (plain_moves moves.new.items ≡ plain_moves moves.old.items
-        ++ map (steps.around (λ r. in_front (take place residuals.now) (rests r (plain_residuals (drop (place + 1) residuals.now))))) (plain_acts acts.items)) }
+        ++ map (going.around (λ r. in_front (take place residuals.now) (rests r (plain_residuals (drop (place + 1) residuals.now))))) (plain_acts acts.items)) }
     ensures stores { OnOk result (move_stores moves.new.items ≡ move_stores moves.old.items ++ act_stores acts.items) }
 {
     for act in acts {
@@ -68,7 +68,7 @@ fn inside(coop: u32, children: Vec<Residual>) -> Residual
 
 /// The steps of the children of a cooperation, as steps of the cooperation.
 pub fn inside_all(alloc: Global, moves: Vec<Move>, coop: u32) -> Result<Vec<Act>, Memory>
-    ensures steps { IfOk result (λ v. plain_acts v.items ≡ map (steps.around (Inside coop)) (plain_moves moves.items)) }
+    ensures steps { IfOk result (λ v. plain_acts v.items ≡ map (going.around (Inside coop)) (plain_moves moves.items)) }
     ensures stores { IfOk result (λ v. act_stores v.items ≡ move_stores moves.items) }
 {
     let mut acts = Vec::new(alloc);

@@ -1,17 +1,17 @@
 //! Values of forms and formulas in a store, each exact, or too large where a product or a partial sum on the way has size
-//! 2^126 or more. A formula is evaluated whole, so that whether it is too large doesn't depend on an order.
+//! 2^126 or more. Formulas are in `formulas`.
 
 ghost use Rattle.std.specs.Prelude.{◌≡◌, ◌+ℤ◌, ◌*ℤ◌, false};
 ghost use Rattle.st_linear.specs.Linear.{is_wide, value, entries_value};
-ghost use Rattle.st_form.specs.Formula.{every_truth, some_truth};
-ghost use Rattle.st_form.specs.Plain.{plain, plain_list};
+ghost use Rattle.st_form.specs.Plain.{plain};
 ghost use Rattle.st_program.specs.Plain.{plain_term};
-ghost use Rattle.spl_semantics.specs.Stores.{situation, holds};
+ghost use Rattle.spl_semantics.specs.Stores.{holds};
 ghost use Rattle.spl_semantics.specs.Data.{store_of, datum_of};
-ghost use Rattle.spl_semantics.specs.Limits.{wide_on, wide_form, wide_formula, wide_formulas, wide_term};
+ghost use Rattle.spl_semantics.specs.Limits.{wide_on, wide_form, wide_formula, wide_term};
 ghost use Rattle.spl_semantics.specs.Answers.{Answers};
 
 use crate::faults::MoveFault;
+use crate::formulas::is_true_at;
 use st_form::{Form, Lin};
 use st_program::{Datum, Value};
 
@@ -26,17 +26,6 @@ fn number_at(store: &[Datum], variable: u32) -> i128
         Some(Datum::Number(number)) => *number,
         Some(Datum::Truth(_)) => 0,
         None => 0,
-    }
-}
-
-/// The truth value of a variable, or false where it has none.
-fn truth_at(store: &[Datum], variable: u32) -> bool
-    ensures { result ≡ (store_of store.now).truths variable }
-{
-    match store.get(variable as usize) {
-        Some(Datum::Truth(truth)) => *truth,
-        Some(Datum::Number(_)) => false,
-        None => false,
     }
 }
 
@@ -96,59 +85,13 @@ pub fn value_of(form: &Lin, store: &[Datum]) -> Result<i128, MoveFault>
     sum_of(store, form.entries(), form.constant())
 }
 
-/// Whether a formula holds.
-#[cycle(holds)]
-#[tactic(auto, using(st_form::proofs::Nodes::nodes))]
+/// Whether a formula of a program holds, which speaks of no location.
 pub fn is_true(form: &Form, store: &[Datum]) -> Result<bool, MoveFault>
     ensures { Answers (λ b. b) result
         (wide_formula (plain form.now) (store_of store.now))
         (holds (plain form.now) (store_of store.now)) }
 {
-    match form {
-        Form::True => Ok(true),
-        Form::False => Ok(false),
-        Form::Row(row) => Ok(value_of(row, store)? >= 0),
-        Form::Equal(row) => Ok(value_of(row, store)? == 0),
-        Form::BoolVar(variable) => Ok(truth_at(store, *variable)),
-        Form::At(_) => Ok(false),
-        Form::Not(inner) => Ok(!is_true(inner, store)?),
-        Form::And(parts) => all_true(parts, store),
-        Form::Or(parts) => any_true(parts, store),
-    }
-}
-
-/// Whether all of these formulas hold. Each is evaluated.
-#[cycle(holds)]
-fn all_true(forms: &[Form], store: &[Datum]) -> Result<bool, MoveFault>
-    ensures { Answers (λ b. b) result
-        (wide_formulas (plain_list forms.now) (store_of store.now))
-        (every_truth (situation (store_of store.now) (λ l. false)) (plain_list forms.now)) }
-{
-    let mut all = true;
-    for form in forms {
-        let holds = is_true(form, store)?;
-        if !holds {
-            all = false;
-        }
-    }
-    Ok(all)
-}
-
-/// Whether some of these formulas holds. Each is evaluated.
-#[cycle(holds)]
-fn any_true(forms: &[Form], store: &[Datum]) -> Result<bool, MoveFault>
-    ensures { Answers (λ b. b) result
-        (wide_formulas (plain_list forms.now) (store_of store.now))
-        (some_truth (situation (store_of store.now) (λ l. false)) (plain_list forms.now)) }
-{
-    let mut any = false;
-    for form in forms {
-        let holds = is_true(form, store)?;
-        if holds {
-            any = true;
-        }
-    }
-    Ok(any)
+    is_true_at(form, store, &[])
 }
 
 /// What a right side gives.

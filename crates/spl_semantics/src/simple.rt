@@ -13,7 +13,7 @@ ghost use Rattle.spl_semantics.specs.Answers.{Answers};
 ghost use Rattle.spl_semantics.specs.Data.{store_of, types, TargetsMeet};
 ghost use Rattle.spl_semantics.specs.Limits.{wide_form, wide_formula, wide_targets};
 ghost use Rattle.spl_semantics.specs.Plain.{plain_act, plain_acts, act_stores, AllOfTypes};
-ghost use Rattle.spl_semantics.specs.Steps.{act};
+ghost use Rattle.spl_semantics.specs.Going.{act};
 ghost use Rattle.spl_semantics.specs.Stores.{assigned, holds, one_less, one_more};
 
 use crate::acts::Act;

@@ -4,7 +4,7 @@ ghost use Rattle.std.specs.Prelude.{◌≡◌, ◌<◌, ◌+◌, ◌^◌, IfOk, 
 ghost use Rattle.st_program.specs.Plain.{plain_children};
 ghost use Rattle.st_program.specs.Residuals.{plain_residuals};
 ghost use Rattle.st_program.specs.Spots.{bodies_of};
-ghost use Rattle.spl_semantics.specs.Steps as steps;
+ghost use Rattle.spl_semantics.specs.Going as going;
 ghost use Rattle.spl_semantics.specs.Runs as runs;
 ghost use Rattle.spl_semantics.specs.Data.{store_of, StoreFits};
 ghost use Rattle.spl_semantics.specs.Plain.{plain_state};
@@ -18,7 +18,7 @@ use std::alloc::Global;
 /// Each child at the beginning of its body; `component` is the number of the first one's body.
 pub fn begin(alloc: Global, children: &[Child], component: u32) -> Result<Vec<Residual>, Memory>
     ensures { component + length (bodies_of (plain_children children.now)) < 2 ^ 32
-        → IfOk result (λ v. plain_residuals v.items ≡ steps.begin (plain_children children.now) component) }
+        → IfOk result (λ v. plain_residuals v.items ≡ going.begin (plain_children children.now) component) }
 {
     let mut residuals = Vec::new(alloc);
     let mut number = component;

@@ -4,7 +4,7 @@ ghost use Rattle.std.specs.Prelude.{◌≡◌, ◌<◌, ◌+◌, ◌^◌, IfOk, 
 ghost use Rattle.st_program.specs.Plain.{plain_stmts};
 ghost use Rattle.st_program.specs.Residuals.{Again, plain_residual, plain_residuals};
 ghost use Rattle.st_program.specs.Tree.{nth};
-ghost use Rattle.spl_semantics.specs.Steps as steps;
+ghost use Rattle.spl_semantics.specs.Going as going;
 ghost use Rattle.spl_semantics.specs.Data.{is_done};
 ghost use Rattle.spl_semantics.specs.Plain.{plain_acts, act_stores};
 
@@ -35,7 +35,7 @@ fn behind(
     from: u32,
 ) -> Result<Residual, Memory>
     ensures { IfOk result
-        (λ r. plain_residual r ≡ steps.behind (nth (plain_stmts items.now) from) (plain_residual first) block from) }
+        (λ r. plain_residual r ≡ going.behind (nth (plain_stmts items.now) from) (plain_residual first) block from) }
 {
     if (from as usize) < items.len() {
         Ok(Residual::Then {
@@ -58,7 +58,7 @@ pub fn join(
 ) -> Result<Residual, Memory>
     requires { from < length items.now → from + 1 < 2 ^ 32 }
     ensures { IfOk result
-        (λ r. plain_residual r ≡ steps.join (plain_stmts items.now) (plain_residual first) block from) }
+        (λ r. plain_residual r ≡ going.join (plain_stmts items.now) (plain_residual first) block from) }
 {
     if !is_done(&first) {
         return behind(alloc, items, first, block, from);
@@ -83,7 +83,7 @@ pub fn again(alloc: Global, body: Residual, loop_occ: u32) -> Result<Residual, M
 
 /// What is left of a loop's body, and then the loop.
 fn back(alloc: Global, body: Residual, loop_occ: u32) -> Result<Residual, Memory>
-    ensures { IfOk result (λ r. plain_residual r ≡ steps.back loop_occ (plain_residual body)) }
+    ensures { IfOk result (λ r. plain_residual r ≡ going.back loop_occ (plain_residual body)) }
 {
     if is_done(&body) {
         Ok(Residual::Run(loop_occ))
@@ -102,7 +102,7 @@ pub fn join_all(
 ) -> Result<Vec<Act>, Memory>
     requires { from < length items.now → from + 1 < 2 ^ 32 }
     ensures steps { IfOk result (λ v. plain_acts v.items
-        ≡ map (steps.around (λ r. steps.join (plain_stmts items.now) r block from)) (plain_acts acts.items)) }
+        ≡ map (going.around (λ r. going.join (plain_stmts items.now) r block from)) (plain_acts acts.items)) }
     ensures stores { IfOk result (λ v. act_stores v.items ≡ act_stores acts.items) }
 {
     let mut all = Vec::new(alloc);
@@ -126,7 +126,7 @@ pub fn join_all(
 
 /// The steps of a loop's body, as steps of the loop.
 pub fn back_all(alloc: Global, acts: Vec<Act>, loop_occ: u32) -> Result<Vec<Act>, Memory>
-    ensures steps { IfOk result (λ v. plain_acts v.items ≡ map (steps.around (steps.back loop_occ)) (plain_acts acts.items)) }
+    ensures steps { IfOk result (λ v. plain_acts v.items ≡ map (going.around (going.back loop_occ)) (plain_acts acts.items)) }
     ensures stores { IfOk result (λ v. act_stores v.items ≡ act_stores acts.items) }
 {
     let mut all = Vec::new(alloc);
@@ -150,7 +150,7 @@ pub fn back_all(alloc: Global, acts: Vec<Act>, loop_occ: u32) -> Result<Vec<Act>
 
 /// Whether nothing is left of any of these.
 pub fn all_done(residuals: &[Residual]) -> bool
-    ensures { result ≡ steps.all_done (plain_residuals residuals.now) }
+    ensures { result ≡ going.all_done (plain_residuals residuals.now) }
 {
     for residual in residuals {
         if !is_done(residual) {

@@ -19,6 +19,8 @@ use Rattle.spl_translation.proofs.Fitted.{types, type_there, changed_type, linea
 use Rattle.spl_translation.proofs.Rises.{inserted_all, inserted_rises, NumberWithin, TruthWithin, ValuesWithin, none_within, moving_within}
 use Rattle.spl_translation.proofs.Eachs.{Each, each_weaker, each_append}
 use Rattle.spl_translation.proofs.Sized.{UpTo, behind, behind_more, replaced_up, up_of, of_up, entries_few}
+use Rattle.basic_laws.proofs.Integers.{product}
+use Rattle.basic_laws.proofs.Truths.{both_true}
 
 some_is : {X : Type 0} (x y : X) → Some x ≡ Some y → x ≡ y
 some_is x y e = cc
@@ -35,19 +37,9 @@ each_flat : {X Y : Type 0} (P : X → Type 0) (Q : Y → Type 0) (f : X → List
 each_flat P Q f g [] h = tt
 each_flat P Q f g (x ∷ xs) h = each_append Q (f x) (flat_map f xs) (g x h.0) (each_flat P Q f g xs h.1)
 
-product : (x y : ℤ) → unsigned_abs x ≤ 2 ^ 30 → unsigned_abs y ≤ 2 ^ 32 → unsigned_abs (x *ℤ y) ≤ 2 ^ 62
-product x y h k =
-    let e = unsigned_abs-mul x y in
-    let q = mul-le (unsigned_abs x) (unsigned_abs y) (2 ^ 30) (2 ^ 32) h k in
-    omega arith
-
 number_le : (z : ℤ) → is_written_number z ≡ true → unsigned_abs z ≤ 2 ^ 30
 unfolding is_written_number
 number_le z e = grind (arith, nat_tests)
-
-both_true : (a b : Bool) → (a && b) ≡ true → (a ≡ true) × (b ≡ true)
-both_true true b e = (refl, e)
-both_true false b e = cc
 
 module _ (vs : List Variable) (few : length vs ≤ 64) (locations : ℕ) where
   fits_up : (bound : ℕ) → bound ≤ suc (2 ^ 32) → (f : Linear) → LinearFits vs bound f → UpTo (types vs) (2 ^ 32) f

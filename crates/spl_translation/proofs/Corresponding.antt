@@ -22,7 +22,8 @@ use Rattle.st_program.specs.Programs.{WellFormed}
 use Rattle.st_program.specs.Types.{TestFits, ActionFits}
 use Rattle.spl_semantics.specs.Stores.{Store, situation}
 use Rattle.st_program.specs.Residuals.{Rests}
-use Rattle.spl_semantics.specs.Steps.{Act, steps_of}
+use Rattle.spl_semantics.specs.Steps.{steps_of}
+use Rattle.spl_semantics.specs.Going.{Act}
 use Rattle.spl_semantics.specs.Names.{own_names}
 use Rattle.spl_semantics.specs.Control.{starts}
 use Rattle.spl_semantics.proofs.TextMoves.{Move}
@@ -30,7 +31,7 @@ use Rattle.spl_semantics.proofs.Moving.{Moves}
 use Rattle.spl_semantics.specs.Runs.{State, LeadsBy, IsFirst, Reached, control, image}
 use Rattle.spl_semantics.proofs.ByCases.{behind_act, listed as as_listed, by_cases}
 use Rattle.spl_semantics.proofs.Members.{member_none, member_left, member_right, member_cases, member_at, at_member}
-use Rattle.spl_semantics.proofs.Texts.{either}
+use Rattle.basic_laws.proofs.Types.{either}
 use Rattle.spl_semantics.proofs.Follows.{move_in}
 use Rattle.spl_semantics.proofs.Origins.{move_of, own_name}
 use Rattle.spl_semantics.proofs.ControlMoves.{control_moves, first_control}
@@ -39,6 +40,7 @@ use Rattle.spl_translation.specs.Translation.{passing, always, own_transitions, 
 use Rattle.spl_translation.specs.Correspondence.{GoesBy, Corresponds}
 use Rattle.spl_translation.proofs.Values.{blind}
 use Rattle.spl_translation.proofs.Pairs.{Matches, paired}
+use Rattle.basic_laws.proofs.Truths.{same_bool}
 
 -- names with their fairness, in order
 abbrev named : PlainTransition → TransName × Fairness
@@ -97,12 +99,6 @@ opened_truth s (some fs) = with_true _
 located_truth : (s : Situation) (ls : List ℕ) → ((l : ℕ) → Member l ls → s.located l ≡ true) → every_truth s (formulas.formulas (map (λ l. at l) ls)) ≡ true
 located_truth s [] h = refl
 located_truth s (l ∷ ls) h = let e = h l (here refl) in let rest = located_truth s ls (λ k m. h k (there m)) in rw (e, rest) refl
-
--- tests that agree
-same_bool : (a b : Bool) → (a ≡ true → b ≡ true) → (b ≡ true → a ≡ true) → a ≡ b
-same_bool true b f g = sym (f refl)
-same_bool false true f g = g refl
-same_bool false false f g = refl
 
 or_parts : (a b : Bool) → (a || b) ≡ true → (a ≡ true) ⊎ (b ≡ true)
 or_parts true b e = inl refl

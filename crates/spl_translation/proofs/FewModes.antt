@@ -1,16 +1,16 @@
 -- Each transition of a program's translation has at most 64 modes.
-use Rattle.std.proofs.Common.{◌≡◌, ℕ, ◌+◌, ◌^◌, ◌≤◌, ◌<◌, List, [], ◌∷◌, ◌++◌, length, map, Option, Some, None, refl, arith, length-append}
+use Rattle.std.proofs.Common.{ℕ, ◌≤◌, List, [], ◌∷◌, ◌++◌, length, Option, Some, None, refl, arith, length-append}
 use Rattle.std.specs.Prelude.{flat_map}
 use Rattle.st_form.specs.Formula.{Formula}
 use Rattle.st_form.specs.declared.variables.Variable.{Variable}
-use Rattle.transition_system.specs.Systems.{PlainMode, PlainTransition, System, FewModes, HasFewModes}
+use Rattle.transition_system.specs.Systems.{PlainTransition, FewModes, HasFewModes}
 use Rattle.st_program.specs.Tree.{Action, skip, critical, noncritical, assign, await, request, release, if_then, if_else, while_do, block, select, cooperate, group, Processes, occurrence, location, action}
 use Rattle.st_program.specs.Member.{Member, here, there}
 use Rattle.st_program.specs.Spots.{Spot, all_spots}
 use Rattle.st_program.specs.Types.{ActionFits}
 use Rattle.st_program.specs.Groups.{Link, paths_along, nothing_composed, Composed, composed}
 use Rattle.st_program.specs.Programs.{IsProgram}
-use Rattle.spl_translation.specs.Translation.{path_mode, path_modes, own_transitions, spot_transitions, all_transitions, translation}
+use Rattle.spl_translation.specs.Translation.{path_mode, path_modes, own_transitions, spot_transitions, translation}
 
 few_append : (ts us : List PlainTransition) → FewModes ts → FewModes us → FewModes (ts ++ us)
 few_append [] us h g = g

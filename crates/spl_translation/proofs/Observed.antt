@@ -1,11 +1,11 @@
--- The observation of a run of a program is that of a run of its translation.
+-- The observation of a run of a program is that of a run of its translation, and the other way round.
 use Rattle.std.proofs.Common.{◌≡◌, ℕ, zero, suc, Bool, true, false, List, [], ◌∷◌, map, Some, refl, sym, ap, ◌∙◌, subst}
 use Rattle.std.specs.Prelude.{◌||◌, slice_get}
 use Rattle.std.specs.List.{list_any}
 use Rattle.st_form.specs.Formula.{Formula, Situation}
 use Rattle.st_form.specs.declared.conditions.TransName.{TransName}
 use Rattle.st_form.specs.declared.conditions.TransName.TheVariants.{Idle, Step}
-use Rattle.observations.specs.Observation.{Observation}
+use Rattle.observations.specs.Observation.{Moment, Observation}
 use Rattle.observations.specs.Extension.{FollowsBy}
 use Rattle.transition_system.specs.Systems.{PlainTransition, System}
 use Rattle.transition_system.specs.Meaning.{can_go, gone, is_enabled as can_be_taken, enabled_in, Goes, IsRun}
@@ -13,12 +13,15 @@ use Rattle.st_program.specs.Tree.{Processes}
 use Rattle.st_program.specs.Member.{Member, here, there}
 use Rattle.st_program.specs.Spots.{IsNumbered}
 use Rattle.spl_semantics.specs.Steps.{steps_of}
-use Rattle.spl_semantics.specs.Names.{same_name}
-use Rattle.spl_semantics.specs.Runs.{State, LeadsBy, Follows, IsFirst, Reached, first, next, image, is_enabled, enabled_names, seen, place_of, observed, IsRunOf}
+use Rattle.spl_semantics.specs.Names.{all_names, same_name}
+use Rattle.spl_semantics.specs.Runs.{State, LeadsBy, Follows, IsFirst, Reached, first, next, image, place_of, IsSeenOf, IsRunOf}
+use Rattle.spl_semantics.specs.Observed.{is_enabled, enabled_names, seen, observed}
 use Rattle.spl_semantics.proofs.ByCases.{behind_act, listed, by_cases}
 use Rattle.spl_semantics.proofs.Members.{member_none, at_member}
+use Rattle.spl_semantics.proofs.SeenRuns.{seen_is, observed_seen}
 use Rattle.spl_semantics.proofs.NameOrder.{Named, name_same, same_name_is, place_at}
 use Rattle.spl_translation.specs.Correspondence.{Corresponds}
+use Rattle.basic_laws.proofs.Truths.{same_bool}
 
 -- a test that some element passes, and the element
 some_passes : {X : Type 0} (test : X → Bool) (xs : List X) → list_any test xs ≡ true → (k : ℕ) × (x : X) × (slice_get xs k ≡ Some x) × (test x ≡ true)
@@ -37,11 +40,6 @@ passes_some test (y ∷ xs) x (there m) e = at_test (test y) (passes_some test x
     at_test : (b : Bool) → list_any test xs ≡ true → (b || list_any test xs) ≡ true
     at_test true i = refl
     at_test false i = i
-
-same_bool : (a b : Bool) → (a ≡ true → b ≡ true) → (b ≡ true → a ≡ true) → a ≡ b
-same_bool true b f g = sym (f refl)
-same_bool false true f g = g refl
-same_bool false false f g = refl
 
 abbrev named : PlainTransition → Named
 named t = (t.name, t.fairness)
@@ -142,4 +140,41 @@ module _ (p : Processes) (initial : Formula) (numbered : IsNumbered p) (system :
   }
 
   pub run_seen : (o : Observation Situation) → IsRunOf p initial o → IsRun system o
-  run_seen o run = subst (IsRun system) (sym run.seen_is) (seen_run run.state run.later run.first run.follow)
+  run_seen o run = subst (IsRun system) (sym (seen_is p numbered run.state run.later o run.seen)) (seen_run run.state run.later run.first run.follow)
+
+  -- the other way round: each step of the system from an image is the image of a step of the program
+  abbrev ComesFrom : State → List (ℕ × Moment Situation) → Type 0
+  ComesFrom s steps = (later : List (TransName × State)) × Follows p s later × (steps ≡ map (λ step. (place_of p step.0, seen p step.1)) later)
+
+  comes_from : (s : State) (steps : List (ℕ × Moment Situation)) → Reached p initial s → FollowsBy (enabled_in system) (Goes system) (image p s) steps → ComesFrom s steps
+  comes_from s [] r f = ([], tt, refl)
+  comes_from s (x ∷ steps) r f =
+      let g = f.0 in
+      let name = g.transition.name in
+      let step = both.follows_back s name (suc g.place) x.1.state r record { number = x.0; step = g; named = refl; moded = refl } in
+      let reached = next name r (suc g.place, step.1) in
+      let rest = comes_from step.0 steps reached (subst (λ t. FollowsBy (enabled_in system) (Goes system) t steps) (sym step.2) f.2) in
+      let place_is : x.0 ≡ place_of p name = sym (number_is x.0 g.transition g.numbered) in
+      let moment_is : x.1 ≡ seen p step.0 =
+      ap (λ e. record { state = x.1.state; enabled = e }) f.1
+      ∙ ap (λ t. record { state = t; enabled = enabled_in system t }) (sym step.2)
+      ∙ ap (λ e. record { state = image p step.0; enabled = e }) (sym (all_enabled step.0 reached)) in (
+        (name, step.0) ∷ rest.0,
+        ((suc g.place, step.1), rest.1),
+        ap (λ k. (k, x.1) ∷ steps) place_is ∙ ap (λ m. (place_of p name, m) ∷ steps) moment_is ∙ ap (λ l. (place_of p name, seen p step.0) ∷ l) rest.2,
+      )
+
+  pub run_back : (o : Observation Situation) → IsRun system o → (s : State) → IsFirst p initial s → o.first.state ≡ image p s → IsRunOf p initial o
+  run_back o run s is_first begins =
+      let back = comes_from s o.later (first is_first) (subst (λ t. FollowsBy (enabled_in system) (Goes system) t o.later) begins run.observed.follow) in
+      let moment_is : o.first ≡ seen p s =
+      ap (λ e. record { state = o.first.state; enabled = e }) run.observed.first
+      ∙ ap (λ t. record { state = t; enabled = enabled_in system t }) begins
+      ∙ ap (λ e. record { state = image p s; enabled = e }) (sym (all_enabled s (first is_first))) in
+      let fairness_is : o.fairness ≡ map (λ n. n.1) (all_names p) =
+      run.observed.fairness ∙ sym (map-fairness system.transitions) ∙ ap (map (λ n. n.1)) both.names in
+      let same : o ≡ observed p s back.0 =
+      ap (λ f. record { fairness = f; first = o.first; later = o.later }) fairness_is
+      ∙ ap (λ m. record { fairness = map (λ n. n.1) (all_names p); first = m; later = o.later }) moment_is
+      ∙ ap (λ l. record { fairness = map (λ n. n.1) (all_names p); first = seen p s; later = l }) back.2 in
+      record { state = s; later = back.0; first = is_first; follow = back.1; seen = subst (IsSeenOf p s back.0) (sym same) (observed_seen p numbered s back.0) }

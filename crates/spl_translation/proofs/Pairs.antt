@@ -20,7 +20,7 @@ use Rattle.spl_semantics.specs.Stores.{Store, situation, holds, assigned, walked
 use Rattle.spl_semantics.specs.Control.{starts, ends}
 use Rattle.spl_semantics.proofs.TextMoves.{Move, move, always as allowed_always, same, test_moves, path_moves, own_moves}
 use Rattle.spl_semantics.proofs.Members.{member_none, member_left, member_right, member_cases}
-use Rattle.spl_semantics.proofs.Texts.{either}
+use Rattle.basic_laws.proofs.Types.{either}
 use Rattle.spl_translation.specs.Translation.{passing, moving, giving, always, path_mode, path_modes, transition, own_transitions}
 use Rattle.spl_translation.proofs.Values.{blind, Plainly, plainly, numbers-given, truths-given}
 use Rattle.spl_translation.proofs.Paths.{PlainLink, PlainPath, nothing_stands, amounts}

@@ -8,10 +8,7 @@ use Rattle.control_facts.proofs.Onces.{nowhere, in_either}
 use Rattle.control_facts.proofs.Own.{grow, grow_along, grow_among, grow_inside}
 use Rattle.spl_semantics.specs.Control.{starts, ends}
 use Rattle.spl_translation.proofs.Eachs.{Each}
-
-either : {A B C : Type 0} → A ⊎ B → (A → C) → (B → C) → C
-either (inl a) f g = f a
-either (inr b) f g = g b
+use Rattle.basic_laws.proofs.Types.{either}
 
 -- the locations of what begins in a statement, and of the ends in it
 abbrev pub InnerBelow : ℕ → Action → Type 0

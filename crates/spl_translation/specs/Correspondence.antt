@@ -1,6 +1,6 @@
--- A program and a transition system that correspond: the runs of the one are, seen from outside, runs of the other (Manna
--- and Pnueli, *Temporal Verification of Reactive Systems: Safety*, section 0.3, where this is how programs are given a
--- meaning; here both are defined, and compared).
+-- A program and a transition system that correspond: from the image of each state of a run of the program, the steps of the
+-- system are the images of the program's steps (Manna and Pnueli, *Temporal Verification of Reactive Systems: Safety*, section
+-- 0.3, where this is how programs are given a meaning; here both are defined, and compared).
 use Rattle.std.specs.Prelude.{◌≡◌, ℕ, suc, map, IsTrue}
 use Rattle.st_form.specs.Formula.{Formula, Situation}
 use Rattle.st_form.specs.Formula as formulas

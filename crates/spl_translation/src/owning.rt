@@ -47,15 +47,8 @@ pub fn push_own(
         Kind::Request(var) => {
             let guard = Form::Row(shifted(alloc, *var, -1)?);
             let values = shift(alloc, *var, -1)?;
-            push_giving(
-                alloc,
-                stmt,
-                Fairness::Compassionate,
-                guard,
-                values,
-                next,
-                out,
-            )
+            let owed = Fairness::Compassionate;
+            push_giving(alloc, stmt, owed, guard, values, next, out)
         }
         Kind::Release(var) => {
             let values = shift(alloc, *var, 1)?;

@@ -20,6 +20,7 @@ use Rattle.expression_typer.specs.Written.{is_writable, limited}
 use Rattle.spl_typer.specs.Groups.{Numbers, Composition, nothing, large_unless, limit_unless, composed_number, composed_formula, few, term_on, terms_on, put, put_all, met, guarded, link_on, path_on, with_number, numbers_of, numbers_put, numbers_on, all_small, with_path, with_paths, grouped}
 use Rattle.spl_typer.specs.Unbounded.{with_form, with_forms, composed_form, composed_side, composed_sides, all_writable, are_small_along, all_small_along, is_too_large, IsTooLargeExactly}
 use Rattle.expression_typer.proofs.Sizes.{Within, Bounded, bounded_written, bounded_sum, bounded_fits, within_entry}
+use Rattle.basic_laws.proofs.Integers.{product}
 
 abbrev Each : {X : Type 0} → (X → Type 0) → List X → Type 0
 Each P [] = Unit {0}
@@ -51,12 +52,6 @@ each_inserted {X} P v x (p ∷ ps) h k = go (nat_lt v p.0) (v == p.0) (each_inse
     go false false r = (k.0, r)
 
 -- sizes
-
-product : (x y : ℤ) → unsigned_abs x ≤ 2 ^ 30 → unsigned_abs y ≤ 2 ^ 32 → unsigned_abs (x *ℤ y) ≤ 2 ^ 62
-product x y h k =
-    let e = unsigned_abs-mul x y in
-    let q = mul-le (unsigned_abs x) (unsigned_abs y) (2 ^ 30) (2 ^ 32) h k in
-    omega arith
 
 scaled_within : (z : ℤ) → unsigned_abs z ≤ 2 ^ 32 → (es : List (ℕ × ℤ)) → Within (2 ^ 30) es → Within (2 ^ 62) (scaled_entries z es)
 scaled_within z h [] k = tt

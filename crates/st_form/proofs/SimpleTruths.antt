@@ -16,10 +16,8 @@ use Rattle.st_linear.proofs.Ints.{+ℤ-*ℤ}
 use Rattle.st_linear.proofs.Dividing.{sign-divided, common_divisor-divides, value-negated, value-complement, value-lowered, value-divided_whole, value-divided, quotient-rest, rest_of, rest_of-lt}
 use Rattle.st_form.specs.Formula.{Formula, Formulas, truth_value, row, equal, bool_var, at, negation, every, some, none, more, Situation, truth, every_truth, some_truth, is_zero}
 use Rattle.st_form.specs.Simple.{leads_negative, simple_row, simple_equal, simple_apart, leading, divides_constant, append, parts, gathered, closed, joined_parts, signed, literal, simple, simples, Decided, Agrees, nothing, under}
-
--- ---- numbers
-suc_positive : (n : ℕ) → 1 ≤ suc n
-suc_positive n = omega arith
+use Rattle.basic_laws.proofs.Numbers.{suc_positive}
+use Rattle.basic_laws.proofs.Truths.{and_assoc, and_true, or_false}
 
 not_negative-complement : (z : ℤ) → int_le (pos 0) (neg_ℤ z +ℤ negsuc 0) ≡ not (int_le (pos 0) z)
 not_negative-complement (pos zero) = refl
@@ -64,14 +62,6 @@ truth-simple_row s f = row_truth s f.constant f.entries
 leading_truth : (s : Situation) (f : Linear) (b : Bool) → is_zero (value s.numbers (if b then negated f else f)) ≡ is_zero (value s.numbers f)
 leading_truth s f true = ap is_zero (value-negated s.numbers f) ∙ is_zero-neg (value s.numbers f)
 leading_truth s f false = refl
-
-and_true : (a : Bool) → (a && true) ≡ a
-and_true true = refl
-and_true false = refl
-
-or_false : (a : Bool) → (a || false) ≡ a
-or_false true = refl
-or_false false = refl
 
 -- ---- equations
 test_zero : (n : ℕ) → (n == 0) ≡ true → n ≡ 0
@@ -130,11 +120,6 @@ by_divisor_apart s f false h = ap not (sym (never_zero s f h))
 apart_truth : (s : Situation) (c : ℤ) (es : List (ℕ × ℤ)) → truth s (simple_apart (record { constant = c; entries = es })) ≡ not (is_zero (value s.numbers (record { constant = c; entries = es })))
 apart_truth s c [] = let e : c ≡ c +ℤ pos 0 = omega (arith, ints) in ap (λ z. not (is_zero z)) e
 apart_truth s c (e ∷ es) = let f : Linear = record { constant = c; entries = e ∷ es } in by_divisor_apart s f (divides_constant f) refl
-
--- ---- lists of parts
-and_assoc : (a b c : Bool) → (a && (b && c)) ≡ ((a && b) && c)
-and_assoc true b c = refl
-and_assoc false b c = refl
 
 or_assoc : (a b c : Bool) → (a || (b || c)) ≡ ((a || b) || c)
 or_assoc true b c = refl

@@ -1,4 +1,5 @@
 pub mod Formula
+pub mod Forms
 pub mod Exchange
 pub mod Condition
 pub mod Plain

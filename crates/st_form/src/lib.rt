@@ -14,6 +14,7 @@ mod sameness;
 mod shared;
 mod simplification;
 mod variables;
+mod widths;
 
 pub use conditions::{CondName, Condition, Consequent, Part, Premise, TransName, conjunction};
 pub use conjuncts::{in_place, joined_conjuncts, opened};

@@ -2,10 +2,12 @@
 
 ghost use Rattle.std.specs.Prelude.{◌≡◌, ◌-◌, ◌^◌, IfOk, map, min};
 ghost use Rattle.st_form.specs.Formula.{weight};
+ghost use Rattle.st_form.specs.Forms.{AllForms, HasEntries, width};
 ghost use Rattle.st_form.specs.Plain.{plain};
 ghost use Rattle.st_form.specs.declared.formulas.Form.{Form};
 
 use crate::formulas::Form;
+use crate::widths::width_of_form;
 use st_memory::Memory;
 use std::alloc::Global;
 use std::marker::Model;
@@ -17,12 +19,14 @@ pub struct SharedForm {
     form: Arc<Form, Global>,
     hint: u32,
     weight: u64,
+    width: u64,
 }
 
 impl Model for SharedForm {
     ghost use Rattle.std.specs.Prelude.{◌≡◌, ◌-◌, ◌^◌, min};
     ghost use Rattle.std.specs.Arc.{arc_value};
     ghost use Rattle.st_form.specs.Formula.{weight as weight_of};
+    ghost use Rattle.st_form.specs.Forms.{AllForms, HasEntries, width as width_of};
     ghost use Rattle.st_form.specs.Plain.{plain};
     ghost use Rattle.st_form.specs.declared.formulas.Form.{Form};
     ghost use Rattle.st_form.specs.contracts.formulas.Form as form_code;
@@ -33,7 +37,9 @@ impl Model for SharedForm {
 
     ghost view = { λ s. arc_value s.form };
 
-    ghost invariant = { λ s. s.weight ≡ min (weight_of (plain (arc_value s.form))) (2 ^ 64 - 1) };
+    ghost invariant = { λ s. (s.weight ≡ min (weight_of (plain (arc_value s.form))) (2 ^ 64 - 1))
+        × (s.width ≡ width_of (plain (arc_value s.form)))
+        × AllForms HasEntries (plain (arc_value s.form)) };
 }
 
 impl SharedForm {
@@ -42,8 +48,14 @@ impl SharedForm {
         ensures { IfOk result (λ s. s ≡ form) }
     {
         let weight = form.weight();
+        let width = width_of_form(&form);
         let form = Arc::new(alloc, form)?;
-        Ok(SharedForm { form, hint, weight })
+        Ok(SharedForm {
+            form,
+            hint,
+            weight,
+            width,
+        })
     }
 
     /// The same formula once more.
@@ -55,6 +67,7 @@ impl SharedForm {
             form,
             hint: self.hint,
             weight: self.weight,
+            width: self.width,
         })
     }
 
@@ -75,6 +88,15 @@ impl SharedForm {
         ensures { result ≡ min (weight (plain self.now)) (2 ^ 64 - 1) }
     {
         self.weight
+    }
+
+    /// One more than the greatest variable of the forms, or 0 where there is none. In each form variables rise, and no
+    /// coefficient is 0.
+    pub fn width(&self) -> u64
+        ensures exact { result ≡ width (plain self.now) }
+        ensures proper { AllForms HasEntries (plain self.now) }
+    {
+        self.width
     }
 }
 

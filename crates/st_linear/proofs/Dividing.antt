@@ -14,6 +14,8 @@ use Rattle.st_linear.specs.Simple.{divides_all, greatest_up_to, common_divisor, 
 use Rattle.st_linear.proofs.Joins.{none}
 use Rattle.st_linear.proofs.Ints.{+ℤ-*ℤ, *ℤ_assoc, neg_ℤ-*ℤ}
 use Rattle.std.proofs.Math.IntN.{zero-*ℤ, *ℤ_comm}
+use Rattle.basic_laws.proofs.Integers.{above_zero}
+use Rattle.basic_laws.proofs.Numbers.{suc_positive}
 
 abbrev Entries : Type 0
 Entries = List (ℕ × ℤ)
@@ -61,11 +63,6 @@ CommonTo-at d (e ∷ es) (suc i) h k = CommonTo-at d es i (omega arith) k.1
 
 pub CommonTo-more : (d : ℕ) (es : Entries) (i : ℕ) → i < length es → d ∣ unsigned_abs (get_or es i none).1 → CommonTo d (drop (i + 1) es) → CommonTo d (drop i es)
 CommonTo-more d es i h a b = rw (drop_more es i none h) (a, b)
-
-above_zero : (z : ℤ) → z ≢ pos 0 → 0 < unsigned_abs z
-above_zero (pos zero) h = absurd (h refl)
-above_zero (pos (suc n)) h = omega arith
-above_zero (negsuc n) h = omega arith
 
 -- where a number has just the common divisors as its divisors
 pub common_divisor-is : (es : Entries) (g : ℕ) → AreEntries es → g ≢ 0 → ((d : ℕ) → d ∣ g → CommonTo d es) → ((d : ℕ) → CommonTo d es → d ∣ g) → common_divisor es ≡ g
@@ -146,9 +143,6 @@ value-divided store d (e ∷ es) h k =
 
 under : (m r : ℕ) → r < m → int_le (pos 0) (neg_ℤ (pos m) +ℤ pos r) ≡ false
 under m r h = grind (arith, ints)
-
-suc_positive : (n : ℕ) → 1 ≤ suc n
-suc_positive n = omega arith
 
 sign : (w : ℤ) (d r : ℕ) → 0 < d → r < d → int_le (pos 0) (w *ℤ pos d +ℤ pos r) ≡ int_le (pos 0) w
 sign (pos n) d r h k = grind (arith, nat_tests)

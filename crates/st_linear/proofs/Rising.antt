@@ -3,6 +3,7 @@ use Rattle.std.proofs.Common.{◌≡◌, ◌≢◌, ℕ, ◌+◌, ◌<◌, Bool,
 use Rattle.std.proofs.lemmas.Bool.Decides.{nat_tests}
 use Rattle.std.proofs.lemmas.Bool.{and_from}
 use Rattle.st_linear.specs.Linear.{is_small, are_small, rise_from, is_zero, AllAbove, AreEntries}
+use Rattle.basic_laws.proofs.Truths.{not_false}
 
 pub guard : (b x : Bool) → cond b false x ≡ true → (b ≡ false) × (x ≡ true)
 guard true x h = cc
@@ -14,10 +15,6 @@ or_false false b h = (refl, h)
 
 pub not_zero : (z : ℤ) → is_zero z ≡ false → z ≢ pos 0
 not_zero z h e = let k : is_zero z ≡ true = ap is_zero e in cc
-
-pub not_false : (b : Bool) → not b ≡ false → b ≡ true
-not_false true h = refl
-not_false false h = cc
 
 pub all_above : (v low : ℕ) (es : List (ℕ × ℤ)) → v < low → rise_from low es ≡ true → AllAbove v es
 all_above v low [] less h = tt

@@ -1,3 +1,5 @@
+//! Files in memory, which fail where a test wants it.
+
 ghost use Rattle.std.specs.Prelude.{◌≡◌, ℕ, ◌+◌, ◌-◌, ◌^◌, ◌<◌, ◌≤◌, ◌↔◌, List, length, min, position, string_bytes, IfOk, OnOk, OnErr, IsErr, IfSome, is_ok, if◌then◌else◌};
 ghost use Rattle.st_outside.specs.Faults.{Rose, NoneFell, risen};
 ghost use Rattle.std.specs.Str.{bytes_eq};

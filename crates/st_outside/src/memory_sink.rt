@@ -1,3 +1,5 @@
+//! A sink in memory, which fails where a test wants it.
+
 ghost use Rattle.std.specs.Prelude.{◌≡◌, ◌+◌, ◌≤◌, ◌↔◌, Some, [], take, vec_len, vec_capacity, IfOk, OnOk, OnErr, IsErr};
 ghost use Rattle.st_outside.specs.Faults.{Rose, risen};
 ghost use Rattle.st_outside.specs.Sink.{IsShare, behind};

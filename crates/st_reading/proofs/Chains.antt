@@ -1,12 +1,13 @@
 -- A chain by its turns, whatever fuel it has; its law; and a chain as a loop reads it.
-use Rattle.std.proofs.Common.{◌≡◌, ℕ, zero, suc, ◌≤◌, Bool, true, List, [], Option, Some, None, Ok, Err, refl, sym, ap, ◌∙◌, arith}
-use Rattle.st_tokens.specs.Stream.{◌++>◌, Lexeme, Stream, ends, breaks, more, behind}
+use Rattle.std.proofs.Common.{◌≡◌, ℕ, zero, suc, ◌≤◌, Bool, true, List, [], All, Option, Some, None, Ok, Err, refl, sym, ap, ◌∙◌, arith}
+use Rattle.st_tokens.specs.Stream.{◌++>◌, Lexeme, Stream, ends, breaks, more, behind, IsSpelled}
 use Rattle.st_reading.specs.declared.sign.Sign.{Sign}
 use Rattle.st_reading.specs.declared.sign.Sign.TheVariants as signs
 use Rattle.st_reading.specs.Sign.{sign_of}
 use Rattle.st_reading.specs.Reading.{Stop, Read, ◌>>=◌, ahead, size, place_of, then_reads, Turn, leaves, goes, turned, on_operator, chain, IsStop}
 use Rattle.st_reading.specs.Steady.{SteadyAt, Short, Within, calmer, wider, anything}
 use Rattle.st_reading.proofs.Streams.{size_through, follow_test, behind_size}
+use Rattle.st_reading.proofs.Spelled.{none_spelled}
 use Rattle.st_reading.proofs.Steadiness.{at_bind, at_choice, at_shift, at_gives}
 use Rattle.st_reading.proofs.Soundness.{Shrinks}
 
@@ -119,6 +120,11 @@ module _ {I X O B S : Type 0} (front calm calm1 : Sign → Bool) (fits : Within 
   short_text i (leaves b) = []
   short_text i (goes y) = (short i).text y
 
+  short_spelled : (i : I) (y : Turn B S) → All IsSpelled (short_text i y)
+  unfolding short_text
+  short_spelled i (leaves b) = none_spelled
+  short_spelled i (goes y) = (short i).spelled y
+
   short_value : (i : I) → Turn B S → B
   short_value i (leaves b) = b
   short_value i (goes y) = (short i).value y
@@ -134,7 +140,7 @@ module _ {I X O B S : Type 0} (front calm calm1 : Sign → Bool) (fits : Within 
   short_reads i (goes y) after c = two_front i y ((short i).text y ++> after) ((short i).begins y after c) ∙ (short i).reads y after c
 
   pub short_turned : (i : I) → Short front calm (turned (two i))
-  short_turned i = record { text = short_text i; value = short_value i; begins = short_begins i; reads = short_reads i }
+  short_turned i = record { text = short_text i; spelled = short_spelled i; value = short_value i; begins = short_begins i; reads = short_reads i }
 
   at_end : (x : S) (s : Stream) → op (ahead s) ≡ None → SteadyAt front calm (one x) (λ i. two i x) s
   at_end x s h =

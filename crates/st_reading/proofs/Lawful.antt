@@ -1,6 +1,6 @@
 -- Readers that have their law, and what is put together from them.
 use Rattle.std.proofs.Common.{◌≡◌, ℕ, ◌≤◌, Bool, true, false, cond, List, [], ◌∷◌, ◌++◌, Option, None, Ok, Err, ◌⊎◌, inl, inr, refl, sym, ap, ◌∙◌, arith}
-use Rattle.st_tokens.specs.Stream.{◌++>◌, Lexeme, Stream, ends, breaks, more, behind}
+use Rattle.st_tokens.specs.Stream.{◌++>◌, Lexeme, Stream, ends, breaks, more, behind, IsSpelled}
 use Rattle.st_reading.specs.declared.mark.Mark.{Mark}
 use Rattle.st_reading.specs.declared.sign.Sign.{Sign}
 use Rattle.st_reading.specs.declared.sign.Sign.TheVariants as signs
@@ -8,6 +8,7 @@ use Rattle.st_reading.specs.Sign.{sign_of, is}
 use Rattle.st_reading.specs.Reading.{Stop, other, Read, ahead, size, place_of, then_reads, Turn, chain, gives, expected, named, is_name, Label, name_of, label_of}
 use Rattle.st_reading.specs.Steady.{head, Viable, Cause, refused, over, SteadyAt, both, stops, Short, Within, Parts, calmer, Wide, wider, moves, anything}
 use Rattle.st_reading.proofs.Streams.{behind_size, follow_test}
+use Rattle.st_reading.proofs.Spelled.{none_spelled}
 use Rattle.st_reading.proofs.Steadiness.{at_bind, at_choice, at_shift, at_gives, at_expected, at_named, at_over, at_weak, viable_first}
 use Rattle.st_reading.proofs.Soundness.{Shrinks}
 use Rattle.st_reading.proofs.Shrinking.{shrinks_gives, shrinks_bind, shrinks_expected, shrinks_named, shrinks_chain}
@@ -22,7 +23,7 @@ pub record Lawful {I X A : Type 0} (front calm : Sign → Bool) (r : Stream → 
 -- A text that is read comes from the law at a text's end.
 module _ {I X A : Type 0} (front calm : Sign → Bool) (r : Stream → Read X A) (fits : Wide front calm calm r) (p : I → Stream → Read X A) where
   nothing_taken : Wide front calm calm r → (i : I) (x : A) → ((after : Stream) → calm (ahead after) ≡ true → r after ≡ Ok (x, after)) → ((after : Stream) → calm (ahead after) ≡ true → p i after ≡ Ok (x, after)) → Viable front calm (p i) []
-  nothing_taken (wider w) i x go1 go2 = record { others = []; value = x; begins = λ n after h. w _ h; reads = go2 }
+  nothing_taken (wider w) i x go1 go2 = record { others = []; spelled = none_spelled; value = x; begins = λ n after h. w _ h; reads = go2 }
   nothing_taken (moves quiet f none) i x go1 go2 = let good = go1 (ends 0) quiet in cc
 
   pub viable_at : (i : I) → SteadyAt front calm r p (ends 0) → Viable front calm (p i) []
@@ -37,6 +38,7 @@ module _ {I X A : Type 0} (front calm : Sign → Bool) (r : Stream → Read X A)
 pub short_of : {I X A B : Type 0} (front calm : Sign → Bool) (q : A → Stream → Read X B) → ((x : A) → Wide front calm calm (q x)) → (u : I → A → Stream → Read X B) → ((x : A) → Lawful front calm (q x) (λ i. u i x)) → (i : I) → Short front calm (u i)
 short_of front calm q fits u l i = record {
   text = λ x. (viable_of front calm (q x) (fits x) (λ i. u i x) (l x) i).others;
+  spelled = λ x. (viable_of front calm (q x) (fits x) (λ i. u i x) (l x) i).spelled;
   value = λ x. (viable_of front calm (q x) (fits x) (λ i. u i x) (l x) i).value;
   begins = λ x. (viable_of front calm (q x) (fits x) (λ i. u i x) (l x) i).begins refl;
   reads = λ x. (viable_of front calm (q x) (fits x) (λ i. u i x) (l x) i).reads;
@@ -57,11 +59,11 @@ lawful_gives {I} {X} front calm x = record { law = λ s. at_gives front calm x s
 pub lawful_map : {I X A B : Type 0} (front calm : Sign → Bool) → Within calm front → (f : A → B) (r : Stream → Read X A) (p : I → Stream → Read X A) → Lawful front calm r p → Lawful front calm (then_reads r (λ x. gives (f x))) (λ i. then_reads (p i) (λ x. gives (f x)))
 lawful_map front calm fits f r p l = lawful_bind front calm calm calm (λ g h. h) r p (λ x. gives (f x)) (λ i x. gives (f x)) (λ x. wider (λ g h. h)) (wider fits) (calmer (λ g h. h)) l (λ x. lawful_gives calm calm (f x))
 
-pub lawful_expected : {I X : Type 0} (front calm : Sign → Bool) (mark : Mark) (w : Lexeme) → is (sign_of w) mark ≡ true → front (sign_of w) ≡ true → Lawful {I = I} {X = X} front calm (expected mark) (λ i. expected mark)
-lawful_expected {I} {X} front calm mark w h c = record { law = λ s. at_expected front calm mark w h c s; one = shrinks_expected {X = X} mark; each = λ i. shrinks_expected {X = X} mark }
+pub lawful_expected : {I X : Type 0} (front calm : Sign → Bool) (mark : Mark) (w : Lexeme) → IsSpelled w → is (sign_of w) mark ≡ true → front (sign_of w) ≡ true → Lawful {I = I} {X = X} front calm (expected mark) (λ i. expected mark)
+lawful_expected {I} {X} front calm mark w spelled h c = record { law = λ s. at_expected front calm mark w spelled h c s; one = shrinks_expected {X = X} mark; each = λ i. shrinks_expected {X = X} mark }
 
-pub lawful_named : {I X : Type 0} (front calm : Sign → Bool) (w : Lexeme) → is_name (sign_of w) ≡ true → front (sign_of w) ≡ true → Lawful {I = I} {X = X} front calm named (λ i. named)
-lawful_named {I} {X} front calm w h c = record { law = λ s. at_named front calm w h c s; one = shrinks_named {X = X}; each = λ i. shrinks_named {X = X} }
+pub lawful_named : {I X : Type 0} (front calm : Sign → Bool) (w : Lexeme) → IsSpelled w → is_name (sign_of w) ≡ true → front (sign_of w) ≡ true → Lawful {I = I} {X = X} front calm named (λ i. named)
+lawful_named {I} {X} front calm w spelled h c = record { law = λ s. at_named front calm w spelled h c s; one = shrinks_named {X = X}; each = λ i. shrinks_named {X = X} }
 
 -- where more may begin
 pub lawful_weak : {I X A : Type 0} (front front2 calm : Sign → Bool) → Within front front2 → (r : Stream → Read X A) (p : I → Stream → Read X A) → Lawful front calm r p → Lawful front2 calm r p
@@ -116,7 +118,7 @@ module _ {I X A : Type 0} (front calm : Sign → Bool) (fits : Within calm front
 -- The same readers wherever the next token is the same, for readers that begin with a token: at the end nothing is read.
 module _ {I X A : Type 0} (front front2 calm : Sign → Bool) (quiet : calm signs.Nothing ≡ true) (r q : Stream → Read X A) (p u : I → Stream → Read X A) where
   moved : (i : I) (t : Lexeme) (ts : List Lexeme) → ((z : Stream) → p i (more t (ts ++> z)) ≡ u i (more t (ts ++> z))) → Viable front2 calm (u i) (t ∷ ts) → Viable front calm (p i) (t ∷ ts)
-  moved i t ts agree v = record { others = v.others; value = v.value; begins = λ n. cc; reads = λ after h. agree (v.others ++> after) ∙ v.reads after h }
+  moved i t ts agree v = record { others = v.others; spelled = v.spelled; value = v.value; begins = λ n. cc; reads = λ after h. agree (v.others ++> after) ∙ v.reads after h }
 
   pub at_head : (s : Stream) → ((after : Stream) → head after ≡ head s → r after ≡ q after) → ((i : I) (after : Stream) → head after ≡ head s → p i after ≡ u i after)
       → (g : Stop X) → q (ends 0) ≡ Err g → ((i : I) → Viable front calm (p i) []) → SteadyAt front2 calm q u s → SteadyAt front calm r p s
@@ -146,7 +148,7 @@ Opens {I} {X} {A} front calm limit r p = (((s : Stream) → r s ≡ Err (other l
 module _ {I X A B : Type 0} (front front1 calm1 front2 calm2 : Sign → Bool) (meets : Within front2 calm1) (limit : X) (d : Stream → Read X A) (ds : I → Stream → Read X A) (k : A → Stream → Read X B) (k2 : I → A → Stream → Read X B)
     (fits : (x : A) → Wide front2 calm2 calm2 (k x)) (wide : Wide front1 front2 calm1 d) (parts : Parts calm1 calm2 k) (law : (x : A) → Lawful front2 calm2 (k x) (λ i. k2 i x)) where
   over_it : (i : I) (p : I → Stream → Read X B) (t : Lexeme) → ((after : Stream) → p i (more t after) ≡ then_reads (ds i) (k2 i) after) → Viable front1 calm2 (then_reads (ds i) (k2 i)) [] → Viable front calm2 (p i) (t ∷ [])
-  over_it i p t agree v = record { others = v.others; value = v.value; begins = λ n. cc; reads = λ after h. agree (v.others ++> after) ∙ v.reads after h }
+  over_it i p t agree v = record { others = v.others; spelled = v.spelled; value = v.value; begins = λ n. cc; reads = λ after h. agree (v.others ++> after) ∙ v.reads after h }
 
   pub opened : (r : Stream → Read X B) (p : I → Stream → Read X B) (t : Lexeme) (s : Stream) → ((after : Stream) → r (more t after) ≡ then_reads d k after) → ((i : I) (after : Stream) → p i (more t after) ≡ then_reads (ds i) (k2 i) after)
       → ((i : I) → Viable front calm2 (p i) []) → Opens front1 calm1 limit d ds → SteadyAt front calm2 r p (more t s)

@@ -1,12 +1,14 @@
 -- How the law of a reader comes from the laws of its parts.
 use Rattle.std.proofs.Common.{◌≡◌, Bool, true, false, List, [], ◌∷◌, ◌++◌, Ok, Err, inl, inr, refl, sym, ap, subst, ◌∙◌, append_assoc}
-use Rattle.st_tokens.specs.Stream.{◌++>◌, Lexeme, Stream, ends, breaks, more}
+use Rattle.std.proofs.lemmas.List.Elements.{All-append}
+use Rattle.st_tokens.specs.Stream.{◌++>◌, Lexeme, Stream, ends, breaks, more, IsSpelled}
 use Rattle.st_reading.specs.declared.sign.Sign.{Sign}
 use Rattle.st_reading.specs.declared.mark.Mark.{Mark}
 use Rattle.st_reading.specs.Sign.{sign_of, is}
 use Rattle.st_reading.specs.Reading.{Stop, other, Read, ahead, refusal, gives, then_reads, expected, named, is_name, label_of}
 use Rattle.st_reading.specs.Steady.{head, Follows, Viable, Cause, refused, over, SteadyAt, both, stops, Short, Within, Parts, calmer, takes, Wide, wider, moves}
 use Rattle.st_reading.proofs.Streams.{append_stream, follows_through, token_is, refusal_same, ahead_same}
+use Rattle.st_reading.proofs.Spelled.{none_spelled, one_spelled}
 
 pub bind_ok : {X A B : Type 0} (r : Stream → Read X A) (q : A → Stream → Read X B) (s : Stream) (x : A) (after : Stream) → r s ≡ Ok (x, after) → then_reads r q s ≡ q x after
 bind_ok r q s x after e = rw e refl
@@ -16,12 +18,13 @@ bind_err r q s f e = rw e refl
 
 -- The same tokens are completed where a reader agrees.
 pub viable_as : {X A : Type 0} (front calm : Sign → Bool) (r q : Stream → Read X A) (ts us : List Lexeme) → (ts ≡ [] → us ≡ []) → ((z : Stream) → r (ts ++> z) ≡ q (us ++> z)) → Viable front calm q us → Viable front calm r ts
-viable_as front calm r q ts us none agree v = record { others = v.others; value = v.value; begins = λ n. v.begins (none n); reads = λ after h. agree (v.others ++> after) ∙ v.reads after h }
+viable_as front calm r q ts us none agree v = record { others = v.others; spelled = v.spelled; value = v.value; begins = λ n. v.begins (none n); reads = λ after h. agree (v.others ++> after) ∙ v.reads after h }
 
 -- a second reader behind the first
 pub viable_first : {X A B : Type 0} (front calm front2 calm2 : Sign → Bool) → Within front2 calm → (p : Stream → Read X A) (u : A → Stream → Read X B) → Short front2 calm2 u → (ts : List Lexeme) → Viable front calm p ts → Viable front calm2 (then_reads p u) ts
 viable_first front calm front2 calm2 meets p u short ts v = record {
   others = v.others ++ short.text v.value;
+  spelled = All-append IsSpelled v.others (short.text v.value) v.spelled (short.spelled v.value);
   value = short.value v.value;
   begins = λ n after h. subst (λ z. front (ahead z) ≡ true) (sym (append_stream v.others (short.text v.value) after)) (v.begins n _ (meets _ (short.begins v.value after h)));
   reads = λ after h. ap (λ s. then_reads p u (ts ++> s)) (append_stream v.others (short.text v.value) after)
@@ -40,6 +43,7 @@ module _ {I X A B : Type 0} (front calm front2 calm2 : Sign → Bool) (meets : W
       → (v : Viable front2 calm2 (u i x) us) → ((after : Stream) → calm2 (ahead after) ≡ true → Follows calm rest (us ++> (v.others ++> after))) → Viable front calm2 (seconds i) (ts ++ us)
   viable_second i ts us x rest opens stable v follows = record {
     others = v.others;
+    spelled = v.spelled;
     value = v.value;
     begins = λ n after h. let o = opens n in o.1 _ (v.begins o.0 after h);
     reads = λ after h. ap (seconds i) (append_stream ts us (v.others ++> after))
@@ -125,7 +129,7 @@ module _ {I X A : Type 0} (front calm : Sign → Bool) (r q : Stream → Read X 
   at_choice s agree agree2 agree3 (stops ts f rest e same v cause) =
       stops ts f rest e
       (λ after h. agree (ts ++> after) (follow after (inl h)) ∙ same after h)
-      (λ i. record { others = (v i).others; value = (v i).value; begins = (v i).begins; reads = λ after h. agreed i ts e (v i) after h ∙ (v i).reads after h })
+      (λ i. record { others = (v i).others; spelled = (v i).spelled; value = (v i).value; begins = (v i).begins; reads = λ after h. agreed i ts e (v i) after h ∙ (v i).reads after h })
       (cause_as ts ts f rest (λ i z h. agree2 i (ts ++> z) (follow z (inl h)))
       (λ i z t h. ap (p i) (append_stream ts (t ∷ []) z) ∙ agree2 i (ts ++> more t z) (follow (more t z) (inl (sym h))) ∙ ap (u i) (sym (append_stream ts (t ∷ []) z))) cause)
     where
@@ -139,7 +143,7 @@ module _ {I X A : Type 0} (front calm : Sign → Bool) (r q : Stream → Read X 
 -- behind a token, whatever may begin what stands behind it
 module _ {I X A : Type 0} (front front2 calm : Sign → Bool) (r q : Stream → Read X A) (p u : I → Stream → Read X A) where
   viable_behind : (i : I) (t : Lexeme) (ts : List Lexeme) → ((after : Stream) → p i (more t after) ≡ u i after) → Viable front2 calm (u i) ts → Viable front calm (p i) (t ∷ ts)
-  viable_behind i t ts agree v = record { others = v.others; value = v.value; begins = λ n. cc; reads = λ after h. agree (ts ++> (v.others ++> after)) ∙ v.reads after h }
+  viable_behind i t ts agree v = record { others = v.others; spelled = v.spelled; value = v.value; begins = λ n. cc; reads = λ after h. agree (ts ++> (v.others ++> after)) ∙ v.reads after h }
 
   cause_behind : (t : Lexeme) (ts : List Lexeme) (f : Stop X) (rest : Stream) → ((i : I) (after : Stream) → p i (more t after) ≡ u i after) → Cause front2 calm u ts f rest → Cause front calm p (t ∷ ts) f rest
   cause_behind t ts f rest agree (refused is same) = refused is (λ i after h. agree i (ts ++> after) ∙ same i after h)
@@ -154,7 +158,7 @@ module _ {I X A : Type 0} (front front2 calm : Sign → Bool) (r q : Stream → 
 -- where more may begin
 module _ {I X A : Type 0} (front front2 calm : Sign → Bool) (wide : Within front front2) (r : Stream → Read X A) (p : I → Stream → Read X A) where
   viable_weak : (i : I) (ts : List Lexeme) → Viable front calm (p i) ts → Viable front2 calm (p i) ts
-  viable_weak i ts v = record { others = v.others; value = v.value; begins = λ n after h. wide _ (v.begins n after h); reads = v.reads }
+  viable_weak i ts v = record { others = v.others; spelled = v.spelled; value = v.value; begins = λ n after h. wide _ (v.begins n after h); reads = v.reads }
 
   cause_weak : (ts : List Lexeme) (f : Stop X) (rest : Stream) → Cause front calm p ts f rest → Cause front2 calm p ts f rest
   cause_weak ts f rest (refused is same) = refused is same
@@ -181,18 +185,18 @@ module _ {I X A : Type 0} (front calm : Sign → Bool) (r : Stream → Read X A)
       stops [] (other y) (more t s) refl (λ after h. let m = token_is t after h in ap r m.1 ∙ refuses m.0) v (over y t s refl refl v2)
 
 pub short_gives : {X A B : Type 0} (front calm : Sign → Bool) → Within calm front → (f : A → B) → Short {X = X} front calm (λ x. gives (f x))
-short_gives front calm cf f = record { text = λ x. []; value = f; begins = λ x after c. cf _ c; reads = λ x after c. refl }
+short_gives front calm cf f = record { text = λ x. []; spelled = λ x. none_spelled; value = f; begins = λ x after c. cf _ c; reads = λ x after c. refl }
 
 pub at_gives : {I X A : Type 0} (front calm : Sign → Bool) (x : A) (s : Stream) → SteadyAt {I = I} {X = X} front calm (gives x) (λ i. gives x) s
 at_gives front calm x s = both [] x s refl (λ after h. refl) (λ i after h. refl)
 
 -- the token that is wanted; w is such a token
-module _ {X : Type 0} (front calm : Sign → Bool) (mark : Mark) (w : Lexeme) (w_is : is (sign_of w) mark ≡ true) (w_front : front (sign_of w) ≡ true) where
+module _ {X : Type 0} (front calm : Sign → Bool) (mark : Mark) (w : Lexeme) (w_spelled : IsSpelled w) (w_is : is (sign_of w) mark ≡ true) (w_front : front (sign_of w) ≡ true) where
   pub viable_expected : Viable {X = X} front calm (expected mark) []
-  viable_expected = record { others = w ∷ []; value = w.start; begins = λ n after h. w_front; reads = λ after h. rw w_is refl }
+  viable_expected = record { others = w ∷ []; spelled = one_spelled w w_spelled; value = w.start; begins = λ n after h. w_front; reads = λ after h. rw w_is refl }
 
   pub short_expected : {A : Type 0} → Short {X = X} {A = A} front calm (λ x. expected mark)
-  short_expected = record { text = λ x. w ∷ []; value = λ x. w.start; begins = λ x after h. w_front; reads = λ x after h. rw w_is refl }
+  short_expected = record { text = λ x. w ∷ []; spelled = λ x. one_spelled w w_spelled; value = λ x. w.start; begins = λ x after h. w_front; reads = λ x after h. rw w_is refl }
 
   pub at_expected : {I : Type 0} (s : Stream) → SteadyAt {I = I} {X = X} front calm (expected mark) (λ i. expected mark) s
   at_expected {I} s = at_test (is (ahead s) mark) s refl
@@ -204,12 +208,12 @@ module _ {X : Type 0} (front calm : Sign → Bool) (mark : Mark) (w : Lexeme) (w
       at_test true (more t s) e = at_one front calm (expected mark) (λ i. expected mark) t t.start s (λ after. rw (← e) refl) (λ i after. rw (← e) refl)
 
 -- a name; w is one
-module _ {X : Type 0} (front calm : Sign → Bool) (w : Lexeme) (w_is : is_name (sign_of w) ≡ true) (w_front : front (sign_of w) ≡ true) where
+module _ {X : Type 0} (front calm : Sign → Bool) (w : Lexeme) (w_spelled : IsSpelled w) (w_is : is_name (sign_of w) ≡ true) (w_front : front (sign_of w) ≡ true) where
   pub viable_named : Viable {X = X} front calm named []
-  viable_named = record { others = w ∷ []; value = label_of w; begins = λ n after h. w_front; reads = λ after h. rw w_is refl }
+  viable_named = record { others = w ∷ []; spelled = one_spelled w w_spelled; value = label_of w; begins = λ n after h. w_front; reads = λ after h. rw w_is refl }
 
   pub short_named : {A : Type 0} → Short {X = X} {A = A} front calm (λ x. named)
-  short_named = record { text = λ x. w ∷ []; value = λ x. label_of w; begins = λ x after h. w_front; reads = λ x after h. rw w_is refl }
+  short_named = record { text = λ x. w ∷ []; spelled = λ x. one_spelled w w_spelled; value = λ x. label_of w; begins = λ x after h. w_front; reads = λ x after h. rw w_is refl }
 
   pub at_named : {I : Type 0} (s : Stream) → SteadyAt {I = I} {X = X} front calm named (λ i. named) s
   at_named {I} s = at_test (is_name (ahead s)) s refl

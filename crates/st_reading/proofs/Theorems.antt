@@ -6,9 +6,10 @@ use Rattle.st_reading.specs.declared.sign.Sign.TheVariants as signs
 use Rattle.st_reading.specs.Reading.{Stop, syntax, broken, other, Read, ◌>>=◌, refusal, then_reads, gives, at_end, whole as all_of}
 use Rattle.st_reading.specs.Steady.{head, Viable, Cause, refused, over, SteadyAt, both, stops}
 use Rattle.st_reading.specs.Spelling.{Sound}
-use Rattle.st_reading.specs.Theorem.{Begins, IsStuck, IsFirst, IsMet}
+use Rattle.st_reading.specs.Theorem.{Begins, GoesOn, IsStuck, IsFirst, IsMet}
 use Rattle.st_reading.proofs.Streams.{append_stream, more_parts, same_text, same_cut}
 use Rattle.st_reading.proofs.Soundness.{values}
+use Rattle.st_reading.proofs.Spelled.{none_spelled}
 
 module _ {I X A : Type 0} (front calm : Sign → Bool) (quiet : calm signs.Nothing ≡ true) (r : Stream → Read X A) (p : I → Stream → Read X A) (i0 : I) (L : I → List Lexeme → A → Type 0)
     (sound : (i : I) → Sound (p i) (L i)) (whole : (i : I) (ts : List Lexeme) (x : A) (q : ℕ) → L i ts x → p i (ts ++> ends q) ≡ Ok (x, ends q)) where
@@ -20,7 +21,7 @@ module _ {I X A : Type 0} (front calm : Sign → Bool) (quiet : calm signs.Nothi
   begins ts i v =
       let c = sound i (ts ++> (v.others ++> ends 0)) v.value (ends 0) (v.reads (ends 0) quiet) in
       let e = same_text (ts ++ v.others) c.text 0 (append_stream ts v.others (ends 0) ∙ c.is) in
-      (v.others, v.value, (i, subst (λ (z : List Lexeme). L i z v.value) (sym e) c.spells))
+      (v.others, v.spelled, v.value, (i, subst (λ (z : List Lexeme). L i z v.value) (sym e) c.spells))
 
   whole_over : (ts us : List Lexeme) (t : Lexeme) (x : A) (i : I) → L i ((ts ++ t ∷ []) ++ us) x → p i (ts ++> more t (us ++> ends 0)) ≡ Ok (x, ends 0)
   whole_over ts us t x i l =
@@ -28,7 +29,7 @@ module _ {I X A : Type 0} (front calm : Sign → Bool) (quiet : calm signs.Nothi
       ap (p i) (sym e) ∙ whole i ((ts ++ t ∷ []) ++ us) x 0 l
 
   -- no text goes on over the token
-  never : (ts : List Lexeme) (t : Lexeme) (f : Stop X) → ((i : I) (after : Stream) → p i (ts ++> more t after) ≡ Err f) → Begins Some_of (ts ++ t ∷ []) → ⊥
+  never : (ts : List Lexeme) (t : Lexeme) (f : Stop X) → ((i : I) (after : Stream) → p i (ts ++> more t after) ≡ Err f) → GoesOn Some_of (ts ++ t ∷ []) → ⊥
   never ts t f refuses b =
       let bad = refuses b.2.0 (b.0 ++> ends 0) in
       let good = whole_over ts b.0 t b.1 b.2.0 b.2.1 in
@@ -82,7 +83,7 @@ module _ {I X A : Type 0} (front calm : Sign → Bool) (quiet : calm signs.Nothi
   at_first s f law (Ok (x, breaks g)) e h =
       let c = sound i0 s x (breaks g) (read_by_all s x (breaks g) law (sym e) i0) in
       let same : broken g ≡ f = cc in
-      record { text = c.text; rest = breaks g; is = c.is; begins = ([], x, (i0, subst (λ (z : List Lexeme). L i0 z x) (sym (append-nil c.text)) c.spells)); stuck = subst (λ z. IsStuck Some_of c.text z (breaks g)) same refl }
+      record { text = c.text; rest = breaks g; is = c.is; begins = ([], none_spelled, x, (i0, subst (λ (z : List Lexeme). L i0 z x) (sym (append-nil c.text)) c.spells)); stuck = subst (λ z. IsStuck Some_of c.text z (breaks g)) same refl }
   at_first s f law (Ok (x, more t after)) e h =
       let c = sound i0 s x (more t after) (read_by_all s x (more t after) law (sym e) i0) in
       let same : syntax t.start ≡ f = cc in
@@ -90,7 +91,7 @@ module _ {I X A : Type 0} (front calm : Sign → Bool) (quiet : calm signs.Nothi
         text = c.text;
         rest = more t after;
         is = c.is;
-        begins = ([], x, (i0, subst (λ (z : List Lexeme). L i0 z x) (sym (append-nil c.text)) c.spells));
+        begins = ([], none_spelled, x, (i0, subst (λ (z : List Lexeme). L i0 z x) (sym (append-nil c.text)) c.spells));
         stuck = subst (λ z. IsStuck Some_of c.text z (more t after)) same (refl, λ b. longest s x (more t after) law (sym e) c.text c.is t after b.0 b.1 refl (subst (λ (z : List Lexeme). Some_of z b.1) (append_assoc c.text (t ∷ []) b.0) b.2));
       }
 
@@ -104,7 +105,7 @@ module _ {I X A : Type 0} (front calm : Sign → Bool) (quiet : calm signs.Nothi
     no_refusal (breaks g) f y e h = let k : broken g ≡ other y = sym e ∙ h in cc
     no_refusal (more t s) f y e h = let k : syntax t.start ≡ other y = sym e ∙ h in cc
 
-    none_within : (ts : List Lexeme) (t : Lexeme) (f : Stop X) (y : X) → f ≡ other y → ((after : Stream) → r (ts ++> more t after) ≡ Err f) → Begins (W y) (ts ++ t ∷ []) → ⊥
+    none_within : (ts : List Lexeme) (t : Lexeme) (f : Stop X) (y : X) → f ≡ other y → ((after : Stream) → r (ts ++> more t after) ≡ Err f) → GoesOn (W y) (ts ++ t ∷ []) → ⊥
     none_within ts t f y is refuses b =
         let e : ((ts ++ t ∷ []) ++ b.0) ++> ends 0 ≡ ts ++> more t (b.0 ++> ends 0) = append_stream (ts ++ t ∷ []) b.0 (ends 0) ∙ append_stream ts (t ∷ []) (b.0 ++> ends 0) in
         against y ((ts ++ t ∷ []) ++ b.0) b.1 b.2 (ap r e ∙ refuses (b.0 ++> ends 0) ∙ ap Err is)
@@ -144,13 +145,13 @@ module _ {A : Type 0} (L M : List Lexeme → A → Type 0) (to : (ts : List Lexe
   stuck_as ts (syntax place) (ends end) h = (h.0, λ x l. h.1 x (from ts x l))
   stuck_as ts (syntax place) (breaks f) h = h
   stuck_as ts (syntax place) (more t after) h = (h.0, λ b. h.1 (b.0, b.1, from ((ts ++ t ∷ []) ++ b.0) b.1 b.2))
-  stuck_as ts (other x) rest h = (h.0, h.1, h.2, (h.3.0, h.3.1, to ((ts ++ h.0 ∷ []) ++ h.3.0) h.3.1 h.3.2))
+  stuck_as ts (other x) rest h = (h.0, h.1, h.2, (h.3.0, h.3.1, h.3.2, to ((ts ++ h.0 ∷ []) ++ h.3.0) h.3.2 h.3.3))
 
   pub first_as : {X : Type 0} (s : Stream) (f : Stop X) → IsFirst L s f → IsFirst M s f
-  first_as s f h = record { text = h.text; rest = h.rest; is = h.is; begins = (h.begins.0, h.begins.1, to (h.text ++ h.begins.0) h.begins.1 h.begins.2); stuck = stuck_as h.text f h.rest h.stuck }
+  first_as s f h = record { text = h.text; rest = h.rest; is = h.is; begins = (h.begins.0, h.begins.1, h.begins.2, to (h.text ++ h.begins.0) h.begins.2 h.begins.3); stuck = stuck_as h.text f h.rest h.stuck }
 
   pub met_as : (W : List Lexeme → A → Type 0) (s : Stream) → IsMet L W s → IsMet M W s
-  met_as W s h = record { text = h.text; token = h.token; after = h.after; is = h.is; begins = (h.begins.0, h.begins.1, to ((h.text ++ h.token ∷ []) ++ h.begins.0) h.begins.1 h.begins.2); none = h.none }
+  met_as W s h = record { text = h.text; token = h.token; after = h.after; is = h.is; begins = (h.begins.0, h.begins.1, h.begins.2, to ((h.text ++ h.token ∷ []) ++ h.begins.0) h.begins.2 h.begins.3); none = h.none }
 
 -- what stands behind the first tokens of a whole text
 pub further_tokens : (a b : List Lexeme) (q : ℕ) (s : Stream) → a ++> ends q ≡ b ++> s → (c : List Lexeme) × (a ≡ b ++ c) × (s ≡ c ++> ends q)

@@ -1,7 +1,7 @@
 -- What a reader does depends on the tokens that it takes and on the next one alone, and what it took can be completed.
-use Rattle.std.specs.Prelude.{◌≡◌, ℕ, Bool, true, List, [], ◌∷◌, ◌++◌, Ok, Err, ◌⊎◌}
+use Rattle.std.specs.Prelude.{◌≡◌, ℕ, Bool, true, List, [], ◌∷◌, ◌++◌, All, Ok, Err, ◌⊎◌}
 use Rattle.st_tokens.specs.declared.kind.TokenFault.{TokenFault}
-use Rattle.st_tokens.specs.Stream.{◌++>◌, Lexeme, Stream, ends, breaks, more}
+use Rattle.st_tokens.specs.Stream.{◌++>◌, Lexeme, Stream, ends, breaks, more, IsSpelled}
 use Rattle.st_reading.specs.declared.sign.Sign.{Sign}
 use Rattle.st_reading.specs.declared.sign.Sign.TheVariants as signs
 use Rattle.st_reading.specs.Reading.{Stop, other, Read, ahead, refusal}
@@ -21,10 +21,11 @@ head (more t s) = token t
 abbrev pub Follows : (Sign → Bool) → Stream → Stream → Type 0
 Follows calm s after = (head after ≡ head s) ⊎ (calm (ahead after) ≡ true)
 
--- The tokens can be completed to a text that is read, whatever calm token follows. Where nothing was taken yet,
--- what completes them begins with a token of `front`.
+-- The tokens can be completed to a text that is read, whatever calm token follows, by tokens that texts have. Where
+-- nothing was taken yet, what completes them begins with a token of `front`.
 pub record Viable {X A : Type 0} (front calm : Sign → Bool) (r : Stream → Read X A) (ts : List Lexeme) : Type 0 where
   pub others : List Lexeme
+  pub spelled : All IsSpelled others
   pub value : A
   pub begins : ts ≡ [] → (after : Stream) → calm (ahead after) ≡ true → front (ahead (others ++> after)) ≡ true
   pub reads : (after : Stream) → calm (ahead after) ≡ true → r (ts ++> (others ++> after)) ≡ Ok (value, after)
@@ -47,9 +48,10 @@ pub data SteadyAt {I X A : Type 0} (front calm : Sign → Bool) (r : Stream → 
       → ((i : I) → Viable front calm (p i) ts) → Cause front calm p ts f rest
       → SteadyAt front calm r p s
 
--- A second reader has a shortest text, whatever was read before.
+-- A second reader has a shortest text, whatever was read before, of tokens that texts have.
 pub record Short {X A B : Type 0} (front calm : Sign → Bool) (r : A → Stream → Read X B) : Type 0 where
   pub text : A → List Lexeme
+  pub spelled : (x : A) → All IsSpelled (text x)
   pub value : A → B
   pub begins : (x : A) (after : Stream) → calm (ahead after) ≡ true → front (ahead (text x ++> after)) ≡ true
   pub reads : (x : A) (after : Stream) → calm (ahead after) ≡ true → r x (text x ++> after) ≡ Ok (value x, after)

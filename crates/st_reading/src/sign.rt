@@ -1,5 +1,6 @@
 ghost use Rattle.std.specs.Prelude.{◌≡◌};
 ghost use Rattle.st_tokens.specs.Stream.{lexeme};
+ghost use Rattle.st_reading.specs.Breaches.{numeral_in};
 ghost use Rattle.st_reading.specs.Reading.{is_name};
 ghost use Rattle.st_reading.specs.Sign.{sign_of, symbol_sign, word_sign, word_mark, or_else, declaring_word, basic_word, compound_word, step_word, rule_word, drawing_word, is};
 
@@ -32,6 +33,16 @@ pub fn is_name(sign: Sign) -> bool
     ensures { result ≡ is_name sign }
 {
     matches!(sign, Sign::Name)
+}
+
+/// The number of a numeral.
+pub fn numeral_in(sign: Sign) -> Option<u32>
+    ensures { result ≡ numeral_in sign }
+{
+    match sign {
+        Sign::Numeral(number) => Some(number),
+        _ => None,
+    }
 }
 
 fn symbol_sign(text: &[u8]) -> Sign

@@ -1,3 +1,5 @@
+//! The files of the host, as the top call asks for them: each is read from its beginning on, once, so a pipe can be named.
+
 ghost use Rattle.std.specs.Prelude.{◌≡◌, ◌<◌, ◌≤◌, None, length, slice_index, string_bytes, position, take};
 ghost use Rattle.std.specs.Str.{bytes_eq};
 ghost use Rattle.std.specs.Io.{ReadsAtMost};

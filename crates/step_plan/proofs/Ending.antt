@@ -16,7 +16,7 @@ weaker : (o : Option Outcome) (P Q : Outcome → Type 0) → ((x : Outcome) → 
 weaker None P Q f h = tt
 weaker (Some x) P Q f h = f x h
 
-unless : (s : Status) (P : Type 0) → P → UnlessFault s P
+pub unless : (s : Status) (P : Type 0) → P → UnlessFault s P
 unless ReadFault P p = tt
 unless WriteFault P p = tt
 unless Memory P p = tt

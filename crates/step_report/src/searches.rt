@@ -2,13 +2,13 @@
 
 ghost use Rattle.std.specs.Prelude.{◌≡◌, ◌++◌, length, OnOk};
 ghost use Rattle.std.specs.Option.{option_map};
-ghost use Rattle.linear_prover.specs.Plain.{plain_step, plain_path, plain_shown, step_by};
+ghost use Rattle.search_verdicts.specs.Plain.{plain_step, plain_path, plain_shown, step_by};
 ghost use Rattle.step_report.specs.Searches.{division_text, step_text, more_steps, steps_text, path_text, place_text, control_lines, value_text, value_lines, state_text, stage_text, open_text, wide_text};
 
 use crate::naming::{push_location, push_statement, push_variable};
 use crate::pushing::{push_from_one, push_int, push_text};
 use control_states::Alternative;
-use linear_prover::{PathKind, PathStep, Shown, WideStage};
+use search_verdicts::{PathKind, PathStep, Shown, WideStage};
 use st_memory::Memory;
 use st_program::{Datum, NameTable};
 

@@ -9,10 +9,11 @@ use Rattle.st_form.specs.declared.conditions.Condition.{Condition}
 use Rattle.st_form.specs.declared.variables.Variable.{Variable}
 use Rattle.control_states.specs.Control.{ControlFacts}
 use Rattle.farkas_check.specs.Problem.{Setting}
-use Rattle.discharge.specs.Verdicts.{AreSearchable, AreAnswers}
-use Rattle.linear_prover.specs.declared.verdict.Verdict.{Verdict}
-use Rattle.linear_prover.specs.declared.verdict.Verdict.TheVariants.{Valid, Open, Wide}
-use Rattle.linear_prover.specs.Plain.{plain_verdict}
+use Rattle.discharge.specs.Verdicts.{AreAnswers}
+use Rattle.search_laws.specs.Searchable.{AreSearchable}
+use Rattle.search_verdicts.specs.declared.verdict.Verdict.{Verdict}
+use Rattle.search_verdicts.specs.declared.verdict.Verdict.TheVariants.{Valid, Open, Wide}
+use Rattle.search_verdicts.specs.Plain.{plain_verdict}
 use Rattle.transition_system.specs.Systems.{System}
 use Rattle.transition_system.specs.Bounds.{IsSystem}
 use Rattle.temporal_goals.specs.Texts.{PlainStep}

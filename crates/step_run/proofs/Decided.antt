@@ -12,11 +12,11 @@ use Rattle.step_plan.specs.Outcome.{Outcome, IsDecided}
 use Rattle.std.specs.Prelude.{Result, Ok, Err}
 use Rattle.st_tokens.specs.declared.kind.TokenFault.{TokenFault}
 use Rattle.st_tokens.specs.declared.kind.TokenFault.TheVariants as tokens
+use Rattle.st_reading.specs.Reading.{Stop, syntax, broken, other}
+use Rattle.st_reading.specs.Breaches.{Breach, broke, limited as over, crowded}
 use Rattle.spl_semantics.specs.Stores.{holds}
 use Rattle.spl_semantics.specs.Data.{store_of}
 use Rattle.schedule_reader.specs.Schedules.{PlainSchedule, schedule_spelled}
-use Rattle.schedule_reader.specs.declared.fault.ScheduleFault.{ScheduleFault}
-use Rattle.schedule_reader.specs.declared.fault.ScheduleFault.TheVariants as faults
 use Rattle.trace_player.specs.Playing as playing
 use Rattle.step_run.specs.Scheduled.{start_of}
 use Rattle.step_run.specs.Traced.{Scripted, token_refused, schedule_refused, no_start, play_ended, schedule_played, schedule_ended, traced}
@@ -65,16 +65,12 @@ token_decided : (f : TokenFault) → IsDecided (token_refused f).status
 token_decided (tokens.BadByte place) = tt
 token_decided (tokens.LongNumber place) = tt
 
-refused_decided : (f : ScheduleFault) → IsDecided (schedule_refused f).status
-refused_decided (faults.Token f) = token_decided f
-refused_decided (faults.Syntax place) = tt
-refused_decided (faults.Unknown place) = tt
-refused_decided (faults.Twice place) = tt
-refused_decided (faults.WrongType place) = tt
-refused_decided (faults.Unset place) = tt
-refused_decided (faults.UnknownTransition place) = tt
-refused_decided (faults.Moves place) = tt
-refused_decided faults.Memory = tt
+refused_decided : (f : Stop Breach) → IsDecided (schedule_refused f).status
+refused_decided (syntax place) = tt
+refused_decided (broken f) = token_decided f
+refused_decided (other (broke rule place)) = tt
+refused_decided (other (over kind place)) = tt
+refused_decided (other (crowded place)) = tt
 
 play_decided : (x : Scripted) (s : PlainSchedule) (r : playing.Outcome) → IsDecided (play_ended x s r).status
 play_decided x s (playing.made later) = tt
@@ -88,7 +84,7 @@ played_decided x s = by (holds x.program.initial (store_of s.store)) where
   by true = play_decided x s (playing.outcome x.program.processes s.moves (start_of x.program s) 0)
   by false = tt
 
-schedule_decided : (x : Scripted) (r : Result PlainSchedule ScheduleFault) → IsDecided (schedule_ended x r).status
+schedule_decided : (x : Scripted) (r : Result PlainSchedule (Stop Breach)) → IsDecided (schedule_ended x r).status
 schedule_decided x (Ok s) = played_decided x s
 schedule_decided x (Err f) = refused_decided f
 

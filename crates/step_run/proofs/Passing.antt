@@ -8,7 +8,7 @@ use Rattle.st_certificate.specs.Tree.{Tree}
 use Rattle.farkas_check.specs.Problem.{Setting}
 use Rattle.search_laws.specs.Moves.{valid, open_at, wide_at, decided}
 use Rattle.search_laws.specs.Moves as moves
-use Rattle.linear_prover.specs.declared.verdict.Verdict.{Verdict}
+use Rattle.search_verdicts.specs.declared.verdict.Verdict.{Verdict}
 use Rattle.linear_prover.specs.Verdicts.{is_valid}
 use Rattle.discharge.specs.Searched.{mark, ValidBefore, IsFirstOpen}
 use Rattle.block_laws.specs.Plain.{plains}

@@ -13,9 +13,10 @@ use Rattle.vc_generator.specs.declared.faults.VcFault.{VcFault}
 use Rattle.vc_generator.specs.declared.faults.VcFault.TheVariants as limits
 use Rattle.script_laws.specs.Script.{script_list}
 use Rattle.script_laws.specs.Refused.{refused_by, refused_at}
-use Rattle.script_laws.specs.Obeying.{IsProof}
+use Rattle.rule_fits.specs.Obeying.{IsProof}
 use Rattle.script_laws.specs.Written.{StepWritten}
-use Rattle.script_bounds.specs.Over.{StepOver, OverIsWritten}
+use Rattle.script_bounds.specs.Over.{OverIsWritten}
+use Rattle.script_speech.specs.Over.{StepOver}
 use Rattle.script_obligations.specs.Laws.{AreThese}
 use Rattle.condition_sizes.specs.Within.{Each}
 use Rattle.obligations.specs.declared.faults.ObligationFault.{ObligationFault}

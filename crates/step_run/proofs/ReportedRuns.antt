@@ -5,7 +5,8 @@ use Rattle.st_form.specs.declared.conditions.TransName.{TransName}
 use Rattle.spl_semantics.specs.Plain.{plain_state}
 use Rattle.st_program.specs.Tree.{Processes}
 use Rattle.observations.specs.Observation.{last}
-use Rattle.spl_semantics.specs.Runs.{State, seen, place_of, observed}
+use Rattle.spl_semantics.specs.Runs.{State, place_of}
+use Rattle.spl_semantics.specs.Observed.{seen, observed}
 use Rattle.run_judging.specs.Greatest.{AreGreatest}
 use Rattle.run_judging.specs.declared.judged.Judged.{Judged}
 use Rattle.judging_laws.specs.Counted.{round_counts}

@@ -4,6 +4,8 @@ use Rattle.std.specs.Prelude.{Option, Some, None, Result, Ok, Err, if◌then◌e
 use Rattle.st_form.specs.declared.conditions.TransName.{TransName}
 use Rattle.st_tokens.specs.declared.kind.TokenFault.{TokenFault}
 use Rattle.st_tokens.specs.declared.kind.TokenFault.TheVariants as tokens
+use Rattle.st_reading.specs.Reading.{Stop, syntax, broken, other}
+use Rattle.st_reading.specs.Breaches.{Breach, broke, limited, crowded}
 use Rattle.temporal_goals.specs.Texts.{PlainStep}
 use Rattle.spl_semantics.specs.Stores.{holds}
 use Rattle.spl_semantics.specs.Data.{store_of}
@@ -11,8 +13,6 @@ use Rattle.spl_semantics.specs.Runs.{State, first}
 use Rattle.spl_parser.specs.Theorems.{SpelledIsRead}
 use Rattle.spl_typer.specs.Programs.{Typed}
 use Rattle.schedule_reader.specs.Schedules.{PlainSchedule, schedule_spelled}
-use Rattle.schedule_reader.specs.declared.fault.ScheduleFault.{ScheduleFault}
-use Rattle.schedule_reader.specs.declared.fault.ScheduleFault.TheVariants as faults
 use Rattle.trace_player.specs.Playing as playing
 use Rattle.trace_player.specs.Playing.{made, too_large, illegal, outcome}
 use Rattle.trace_laws.proofs.Played.{made_follows, run_made}
@@ -48,16 +48,12 @@ token_not : (f : TokenFault) → IsProved (token_refused f) → ⊥
 token_not (tokens.BadByte place) e = cc
 token_not (tokens.LongNumber place) e = cc
 
-refused_not : (f : ScheduleFault) → IsProved (schedule_refused f) → ⊥
-refused_not (faults.Token f) e = token_not f e
-refused_not (faults.Syntax place) e = cc
-refused_not (faults.Unknown place) e = cc
-refused_not (faults.Twice place) e = cc
-refused_not (faults.WrongType place) e = cc
-refused_not (faults.Unset place) e = cc
-refused_not (faults.UnknownTransition place) e = cc
-refused_not (faults.Moves place) e = cc
-refused_not faults.Memory e = cc
+refused_not : (f : Stop Breach) → IsProved (schedule_refused f) → ⊥
+refused_not (syntax place) e = cc
+refused_not (broken f) e = token_not f e
+refused_not (other (broke rule place)) e = cc
+refused_not (other (limited kind place)) e = cc
+refused_not (other (crowded place)) e = cc
 
 -- what status 0 shows of a schedule
 pub record Ran (p : Typed) (steps : List PlainStep) (text : List ℕ) (o : Outcome) : Type 0 where
@@ -94,7 +90,7 @@ module _ (p : Typed) (steps : List PlainStep) (well : IsSpelled p) where
   unfolding schedule_played
   by_played s o e proved = by_start s o (holds p.initial (store_of s.store)) refl e proved
 
-  by_schedule : (text : List ℕ) (o : Outcome) (r : Result PlainSchedule ScheduleFault) → schedule_spelled p.names p.processes text ≡ r → schedule_ended (over p steps) r ≡ o → IsProved o → Ran p steps text o
+  by_schedule : (text : List ℕ) (o : Outcome) (r : Result PlainSchedule (Stop Breach)) → schedule_spelled p.names p.processes text ≡ r → schedule_ended (over p steps) r ≡ o → IsProved o → Ran p steps text o
   by_schedule text o (Ok s) is e proved =
       let m = by_played s o e proved in
       record { schedule_is = s; later = m.later; spelled = is; run = m.run; same = m.same }

@@ -1,6 +1,8 @@
 -- A script over a program, with which a trace goes on, and what its schedule is.
 use Rattle.std.proofs.Common.{◌≡◌, ℕ, ◌≤◌, Bool, true, List, [], ◌∷◌, length, map, refl, sym, ap, ◌∙◌}
-use Rattle.std.specs.Prelude.{All, not, if◌then◌else◌, Result, Ok, Err}
+use Rattle.std.specs.Prelude.{All, not, if◌then◌else◌, Option, Some, None, Ok, Err}
+use Rattle.st_reading.specs.Reading.{Stop, IsStop}
+use Rattle.st_reading.specs.Breaches.{Breach}
 use Rattle.temporal_goals.specs.Texts.{PlainStep}
 use Rattle.spl_semantics.specs.Data.{is_boolean, types, store_of, StoreFits}
 use Rattle.spl_semantics.specs.Stores.{holds}
@@ -9,10 +11,7 @@ use Rattle.spl_typer.proofs.Tabled.{kinds_stand}
 use Rattle.st_program.specs.declared.residuals.Datum.{Datum}
 use Rattle.st_program.specs.declared.residuals.Datum.TheVariants.{Number, Truth}
 use Rattle.schedule_reader.specs.Values.{has_type}
-use Rattle.schedule_reader.specs.Schedules as schedules
 use Rattle.schedule_reader.specs.Schedules.{PlainSchedule, schedule_spelled}
-use Rattle.schedule_reader.specs.declared.fault.ScheduleFault.{ScheduleFault}
-use Rattle.schedule_reader.specs.declared.fault.ScheduleFault.TheVariants as faults
 use Rattle.trace_player.specs.Playing as playing
 use Rattle.trace_player.specs.Playing.{outcome, PlayAnswers}
 use Rattle.trace_player.specs.declared.faults.PlayFault.{PlayFault}
@@ -21,7 +20,7 @@ use Rattle.step_plan.specs.Outcome.{Outcome}
 use Rattle.step_plan.specs.Plan.{Plan, goes_on}
 use Rattle.step_run.specs.Source.{IsSpelled}
 use Rattle.step_run.specs.Scheduled.{start_of, observed_of}
-use Rattle.step_run.specs.Traced.{Scripted, schedule_refused, IsOfText, no_start, too_large_at, not_enabled, play_ended, schedule_played, schedule_ended, traced}
+use Rattle.step_run.specs.Traced.{Scripted, schedule_refused, IsEndOf, no_start, too_large_at, not_enabled, play_ended, schedule_played, schedule_ended, traced}
 use Rattle.step_run.proofs.Typed.{from_text}
 
 -- with what a script is gone on
@@ -67,18 +66,11 @@ module _ (x : Scripted) (text : List ℕ) where
   unfolding traced
   read_so s is = ap (schedule_ended x) is
 
-  refused_as : (f : ScheduleFault) → schedule_spelled x.program.names x.program.processes text ≡ Err f → schedule_refused f ≡ traced x text
+  refused_as : (f : Stop Breach) → schedule_spelled x.program.names x.program.processes text ≡ Err f → schedule_refused f ≡ traced x text
   unfolding traced
   refused_as f is = sym (ap (schedule_ended x) is)
 
   -- one that isn't is refused at its first fault
-  pub refused_so : (f : ScheduleFault) → IsOfText f → schedules.Fails f (schedule_spelled x.program.names x.program.processes text) → schedule_refused f ≡ traced x text
-  refused_so (faults.Token f) named is = refused_as (faults.Token f) is
-  refused_so (faults.Syntax place) named is = refused_as (faults.Syntax place) is
-  refused_so (faults.Unknown place) named is = refused_as (faults.Unknown place) is
-  refused_so (faults.Twice place) named is = refused_as (faults.Twice place) is
-  refused_so (faults.WrongType place) named is = refused_as (faults.WrongType place) is
-  refused_so (faults.Unset place) named is = refused_as (faults.Unset place) is
-  refused_so (faults.UnknownTransition place) named is = refused_as (faults.UnknownTransition place) is
-  refused_so (faults.Moves place) named is = refused_as (faults.Moves place) is
-  refused_so faults.Memory named is = absurd named
+  pub refused_so : (seen : Option (Stop Breach)) (o : Outcome) → IsEndOf seen o → IsStop seen (schedule_spelled x.program.names x.program.processes text) → o ≡ traced x text
+  refused_so None o end is = absurd end
+  refused_so (Some f) o end is = end ∙ refused_as f is

@@ -6,8 +6,8 @@ use Rattle.st_form.specs.Shared.{plain_condition}
 use Rattle.st_form.specs.declared.conditions.Condition.{Condition}
 use Rattle.st_certificate.specs.Tree.{Tree}
 use Rattle.farkas_check.specs.Problem.{Setting}
-use Rattle.linear_prover.specs.declared.verdict.Verdict.{Verdict}
-use Rattle.linear_prover.specs.Plain.{plain_verdict}
+use Rattle.search_verdicts.specs.declared.verdict.Verdict.{Verdict}
+use Rattle.search_verdicts.specs.Plain.{plain_verdict}
 use Rattle.cert_text.specs.Spelling.{block_text}
 use Rattle.step_report.specs.Goals.{blocks_text, certificates_text}
 use Rattle.discharge.specs.Verdicts.{IsAnswer, AreAnswers}

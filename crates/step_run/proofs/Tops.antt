@@ -12,12 +12,7 @@ use Rattle.step_plan.specs.Plan.{Told, Counts, Faulted, Follows}
 use Rattle.step_run.specs.Headline.{Headline, Exactly}
 use Rattle.step_run.specs.Plans.{plan_of}
 use Rattle.step_run.specs.StatusZero.{EndsShow, EndsAreExact}
-
-unless : (s : Status) (P : Type 0) → P → UnlessFault s P
-unless ReadFault P p = tt
-unless WriteFault P p = tt
-unless Memory P p = tt
-unless _ P p = p
+use Rattle.step_plan.proofs.Ending.{unless}
 
 module _ (told : Told) (before now : Counts) (request : Option PlainRequest) (ended : Ended) where
   failed : Faulted told before now (plan_of request) ended → ended.status ≡ ReadFault

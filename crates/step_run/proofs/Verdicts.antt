@@ -9,12 +9,12 @@ use Rattle.st_form.specs.Shared.{plain_condition}
 use Rattle.st_form.specs.declared.conditions.Condition.{Condition}
 use Rattle.farkas_check.specs.Problem.{Setting}
 use Rattle.search_laws.specs.Sizes.{nodes}
-use Rattle.linear_prover.specs.declared.verdict.Verdict.{Verdict}
-use Rattle.linear_prover.specs.declared.verdict.Verdict.TheVariants.{Valid, Open, Wide}
-use Rattle.linear_prover.specs.declared.verdict.PathStep.{PathStep}
-use Rattle.linear_prover.specs.declared.verdict.Shown.{Shown}
+use Rattle.search_verdicts.specs.declared.verdict.Verdict.{Verdict}
+use Rattle.search_verdicts.specs.declared.verdict.Verdict.TheVariants.{Valid, Open, Wide}
+use Rattle.search_verdicts.specs.declared.verdict.PathStep.{PathStep}
+use Rattle.search_verdicts.specs.declared.verdict.Shown.{Shown}
 use Rattle.elimination_laws.specs.declared.stage.WideStage.{WideStage}
-use Rattle.linear_prover.specs.Plain.{plain_path, plain_shown, plain_verdict}
+use Rattle.search_verdicts.specs.Plain.{plain_path, plain_shown, plain_verdict}
 use Rattle.step_report.specs.declared.conditions.Reason.{Reason}
 use Rattle.step_report.specs.declared.conditions.Reason.TheVariants as Reasons
 use Rattle.step_report.specs.Conditions.{not_proved_text}
@@ -29,9 +29,7 @@ use Rattle.step_plan.specs.Outcome.{Outcome, ended_view, IsDecided}
 use Rattle.step_run.specs.Conditions.{Posed}
 use Rattle.step_run.specs.Verified.{Verified, found_before, by_verdict, verdict_on, search_ended, undecided}
 use Rattle.step_run.specs.Deciding.{is_valid, tree_in, AreModest, EndsAt}
-
-no_truth : false ≡ true → ⊥
-no_truth e = cc
+use Rattle.basic_laws.proofs.Truths.{no_truth}
 
 pub verdict_is : (k : Setting) (c : Condition) (v : Verdict) → IsAnswer k c v → verdict_on k (plain_condition c) ≡ plain_verdict v
 unfolding verdict_on

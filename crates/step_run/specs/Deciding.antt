@@ -5,9 +5,9 @@ use Rattle.std.specs.declared.alloc.Global.{Global}
 use Rattle.st_form.specs.Condition.{Implication}
 use Rattle.st_certificate.specs.Tree.{Tree, impossible}
 use Rattle.st_certificate.specs.Plain.{plain}
-use Rattle.linear_prover.specs.declared.verdict.Verdict.{Verdict}
-use Rattle.linear_prover.specs.declared.verdict.Verdict.TheVariants.{Valid, Open, Wide}
-use Rattle.linear_prover.specs.Plain.{plain_verdict}
+use Rattle.search_verdicts.specs.declared.verdict.Verdict.{Verdict}
+use Rattle.search_verdicts.specs.declared.verdict.Verdict.TheVariants.{Valid, Open, Wide}
+use Rattle.search_verdicts.specs.Plain.{plain_verdict}
 use Rattle.search_laws.specs.Sizes.{nodes}
 use Rattle.step_plan.specs.declared.stage.Stage.{Stage}
 use Rattle.step_plan.specs.declared.stage.Stage.TheVariants.{On, Over}

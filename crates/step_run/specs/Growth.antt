@@ -4,8 +4,8 @@ use Rattle.st_form.specs.Shared.{plain_condition}
 use Rattle.st_form.specs.declared.conditions.Condition.{Condition}
 use Rattle.st_program.specs.Plain.{plain_children}
 use Rattle.control_facts.specs.Alternatives.{control_of}
-use Rattle.discharge.specs.Verdicts.{AreSearchable}
-use Rattle.linear_prover.specs.declared.verdict.Verdict.{Verdict}
+use Rattle.search_laws.specs.Searchable.{AreSearchable}
+use Rattle.search_verdicts.specs.declared.verdict.Verdict.{Verdict}
 use Rattle.transition_system.specs.Plain.{plain_system}
 use Rattle.temporal_goals.specs.Texts.{PlainStep}
 use Rattle.temporal_goals.specs.Plain.{plain_script}

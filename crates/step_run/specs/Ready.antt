@@ -1,7 +1,7 @@
 -- What is so of a program, its script and conditions once they are posed: names and conditions are as many as they should be,
 -- and the conditions may be checked and decided.
 use Rattle.std.specs.Prelude.{◌≡◌, ◌≤◌, length}
-use Rattle.discharge.specs.Verdicts.{AreSearchable}
+use Rattle.search_laws.specs.Searchable.{AreSearchable}
 use Rattle.step_run.specs.declared.posed.Posed.{Posed}
 
 pub record IsReady (x : Posed) : Type 0 where

@@ -4,7 +4,8 @@ use Rattle.st_form.specs.Formula.{Situation}
 use Rattle.st_form.specs.declared.conditions.TransName.{TransName}
 use Rattle.observations.specs.Observation.{Observation}
 use Rattle.spl_semantics.specs.Data.{store_of}
-use Rattle.spl_semantics.specs.Runs.{State, start, IsFirst, observed}
+use Rattle.spl_semantics.specs.Runs.{State, start, IsFirst}
+use Rattle.spl_semantics.specs.Observed.{observed}
 use Rattle.spl_typer.specs.Programs.{Typed}
 use Rattle.schedule_reader.specs.Schedules.{PlainSchedule}
 use Rattle.trace_laws.specs.Schedules.{IsRunOfNames}

@@ -1,16 +1,18 @@
 -- How a trace ends: the schedule is refused, it gives no run, or its run is reported.
-use Rattle.std.specs.Prelude.{ℕ, List, length, if◌then◌else◌, Result, Ok, Err}
+use Rattle.std.specs.Prelude.{◌≡◌, ℕ, List, length, if◌then◌else◌, Option, Some, None, Result, Ok, Err}
 use Rattle.st_form.specs.Formula.{Situation}
 use Rattle.st_tokens.specs.declared.kind.TokenFault.{TokenFault}
 use Rattle.st_tokens.specs.declared.kind.TokenFault.TheVariants as tokens
+use Rattle.st_reading.specs.Reading.{Stop, syntax, broken, other}
+use Rattle.st_reading.specs.Rule as rules
+use Rattle.st_reading.specs.Rule.{Rule}
+use Rattle.st_reading.specs.Breaches.{Breach, broke, limited, crowded}
 use Rattle.observations.specs.Observation.{Observation}
 use Rattle.temporal_goals.specs.Texts.{PlainStep}
 use Rattle.spl_semantics.specs.Stores.{holds}
 use Rattle.spl_semantics.specs.Data.{store_of}
 use Rattle.spl_typer.specs.Programs.{Typed}
 use Rattle.schedule_reader.specs.Schedules.{PlainSchedule, schedule_spelled}
-use Rattle.schedule_reader.specs.declared.fault.ScheduleFault.{ScheduleFault}
-use Rattle.schedule_reader.specs.declared.fault.ScheduleFault.TheVariants as faults
 use Rattle.trace_player.specs.Playing as playing
 use Rattle.trace_player.specs.Playing.{made, too_large, illegal, outcome}
 use Rattle.judging_laws.specs.Counted.{round_counts}
@@ -20,6 +22,7 @@ use Rattle.step_report.specs.declared.refusals.FileRole.TheVariants.{Schedule}
 use Rattle.step_report.specs.Refused.{refused_text}
 use Rattle.step_report.specs.Traces.{moves_limit_text, illegal_start_text, illegal_move_text, value_limit_text, played_text}
 use Rattle.step_plan.specs.declared.status.Status.TheVariants.{Proved, Limit, ScheduleRefused, Illegal, ValueLimit}
+use Rattle.step_plan.specs.Limits as plans
 use Rattle.step_plan.specs.Outcome.{Outcome}
 use Rattle.step_run.specs.Scheduled.{start_of, observed_of}
 use Rattle.step_run.specs.Judged.{all_judged}
@@ -39,21 +42,40 @@ abbrev pub token_refused : TokenFault → Outcome
 token_refused (tokens.BadByte place) = schedule_fault kinds.BadByte place
 token_refused (tokens.LongNumber place) = schedule_fault kinds.LongNumber place
 
--- the first fault of a schedule; want of memory is none of a text
-abbrev pub schedule_refused : ScheduleFault → Outcome
-schedule_refused (faults.Token f) = token_refused f
-schedule_refused (faults.Syntax place) = schedule_fault kinds.Syntax place
-schedule_refused (faults.Unknown place) = schedule_fault kinds.Unknown place
-schedule_refused (faults.Twice place) = schedule_fault kinds.Twice place
-schedule_refused (faults.WrongType place) = schedule_fault kinds.WrongType place
-schedule_refused (faults.Unset place) = schedule_fault kinds.Unset place
-schedule_refused (faults.UnknownTransition place) = schedule_fault kinds.UnknownTransition place
-schedule_refused (faults.Moves place) = moves_limited
-schedule_refused faults.Memory = moves_limited
+-- what a report calls a rule
+abbrev pub kind_of : Rule → FaultKind
+kind_of rules.Unknown = kinds.Unknown
+kind_of rules.Twice = kinds.Twice
+kind_of rules.WrongType = kinds.WrongType
+kind_of rules.NonLinear = kinds.NonLinear
+kind_of rules.TooLarge = kinds.TooLarge
+kind_of rules.InputAssigned = kinds.InputAssigned
+kind_of rules.SelectHead = kinds.SelectHead
+kind_of rules.SameTarget = kinds.SameTarget
+kind_of rules.UnknownLemma = kinds.UnknownLemma
+kind_of rules.NotInvariant = kinds.NotInvariant
+kind_of rules.WrongCount = kinds.WrongCount
+kind_of rules.UnknownTransition = kinds.UnknownTransition
+kind_of rules.UnknownNode = kinds.UnknownNode
+kind_of rules.Upward = kinds.Upward
+kind_of rules.NoTerminal = kinds.NoTerminal
+kind_of rules.UnfairHelper = kinds.UnfairHelper
+kind_of rules.NotCompassionate = kinds.NotCompassionate
+kind_of rules.NoHelper = kinds.NoHelper
+kind_of rules.Unset = kinds.Unset
 
-abbrev pub IsOfText : ScheduleFault → Type 0
-IsOfText faults.Memory = ⊥
-IsOfText _ = Unit {0}
+-- the first fault of a schedule
+abbrev pub schedule_refused : Stop Breach → Outcome
+schedule_refused (syntax place) = schedule_fault kinds.Syntax place
+schedule_refused (broken f) = token_refused f
+schedule_refused (other (broke rule place)) = schedule_fault (kind_of rule) place
+schedule_refused (other (limited kind place)) = plans.limited kind
+schedule_refused (other (crowded place)) = moves_limited
+
+-- the end that a fault of the code brings; want of memory brings none
+abbrev pub IsEndOf : Option (Stop Breach) → Outcome → Type 0
+IsEndOf None o = ⊥
+IsEndOf (Some f) o = o ≡ schedule_refused f
 
 -- the report of a run
 abbrev pub report_of : Scripted → ℕ → Observation Situation → List ℕ
@@ -77,7 +99,7 @@ play_ended x s (illegal k) = not_enabled k
 unfoldable pub schedule_played : Scripted → PlainSchedule → Outcome
 schedule_played x s = if holds x.program.initial (store_of s.store) then play_ended x s (outcome x.program.processes s.moves (start_of x.program s) 0) else no_start
 
-abbrev pub schedule_ended : Scripted → Result PlainSchedule ScheduleFault → Outcome
+abbrev pub schedule_ended : Scripted → Result PlainSchedule (Stop Breach) → Outcome
 schedule_ended x (Ok s) = schedule_played x s
 schedule_ended x (Err fault) = schedule_refused fault
 

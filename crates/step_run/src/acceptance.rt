@@ -6,7 +6,7 @@
 ghost use Rattle.std.specs.Prelude.{◌≡◌, ◌≤◌, ◌++◌, drop, length, map, IfOk};
 ghost use Rattle.std.specs.Option.{option_map};
 ghost use Rattle.st_form.specs.Shared.{plain_condition};
-ghost use Rattle.discharge.specs.Verdicts.{AreSearchable};
+ghost use Rattle.search_laws.specs.Searchable.{AreSearchable};
 ghost use Rattle.temporal_goals.specs.Plain.{plain_script};
 ghost use Rattle.step_run.specs.Views.{source_view};
 ghost use Rattle.step_run.specs.Conditions.{setting_of};

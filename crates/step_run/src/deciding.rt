@@ -5,7 +5,7 @@ ghost use Rattle.std.specs.Option.{option_map};
 ghost use Rattle.st_form.specs.Shared.{plain_condition};
 ghost use Rattle.st_form.specs.declared.conditions.Condition.{Condition};
 ghost use Rattle.control_facts.specs.Alternatives.{control_of};
-ghost use Rattle.linear_prover.specs.Plain.{plain_path, plain_shown};
+ghost use Rattle.search_verdicts.specs.Plain.{plain_path, plain_shown};
 ghost use Rattle.discharge.specs.Verdicts.{AreAnswers};
 ghost use Rattle.step_report.specs.declared.conditions.Reason.TheVariants.{Open, Wide};
 ghost use Rattle.step_report.specs.Searches.{open_text, wide_text};

@@ -1,9 +1,10 @@
 //! The ends of runs whose program, proof or schedule is refused.
 
 ghost use Rattle.std.specs.Prelude.{◌≡◌, IfOk};
+ghost use Rattle.schedule_reader.specs.Faults.{see};
 ghost use Rattle.step_plan.specs.Outcome.{ended_view, IsDecided};
 ghost use Rattle.step_run.specs.Outcome.{program_refused, proof_refused};
-ghost use Rattle.step_run.specs.Traced.{token_refused, schedule_refused, IsOfText};
+ghost use Rattle.step_run.specs.Traced.{token_refused, IsEndOf};
 
 use crate::refusals::Refusal;
 use schedule_reader::ScheduleFault;
@@ -48,8 +49,7 @@ fn token_refused(alloc: Global, fault: TokenFault) -> Result<Ended, Memory>
 
 /// The end of a run whose schedule is refused.
 pub fn schedule_refused(alloc: Global, fault: ScheduleFault) -> Result<Ended, Memory>
-    ensures outcome { IfOk result (λ e. ended_view e ≡ schedule_refused fault) }
-    ensures named { IfOk result (λ _. IsOfText fault) }
+    ensures { IfOk result (λ e. IsEndOf (see fault) (ended_view e)) }
 {
     match fault {
         ScheduleFault::Token(fault) => token_refused(alloc, fault),

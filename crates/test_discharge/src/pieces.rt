@@ -1,10 +1,11 @@
 //! Two conditions for two workers, of which the second doesn't hold.
 
+ghost use Rattle.std.specs.Prelude.{◌≡◌, IfOk, length};
+ghost use Rattle.test_discharge.specs.Implied.{AreAbsurd, AreImplied, IsAbsurd, IsImplied};
+
 use crate::gate::SideBySide;
 use control_states::{Alternative, Component};
-use discharge::{
-    Block, Components, Condition, are_checkable, are_searchable, check_all, verify_all,
-};
+use discharge::{Block, Components, Condition, check_all, verify_all};
 use st_certificate::Certificate;
 use st_form::{CondName, Form, Premise};
 use st_memory::Memory;
@@ -19,8 +20,11 @@ fn one_process(alloc: Global) -> Result<Components, Memory> {
     Ok(Components::new(parts, owners))
 }
 
-/// That true implies the formula.
-fn implied(alloc: Global, shown: Form) -> Result<Condition, Memory> {
+/// That true implies the truth value.
+#[tactic(auto, using(st_form::proofs::Nodes::nodes))]
+fn implied(alloc: Global, shown: bool) -> Result<Condition, Memory>
+    ensures { IfOk result IsImplied }
+{
     let name = CondName {
         step: 0,
         premise: Premise::Implies,
@@ -28,23 +32,34 @@ fn implied(alloc: Global, shown: Form) -> Result<Condition, Memory> {
         trans: None,
         mode: 0,
     };
-    Condition::new(alloc, Form::True, shown, name)
+    if shown {
+        Condition::new(alloc, Form::True, Form::True, name)
+    } else {
+        Condition::new(alloc, Form::True, Form::False, name)
+    }
 }
 
-fn conditions(alloc: Global) -> Result<Vec<Condition>, Memory> {
-    let first = implied(alloc, Form::True)?;
-    let second = implied(alloc, Form::False)?;
+fn conditions(alloc: Global) -> Result<Vec<Condition>, Memory>
+    ensures { IfOk result (λ v. AreImplied v.items × (length v.items ≡ 2)) }
+{
+    let first = implied(alloc, true)?;
+    let second = implied(alloc, false)?;
     Ok(vec![in alloc; first, second]?)
 }
 
-fn block(number: u32) -> Block {
+#[tactic(auto, using(st_certificate::proofs::Nodes::nodes))]
+fn block(number: u32) -> Block
+    ensures { IsAbsurd result }
+{
     Block {
         number,
         certificate: Certificate::Absurd,
     }
 }
 
-fn blocks(alloc: Global) -> Result<Vec<Block>, Memory> {
+fn blocks(alloc: Global) -> Result<Vec<Block>, Memory>
+    ensures { IfOk result (λ v. AreAbsurd v.items × (length v.items ≡ 2)) }
+{
     Ok(vec![in alloc; block(1), block(2)]?)
 }
 
@@ -53,9 +68,6 @@ fn searches_run_side_by_side(rt: HostRuntime) -> Result<(), Fail> {
     let alloc = rt.alloc();
     let components = one_process(alloc)?;
     let conditions = conditions(alloc)?;
-    if !are_searchable(0, &conditions) {
-        return Err(Fail::from("searchable"));
-    }
     let gate = SideBySide::new();
     let place = verify_all(&rt, alloc, &gate, 2, &components, &[], &conditions)?;
     assert_eq!(rt; place, Some(1));
@@ -69,9 +81,6 @@ fn checks_run_side_by_side(rt: HostRuntime) -> Result<(), Fail> {
     let components = one_process(alloc)?;
     let conditions = conditions(alloc)?;
     let blocks = blocks(alloc)?;
-    if !are_checkable(&conditions, &blocks) {
-        return Err(Fail::from("checkable"));
-    }
     let gate = SideBySide::new();
     let place = check_all(&rt, alloc, &gate, 2, &components, &[], &conditions, &blocks)?;
     assert_eq!(rt; place, Some(1));

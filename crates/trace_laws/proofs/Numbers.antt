@@ -5,7 +5,8 @@ use Rattle.st_program.specs.Member.{Member, here, there}
 use Rattle.st_program.specs.Spots.{entry, bodies, bodies_in, Spot, at_spot, spots, spots_within, spots_along, spots_among, spots_inside, all_spots, IsNumbered}
 use Rattle.spl_semantics.proofs.Bodies.{HasAt, has_front, has_back, has_all}
 use Rattle.spl_semantics.proofs.Members.{member_none, member_cases, at_member}
-use Rattle.spl_semantics.proofs.Texts.{either, own_spots}
+use Rattle.spl_semantics.proofs.Texts.{own_spots}
+use Rattle.basic_laws.proofs.Types.{either}
 
 -- no statement of the one part has the number of one of the other
 abbrev pub Apart : List Spot → List Spot → Type 0

@@ -7,9 +7,9 @@ use Rattle.st_form.specs.declared.conditions.TransName.TheVariants.{Step}
 use Rattle.st_program.specs.Tree.{occurrence}
 use Rattle.st_program.specs.Member.{Member, here, there}
 use Rattle.st_program.specs.Spots.{Spot}
-use Rattle.spl_semantics.specs.Steps.{Act, around}
+use Rattle.spl_semantics.specs.Going.{Act, around}
 use Rattle.spl_semantics.proofs.Members.{member_none, member_left, member_right, member_cases, member_map}
-use Rattle.spl_semantics.proofs.Texts.{either}
+use Rattle.basic_laws.proofs.Types.{either}
 use Rattle.trace_laws.proofs.Numbers.{Apart}
 
 -- the name is one of a statement of a part of the text

@@ -12,7 +12,8 @@ use Rattle.st_program.specs.Spots.{IsNumbered}
 use Rattle.spl_semantics.specs.Limits.{wide_rests}
 use Rattle.spl_semantics.specs.Names.{same_name}
 use Rattle.spl_semantics.specs.Runs.{State, Reached, next, Follows, Leads, LeadsBy}
-use Rattle.spl_semantics.specs.Steps.{Act, steps_of}
+use Rattle.spl_semantics.specs.Steps.{steps_of}
+use Rattle.spl_semantics.specs.Going.{Act}
 use Rattle.spl_semantics.proofs.ByCases.{behind_act, listed, by_cases}
 use Rattle.spl_semantics.proofs.Members.{member_none}
 use Rattle.spl_semantics.proofs.NameOrder.{same_name_is, name_same}

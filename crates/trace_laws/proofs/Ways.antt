@@ -15,7 +15,8 @@ use Rattle.st_program.specs.Programs.{WellFormed}
 use Rattle.st_program.specs.Residuals.{Rest, Done, Run, Then, Again, Inside, Rests, no_rest, rests}
 use Rattle.st_program.specs.Spots.{entry, bodies, bodies_in, Spot, at_spot, spots, spots_along, spots_among, spots_inside, all_spots, IsNumbered}
 use Rattle.spl_semantics.specs.Runs.{State, Reached, LeadsBy}
-use Rattle.spl_semantics.specs.Steps.{act, join, joined_acts, back, all_done, first_acts, acts_along, acts_among, acts_at, steps, steps_of}
+use Rattle.spl_semantics.specs.Steps.{joined_acts, first_acts, acts_along, acts_among, acts_at, steps, steps_of}
+use Rattle.spl_semantics.specs.Going.{act, join, back, all_done}
 use Rattle.spl_semantics.specs.Stores.{Store, holds, one_less}
 use Rattle.spl_semantics.specs.Walks.{Walk, walk_along}
 use Rattle.spl_semantics.proofs.Bodies.{HasAt, has_front, has_back, has_all}
@@ -24,7 +25,8 @@ use Rattle.spl_semantics.proofs.ControlMoves.{reached_good}
 use Rattle.spl_semantics.proofs.Fits.{Fits, FitsAll}
 use Rattle.spl_semantics.proofs.Layouts.{layout_of, ends_of, apart_of}
 use Rattle.spl_semantics.proofs.Members.{member_left, member_cases}
-use Rattle.spl_semantics.proofs.Texts.{either, Region, along_region}
+use Rattle.spl_semantics.proofs.Texts.{Region, along_region}
+use Rattle.basic_laws.proofs.Types.{either}
 use Rattle.spl_semantics.proofs.Walking.{acts_of_walk, group-acts}
 use Rattle.trace_laws.specs.OneWay.{LeadsOneWay}
 use Rattle.trace_laws.proofs.Parting.{Separate, nothing, of_one, one, by_test, around_all, widened, both}

@@ -10,7 +10,8 @@ use Rattle.st_form.specs.Formula.{Situation}
 use Rattle.st_form.specs.declared.conditions.TransName.{TransName}
 use Rattle.st_program.specs.Tree.{Processes}
 use Rattle.spl_semantics.specs.Names.{all_names}
-use Rattle.spl_semantics.specs.Runs.{State, is_enabled, seen, place_in, place_of, observed}
+use Rattle.spl_semantics.specs.Runs.{State, place_in, place_of}
+use Rattle.spl_semantics.specs.Observed.{is_enabled, seen, observed}
 use Rattle.run_judging.specs.Rows.{flags_at}
 use Rattle.run_judging.specs.Shown.{Shows}
 use Rattle.run_judging.specs.declared.course.Course.{Course}

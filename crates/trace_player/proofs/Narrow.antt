@@ -18,6 +18,7 @@ use Rattle.spl_semantics.specs.Limits.{wide_on, wide_form, wide_formula, wide_fo
 use Rattle.spl_semantics.specs.Stores.{Store}
 use Rattle.spl_semantics.proofs.Exits.{or_none}
 use Rattle.schedule_reader.specs.Values.{IsWritten}
+use Rattle.basic_laws.proofs.Integers.{sum-size}
 
 product-size : (c x : ℤ) → unsigned_abs c < 2 ^ 32 → unsigned_abs x ≤ 2 ^ 30 → unsigned_abs (c *ℤ x) ≤ 2 ^ 62
 product-size c x h k =
@@ -25,9 +26,6 @@ product-size c x h k =
     let p = mul-le-mul_left (unsigned_abs c) k in
     let q = mul-le-mul_right (2 ^ 30) a in
     omega (arith, p, q, unsigned_abs-mul c x)
-
-sum-size : (x y : ℤ) (m n : ℕ) → unsigned_abs x ≤ m → unsigned_abs y ≤ n → unsigned_abs (x +ℤ y) ≤ m + n
-sum-size x y m n h k = omega (arith, ints, h, k)
 
 not-wide : (z : ℤ) → unsigned_abs z < 2 ^ 126 → is_wide z ≡ false
 unfolding is_wide

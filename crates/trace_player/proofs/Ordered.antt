@@ -10,8 +10,10 @@ use Rattle.spl_semantics.specs.declared.acts.Move.{Move}
 use Rattle.spl_semantics.specs.InOrder.{InOrder}
 use Rattle.spl_semantics.specs.Names.{same_name}
 use Rattle.spl_semantics.specs.Plain.{plain_moves}
-use Rattle.spl_semantics.specs.Runs.{State, is_enabled}
-use Rattle.spl_semantics.specs.Steps.{Act, steps_of}
+use Rattle.spl_semantics.specs.Runs.{State}
+use Rattle.spl_semantics.specs.Observed.{is_enabled}
+use Rattle.spl_semantics.specs.Steps.{steps_of}
+use Rattle.spl_semantics.specs.Going.{Act}
 use Rattle.trace_player.specs.Playing.{step_named, behind_in, is_among}
 
 module _ (name : TransName) where

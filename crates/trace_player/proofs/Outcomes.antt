@@ -18,7 +18,8 @@ use Rattle.spl_semantics.specs.Data.{StoreFits}
 use Rattle.spl_semantics.specs.InOrder.{InOrder}
 use Rattle.spl_semantics.specs.Limits.{wide_rests}
 use Rattle.spl_semantics.specs.Plain.{plain_state, plain_moves}
-use Rattle.spl_semantics.specs.Runs.{State, is_enabled}
+use Rattle.spl_semantics.specs.Runs.{State}
+use Rattle.spl_semantics.specs.Observed.{is_enabled}
 use Rattle.spl_semantics.specs.Steps.{steps_of}
 use Rattle.spl_semantics.specs.declared.acts.Move.{Move}
 use Rattle.trace_player.specs.declared.runs.Played.{Played}

@@ -15,7 +15,8 @@ use Rattle.spl_semantics.specs.Stores.{situation}
 use Rattle.spl_semantics.specs.Data.{store_of}
 use Rattle.spl_semantics.specs.Limits.{wide_form}
 use Rattle.spl_semantics.specs.Plain.{plain_state}
-use Rattle.spl_semantics.specs.Runs.{State, control, image, observed, place_of, seen}
+use Rattle.spl_semantics.specs.Runs.{State, control, image, place_of}
+use Rattle.spl_semantics.specs.Observed.{observed, seen}
 use Rattle.temporal_goals.specs.Texts.{PlainGoal, invariant, waiting, response}
 use Rattle.temporal_goals.specs.Meaning.{test_of, number_of}
 use Rattle.run_judging.specs.Judging.{IsFirstFailure}

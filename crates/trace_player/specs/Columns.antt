@@ -7,10 +7,9 @@ use Rattle.st_form.specs.Formula.{Formula, Situation}
 use Rattle.observations.specs.Observation.{Observation}
 use Rattle.st_program.specs.declared.residuals.State as GState
 use Rattle.spl_semantics.specs.Stores.{Store}
-use Rattle.spl_semantics.specs.Data.{store_of}
+use Rattle.spl_semantics.specs.Data.{store_of, seen_at}
 use Rattle.spl_semantics.specs.Limits.{wide_formula}
 use Rattle.temporal_goals.specs.Meaning.{test_of}
-use Rattle.trace_player.specs.Seen.{seen_at}
 use Rattle.trace_player.specs.Judgements.{store_in}
 
 -- the states of an observation

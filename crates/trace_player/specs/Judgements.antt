@@ -8,7 +8,8 @@ use Rattle.observations.specs.Observation.{Observation, state_at, last}
 use Rattle.observations.specs.Goals.{HoldsAt, WaitsFrom, RespondsFrom}
 use Rattle.spl_semantics.specs.Stores.{Store}
 use Rattle.spl_semantics.specs.Limits.{wide_form, wide_formula}
-use Rattle.spl_semantics.specs.Runs.{State, observed}
+use Rattle.spl_semantics.specs.Runs.{State}
+use Rattle.spl_semantics.specs.Observed.{observed}
 use Rattle.temporal_goals.specs.Texts.{PlainGoal, invariant, waiting, response}
 use Rattle.temporal_goals.specs.Meaning.{test_of, number_of, GoalHolds}
 use Rattle.run_judging.specs.declared.judged.Judged.{Judged}

@@ -1,4 +1,3 @@
-pub mod Seen
 pub mod Playing
 pub mod Courses
 pub mod Fronts

@@ -10,12 +10,14 @@ use Rattle.st_program.specs.Tree.{Processes}
 use Rattle.st_program.specs.Residuals.{Rests}
 use Rattle.st_program.specs.declared.residuals.State as GState
 use Rattle.spl_semantics.specs.Stores.{Store, holds}
-use Rattle.spl_semantics.specs.Steps.{Act, steps_of}
+use Rattle.spl_semantics.specs.Steps.{steps_of}
+use Rattle.spl_semantics.specs.Going.{Act}
 use Rattle.spl_semantics.specs.Limits.{wide_rests}
 use Rattle.spl_semantics.specs.Names.{same_name}
 use Rattle.spl_semantics.specs.InOrder.{InOrder}
 use Rattle.spl_semantics.specs.Plain.{plain_state}
-use Rattle.spl_semantics.specs.Runs.{State, start, is_enabled}
+use Rattle.spl_semantics.specs.Runs.{State, start}
+use Rattle.spl_semantics.specs.Observed.{is_enabled}
 use Rattle.spl_semantics.specs.declared.acts.Move.{Move}
 use Rattle.trace_player.specs.declared.runs.Played.{Played}
 use Rattle.trace_player.specs.declared.faults.PlayFault.{PlayFault}

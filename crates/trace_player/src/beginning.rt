@@ -6,8 +6,7 @@ ghost use Rattle.spl_semantics.specs.Data.{store_of};
 ghost use Rattle.spl_semantics.specs.Stores.{holds};
 ghost use Rattle.schedule_reader.specs.Values.{IsWritten};
 
-use crate::values::is_true;
-use spl_semantics::MoveFault;
+use spl_semantics::{MoveFault, is_true_at};
 use st_memory::Memory;
 use st_program::{Datum, Program};
 
@@ -17,9 +16,9 @@ pub fn begins(program: &Program, store: &[Datum]) -> Result<bool, Memory>
     requires { All IsWritten store.now }
     ensures { IfOk result (λ b. b ≡ holds (plain program.now.initial) (store_of store.now)) }
 {
-    match is_true(&program.initial, store, &[]) {
+    match is_true_at(&program.initial, store, &[]) {
         Ok(truth) => Ok(truth),
-        Err(MoveFault::ValueLimit) => Ok(false),
+        Err(MoveFault::ValueLimit) => unreachable!(),
         Err(MoveFault::Memory) => Err(Memory),
     }
 }

@@ -7,11 +7,10 @@ ghost use Rattle.st_form.specs.Plain.{plain};
 ghost use Rattle.temporal_goals.specs.Meaning.{test_of};
 ghost use Rattle.spl_semantics.specs.Answers.{Answers};
 ghost use Rattle.spl_semantics.specs.Limits.{wide_form};
-ghost use Rattle.trace_player.specs.Seen.{seen_at};
+ghost use Rattle.spl_semantics.specs.Data.{seen_at};
 ghost use Rattle.trace_player.specs.Columns.{sights, stores, column, is_wide_formula, some_wide, row_of};
 
-use crate::values::is_true;
-use spl_semantics::{MoveFault, value_of};
+use spl_semantics::{MoveFault, is_true_at, value_of};
 use st_form::{Form, Lin};
 use st_memory::Memory;
 use st_program::{Datum, State};
@@ -29,7 +28,7 @@ pub fn truths(
 {
     let mut truths = Vec::with_capacity(alloc, states.len())?;
     for position in 0..states.len() {
-        match is_true(form, &states[position].store, &fronts[position]) {
+        match is_true_at(form, &states[position].store, &fronts[position]) {
             Ok(truth) => truths.push(truth)?,
             Err(MoveFault::ValueLimit) => return Ok(truths),
             Err(MoveFault::Memory) => return Err(Memory),
@@ -66,7 +65,7 @@ fn row(
 {
     let mut row = Vec::with_capacity(alloc, forms.len())?;
     for form in forms {
-        row.push(is_true(form, store, fronts)?)?;
+        row.push(is_true_at(form, store, fronts)?)?;
     }
     Ok(row)
 }

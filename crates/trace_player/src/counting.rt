@@ -3,7 +3,8 @@
 ghost use Rattle.std.specs.Prelude.{◌≡◌, ◌<◌, ◌^◌, List, IfOk, length, map};
 ghost use Rattle.st_form.specs.declared.conditions.TransName.{TransName};
 ghost use Rattle.st_program.specs.Plain.{plain_children};
-ghost use Rattle.spl_semantics.specs.Runs.{State, place_in, observed};
+ghost use Rattle.spl_semantics.specs.Runs.{State, place_in};
+ghost use Rattle.spl_semantics.specs.Observed.{observed};
 ghost use Rattle.run_judging.specs.Greatest.{AreGreatest};
 ghost use Rattle.run_judging.specs.Shown.{Shows};
 ghost use Rattle.trace_player.specs.Playing.{IsPlayed};

@@ -11,7 +11,6 @@ mod judgement;
 mod naming;
 mod playing;
 mod runs;
-mod values;
 
 pub use counting::rounds;
 pub use faults::PlayFault;

@@ -13,6 +13,7 @@ use Rattle.st_linear.proofs.Joined.{joined-ind}
 use Rattle.st_form.specs.Formula.{Formula, Formulas, truth_value, row, equal, bool_var, at, negation, every, some, none, more}
 use Rattle.st_form.specs.Exchange.{Exchange, exchanged, all_exchanged}
 use Rattle.transition_system.specs.Bounds.{EntriesWithin, LinearWithin, FormulaWithin, FormulasWithin, RisesFrom, ExchangeWithin, Suits}
+use Rattle.basic_laws.proofs.Truths.{and_both as and_true}
 
 -- each coefficient is at most n in size
 abbrev AreWithin : ℕ → List (ℕ × ℤ) → Type 0
@@ -64,12 +65,9 @@ IsWithin-scaled n m c f le h = record {
   entries = AreWithin-scaled n m c f.entries le h.entries;
 }
 
-small_within : (n : ℕ) (z : ℤ) → n < 2 ^ 100 → unsigned_abs z ≤ n → is_small z ≡ true
+pub small_within : (n : ℕ) (z : ℤ) → n < 2 ^ 100 → unsigned_abs z ≤ n → is_small z ≡ true
 unfolding is_within
 small_within n z below le = grind (arith, nat_tests)
-
-and_true : (a b : Bool) → a ≡ true → b ≡ true → (a && b) ≡ true
-and_true a b h k = rw (h, k) refl
 
 are_small_within : (n : ℕ) (es : List (ℕ × ℤ)) → n < 2 ^ 100 → AreWithin n es → are_small es ≡ true
 are_small_within n [] below h = refl

@@ -1,6 +1,6 @@
 use Rattle.std.proofs.Common.{map, drop}
 use Rattle.temporal_goals.specs.Plain.{plain_drawn_node}
-use Rattle.rule_laws.specs.Fitting.{LevelsExist}
+use Rattle.rule_fits.specs.Fitting.{LevelsExist}
 use Rattle.diagram_conditions.proofs.guards.levels_exist.Given as goal
 
 abbrev pub invariant-loop-node : goal.invariant-loop-node

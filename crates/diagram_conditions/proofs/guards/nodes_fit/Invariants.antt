@@ -1,7 +1,7 @@
 use Rattle.std.proofs.Common.{map, drop}
 use Rattle.transition_system.specs.Plain.{plain_system}
 use Rattle.temporal_goals.specs.Plain.{plain_drawn_node}
-use Rattle.rule_laws.specs.Fitting.{DrawnNodesFit}
+use Rattle.rule_fits.specs.Fitting.{DrawnNodesFit}
 use Rattle.diagram_conditions.proofs.guards.nodes_fit.Given as goal
 
 abbrev pub invariant-loop-node : goal.invariant-loop-node

@@ -2,7 +2,7 @@ use Rattle.std.proofs.Common.{◌-◌}
 use Rattle.farkas_check.specs.PlainProblem.{setting}
 use Rattle.shared_search.specs.Books.{Knows}
 use Rattle.discharge.specs.Dealt.{every, dealt}
-use Rattle.discharge.specs.First.{AreCheckable}
+use Rattle.block_validity.specs.First.{AreCheckable}
 use Rattle.discharge.proofs.Halves.{Ahead}
 use Rattle.discharge.proofs.checking.check_piece.Given as goal
 

@@ -5,5 +5,5 @@ use Rattle.discharge.proofs.piece.search_piece.Goals as goal
 pub loop-init : goal.loop-init
 loop-init c = record {
   knows = c.in_ok-book.ensures;
-  marks = no_marks (setting c.args.components.now c.args.variables.now) c.args.conditions.now c.in_ok-marks.marks.items (c.in_ok-marks.ensures.items_if_clones_equal (λ y e. e));
+  marks = no_marks (setting c.args.components.now c.args.variables.now) c.args.conditions.now c.in_ok-valid.valid.items (c.in_ok-valid.ensures.items_if_clones_equal (λ y e. e));
 }

@@ -6,5 +6,5 @@ use Rattle.discharge.proofs.piece.search_piece.Given as goal
 abbrev pub invariant-loop : goal.invariant-loop
 invariant-loop l = record {
   knows : Knows (setting l.components l.variables) l.book;
-  marks : AreMarks (setting l.components l.variables) l.conditions l.marks.items;
+  marks : AreMarks (setting l.components l.variables) l.conditions l.valid.items;
 }

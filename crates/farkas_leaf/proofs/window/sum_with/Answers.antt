@@ -1,5 +1,6 @@
 use Rattle.std.proofs.Common.{arith, ◌+◌, ◌^◌, ◌*ℤ◌}
-use Rattle.farkas_leaf.proofs.Products.{product-size, sum-size, sum_with-same}
+use Rattle.farkas_leaf.proofs.Products.{product-size, sum_with-same}
+use Rattle.basic_laws.proofs.Integers.{sum-size}
 use Rattle.farkas_leaf.proofs.window.sum_with.Goals as goal
 
 pub returns-clause-value : goal.returns-clause-value

@@ -2,7 +2,7 @@ use Rattle.std.proofs.Common.{drop, map}
 use Rattle.st_form.specs.Formula.{formulas}
 use Rattle.st_form.specs.Shared.{case_of}
 use Rattle.search_laws.specs.Forms.{AllFormsOf}
-use Rattle.linear_prover.specs.Ready.{IsBelow}
+use Rattle.search_laws.specs.Searchable.{IsBelow}
 use Rattle.linear_prover.proofs.guards.cases_are_below.Given as goal
 
 abbrev pub invariant-loop-case : goal.invariant-loop-case

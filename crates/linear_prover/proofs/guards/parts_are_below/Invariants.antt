@@ -1,7 +1,7 @@
 use Rattle.std.proofs.Common.{drop}
 use Rattle.st_form.specs.Plain.{plain_list}
 use Rattle.search_laws.specs.Forms.{AllFormsOf}
-use Rattle.linear_prover.specs.Ready.{IsBelow}
+use Rattle.search_laws.specs.Searchable.{IsBelow}
 use Rattle.linear_prover.proofs.guards.parts_are_below.Given as goal
 
 abbrev pub invariant-loop-part : goal.invariant-loop-part

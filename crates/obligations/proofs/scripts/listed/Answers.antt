@@ -1,6 +1,6 @@
 use Rattle.transition_system.specs.Plain.{plain_system}
 use Rattle.vc_generator.specs.Plain.{plain_list}
-use Rattle.script_laws.specs.Obeying.{RuleFits}
+use Rattle.rule_fits.specs.Obeying.{RuleFits}
 use Rattle.script_laws.specs.Written.{StepWritten}
 use Rattle.obligations.proofs.Walking.{each-at, onward, refused}
 use Rattle.obligations.proofs.scripts.listed.Goals as goal

@@ -6,7 +6,8 @@ use Rattle.st_program.specs.Spots.{bodies}
 use Rattle.spl_semantics.specs.Data.{store_of, types, AlongMeets, AmongMeet}
 use Rattle.spl_semantics.specs.Limits.{wide_along, wide_among}
 use Rattle.spl_semantics.specs.Plain.{plain_act, plain_acts}
-use Rattle.spl_semantics.specs.Steps.{around, join, first_acts, acts_along, acts_among}
+use Rattle.spl_semantics.specs.Steps.{first_acts, acts_along, acts_among}
+use Rattle.spl_semantics.specs.Going.{around, join}
 use Rattle.spl_semantics.proofs.Counting.{next-item, item-count}
 use Rattle.spl_semantics.proofs.Exits.{or_none, appended-stores}
 use Rattle.spl_semantics.proofs.actions.+first.Goals as goal

@@ -5,7 +5,7 @@ use Rattle.st_program.specs.Residuals.{Inside, plain_residuals}
 use Rattle.st_program.proofs.ResidualRows.{residual-Inside}
 use Rattle.spl_semantics.specs.Data.{store_of}
 use Rattle.spl_semantics.specs.Plain.{plain_acts}
-use Rattle.spl_semantics.specs.Steps.{act}
+use Rattle.spl_semantics.specs.Going.{act}
 use Rattle.spl_semantics.proofs.simple.enter.Goals as goal
 
 pub returns-clause-steps : goal.returns-clause-steps

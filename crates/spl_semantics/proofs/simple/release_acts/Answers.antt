@@ -8,7 +8,7 @@ use mir.Syntax.{w128}
 use mir.Val.{SFits}
 use Rattle.std.proofs.lemmas.Int.{to_z-of_z}
 use Rattle.spl_semantics.specs.Data.{store_of}
-use Rattle.spl_semantics.specs.Steps.{act}
+use Rattle.spl_semantics.specs.Going.{act}
 use Rattle.spl_semantics.specs.Stores.{one_more}
 use Rattle.spl_semantics.proofs.Assigning.{count-is}
 use Rattle.spl_semantics.proofs.simple.release_acts.Goals as goal

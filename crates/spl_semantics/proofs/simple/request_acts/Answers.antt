@@ -10,7 +10,7 @@ use Rattle.st_program.specs.declared.residuals.Datum.TheVariants.{Number}
 use mir.Syntax.{w128}
 use mir.Val.{SFits}
 use Rattle.std.proofs.lemmas.Int.{to_z-of_z}
-use Rattle.spl_semantics.specs.Steps.{act}
+use Rattle.spl_semantics.specs.Going.{act}
 use Rattle.spl_semantics.specs.Stores.{assigned, one_less}
 use Rattle.spl_semantics.proofs.Assigning.{count-is}
 use Rattle.spl_semantics.proofs.simple.request_acts.Goals as goal

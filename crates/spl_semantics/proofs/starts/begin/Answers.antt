@@ -3,7 +3,7 @@ use Rattle.std.proofs.Math.ListN.{drop_of_length-le}
 use Rattle.st_program.specs.Plain.{plain_stmts, plain_children}
 use Rattle.st_program.specs.Spots.{bodies_in}
 use Rattle.st_program.specs.Residuals.{Done}
-use Rattle.spl_semantics.specs.Steps.{join, begin}
+use Rattle.spl_semantics.specs.Going.{join, begin}
 use Rattle.spl_semantics.proofs.Counting.{child-count}
 use Rattle.spl_semantics.proofs.Starting.{rest_list, made-whole, begin-next, push-rest}
 use Rattle.spl_semantics.proofs.starts.begin.Goals as goal

@@ -2,7 +2,7 @@ use Rattle.std.proofs.Common.{◌≡◌, ◌+◌, ◌^◌, ◌<◌, ◌++◌, le
 use Rattle.st_program.specs.Plain.{plain_children}
 use Rattle.st_program.specs.Residuals.{plain_residual}
 use Rattle.st_program.specs.Spots.{bodies_of}
-use Rattle.spl_semantics.specs.Steps.{begin}
+use Rattle.spl_semantics.specs.Going.{begin}
 use Rattle.spl_semantics.proofs.Starting.{rest_list}
 use Rattle.spl_semantics.proofs.starts.begin.Given as goal
 

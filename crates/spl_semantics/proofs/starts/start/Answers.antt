@@ -3,7 +3,7 @@ use Rattle.st_form.specs.Plain.{plain}
 use Rattle.st_program.specs.Plain.{plain_children}
 use Rattle.st_program.specs.Spots.{all_spots, bodies_of}
 use Rattle.spl_semantics.specs.Data.{store_of}
-use Rattle.spl_semantics.specs.Steps.{begin}
+use Rattle.spl_semantics.specs.Going.{begin}
 use Rattle.spl_semantics.proofs.FewBodies.{has_numbers}
 use Rattle.spl_semantics.proofs.starts.start.Goals as goal
 

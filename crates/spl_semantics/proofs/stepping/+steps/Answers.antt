@@ -6,6 +6,7 @@ use Rattle.spl_semantics.specs.Data.{store_of, types}
 use Rattle.spl_semantics.specs.Limits.{wide_rest}
 use Rattle.spl_semantics.specs.Plain.{plain_acts, plain_moves, act_stores, move_stores, AllOfTypes, in_front}
 use Rattle.spl_semantics.specs.Steps as steps
+use Rattle.spl_semantics.specs.Going as going
 use Rattle.spl_semantics.proofs.Exits.{handed, or_none, appended-stores}
 use Rattle.spl_semantics.proofs.OneOfAll.{wide-next, steps-next, steps-first, with-exit, without-exit, more-stores}
 use Rattle.spl_semantics.proofs.stepping.+steps.Goals as goal
@@ -31,7 +32,7 @@ acts_of-returns-after-all_done-clause-steps t c = λ fits.
     ap plain_residual c.in-Inside.is ∙ residual-Inside c.in-Inside.coop c.in-Inside.children ∙ ap (λ l. Inside c.in-Inside.coop (plain_residuals l)) (sym c.deref-in-Inside.ensures.value) in
     let same : plain_residuals c.deref-in-Inside-2.result.now ≡ rs = ap plain_residuals (c.deref-in-Inside-2.ensures.value ∙ sym c.deref-in-Inside.ensures.value) in
     let r = c.in_ok-inner-in-Inside.ensures.steps fits in
-    let done : (b : Bool) → c.all_done.result ≡ b → steps.all_done rs ≡ b = λ b h. sym (ap steps.all_done same) ∙ sym c.all_done.ensures ∙ h in (
+    let done : (b : Bool) → c.all_done.result ≡ b → going.all_done rs ≡ b = λ b h. sym (ap going.all_done same) ∙ sym c.all_done.ensures ∙ h in (
       ap (λ r. wide_rest r p s) e ∙ r.0,
       (elim c.if-all_done.branch [
         | acts_of-then-all_done+in_ok-leave-in-Inside+in_ok-push-in-Inside w ↦ ap (λ v. plain_acts v.items) w.acts-is ∙ with-exit p s c.in-Inside.coop rs (plain_moves c.in_ok-inner-in-Inside.inner.items) r.1 w.push.new.self.items c.in_ok-acts-in-Inside.acts.items w.in_ok-leave-in-Inside.field-0 w.in_ok-push-in-Inside.ensures.items c.in_ok-acts-in-Inside.ensures.steps w.in_ok-leave-in-Inside.ensures.step (done true w.if-all_done.true)
@@ -54,7 +55,7 @@ moves_of-loop-place-init t c = λ fits.
     let empty = sym c.new-moves.ensures.items in
     record {
       stores = subst (λ l. AllOfTypes ts (move_stores l)) empty tt;
-      steps = (refl, subst (λ l. plain_moves l ++ map (steps.around (in_front [])) (steps.steps_of (plain_residuals c.args.residuals.now) (plain_children c.args.program.now.processes) (store_of c.args.store.now)) ≡ steps.steps_of (plain_residuals c.args.residuals.now) (plain_children c.args.program.now.processes) (store_of c.args.store.now)) empty (steps-first (plain_children c.args.program.now.processes) (store_of c.args.store.now) c.args.residuals.now));
+      steps = (refl, subst (λ l. plain_moves l ++ map (going.around (in_front [])) (steps.steps_of (plain_residuals c.args.residuals.now) (plain_children c.args.program.now.processes) (store_of c.args.store.now)) ≡ steps.steps_of (plain_residuals c.args.residuals.now) (plain_children c.args.program.now.processes) (store_of c.args.store.now)) empty (steps-first (plain_children c.args.program.now.processes) (store_of c.args.store.now) c.args.residuals.now));
     }
 
 pub moves_of-loop-place-preserved : goal.moves_of-loop-place-preserved

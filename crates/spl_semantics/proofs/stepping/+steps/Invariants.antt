@@ -4,7 +4,8 @@ use Rattle.st_program.specs.Residuals.{plain_residuals}
 use Rattle.spl_semantics.specs.Data.{store_of, types, StoreFits}
 use Rattle.spl_semantics.specs.Limits.{wide_rests}
 use Rattle.spl_semantics.specs.Plain.{plain_moves, move_stores, AllOfTypes, in_front}
-use Rattle.spl_semantics.specs.Steps.{around, steps_of}
+use Rattle.spl_semantics.specs.Steps.{steps_of}
+use Rattle.spl_semantics.specs.Going.{around}
 use Rattle.spl_semantics.proofs.stepping.+steps.Given as goal
 
 abbrev pub invariant-moves_of-loop-place : goal.invariant-moves_of-loop-place

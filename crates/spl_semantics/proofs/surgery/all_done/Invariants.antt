@@ -1,6 +1,6 @@
 use Rattle.std.proofs.Common.{◌≡◌, drop}
 use Rattle.st_program.specs.Residuals.{plain_residuals}
-use Rattle.spl_semantics.specs.Steps.{all_done}
+use Rattle.spl_semantics.specs.Going.{all_done}
 use Rattle.spl_semantics.proofs.surgery.all_done.Given as goal
 
 abbrev pub invariant-loop-residual : goal.invariant-loop-residual

@@ -1,11 +1,11 @@
 use Rattle.std.proofs.Common.{◌≡◌, ◌++◌, map}
 use Rattle.std.specs.Vec.Iter.{into_iter_items}
-use Rattle.spl_semantics.specs.Steps as steps
+use Rattle.spl_semantics.specs.Going as going
 use Rattle.spl_semantics.specs.Plain.{plain_acts, act_stores}
 use Rattle.spl_semantics.proofs.surgery.back_all.Given as goal
 
 abbrev pub invariant-loop-act : goal.invariant-loop-act
 invariant-loop-act l = record {
-  steps : plain_acts l.all.items ++ map (steps.around (steps.back l.loop_occ)) (plain_acts (into_iter_items l.act-iterator)) ≡ map (steps.around (steps.back l.loop_occ)) (plain_acts l.fn.acts.items);
+  steps : plain_acts l.all.items ++ map (going.around (going.back l.loop_occ)) (plain_acts (into_iter_items l.act-iterator)) ≡ map (going.around (going.back l.loop_occ)) (plain_acts l.fn.acts.items);
   stores : act_stores l.all.items ++ act_stores (into_iter_items l.act-iterator) ≡ act_stores l.fn.acts.items;
 }

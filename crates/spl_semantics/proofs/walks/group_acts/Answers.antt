@@ -5,7 +5,7 @@ use Rattle.st_program.specs.Plain.{plain_pieces}
 use Rattle.st_program.specs.Residuals.{Done}
 use Rattle.spl_semantics.specs.Data.{store_of}
 use Rattle.spl_semantics.specs.Plain.{plain_acts, plain_walk}
-use Rattle.spl_semantics.specs.Steps.{act}
+use Rattle.spl_semantics.specs.Going.{act}
 use Rattle.spl_semantics.proofs.Exits.{handed}
 use Rattle.spl_semantics.proofs.Walking.{wide-walk_along, group-acts, acts_of_walk, walk_along-below}
 use Rattle.spl_semantics.proofs.walks.group_acts.Goals as goal

@@ -1,10 +1,6 @@
 use Rattle.std.proofs.Common.{◌≡◌, ℕ, suc, List, [], ◌∷◌, ◌++◌, length, Option, Some, None, refl, ap, subst}
 use Rattle.std.specs.Prelude.{IsSome}
-use Rattle.st_program.specs.Tree.{Pieces, action, group}
 use Rattle.st_program.specs.Member.{Member, here, there}
-use Rattle.st_program.specs.Plain.{plain_children}
-use Rattle.st_program.specs.Spots.{Spot, all_spots}
-use Rattle.st_program.specs.Programs.{View}
 use Rattle.st_program.specs.Types.{ActionFits}
 use Rattle.st_program.specs.Groups.{Link, paths_along, Composed, nothing_composed, composed}
 use Rattle.spl_translation.specs.Translation.{path_mode, path_modes}
@@ -18,11 +14,6 @@ all_there l next (p ∷ ps) h = by_path (composed p nothing_composed) (h p (here
     by_path None s e = cc
     by_path (Some c) s e = ap suc e
 
-abbrev Law : View → Type 0
-Law v =
-    (x : Spot) (pieces : Pieces) (l next : ℕ) → Member x (all_spots (plain_children v.processes)) → action x.stmt ≡ group pieces
-    → length (path_modes l (paths_along pieces) next) ≡ length (paths_along pieces)
-
 pub returns : goal.returns
-returns c =
-    subst Law c.program.view_is (λ x pieces l next m e. all_there l next (paths_along pieces) (subst (ActionFits c.program.inside.variables.items) e (c.program.invariant.typed x m)).1.small)
+returns c variables initial p locations statements keeps x pieces l next m e =
+    all_there l next (paths_along pieces) (subst (ActionFits variables) e (keeps.typed x m)).1.small

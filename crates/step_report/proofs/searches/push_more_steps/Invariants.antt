@@ -1,5 +1,5 @@
 use Rattle.std.proofs.Common.{◌≡◌, ◌++◌, drop}
-use Rattle.linear_prover.specs.Plain.{plain_path}
+use Rattle.search_verdicts.specs.Plain.{plain_path}
 use Rattle.step_report.specs.Searches.{more_steps}
 use Rattle.step_report.proofs.searches.push_more_steps.Given as goal
 

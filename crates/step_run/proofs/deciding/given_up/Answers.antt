@@ -1,6 +1,6 @@
 use Rattle.std.proofs.Common.{◌+◌, get_or}
 use Rattle.st_form.specs.Shared.{plain_condition}
-use Rattle.linear_prover.specs.Plain.{plain_path}
+use Rattle.search_verdicts.specs.Plain.{plain_path}
 use Rattle.step_report.specs.declared.conditions.Reason.TheVariants.{Wide}
 use Rattle.step_report.specs.Searches.{wide_text}
 use Rattle.step_run.specs.Views.{posed_view}

@@ -1,7 +1,7 @@
 use Rattle.std.proofs.Common.{◌+◌, get_or}
 use Rattle.std.specs.Option.{option_map}
 use Rattle.st_form.specs.Shared.{plain_condition}
-use Rattle.linear_prover.specs.Plain.{plain_path, plain_shown}
+use Rattle.search_verdicts.specs.Plain.{plain_path, plain_shown}
 use Rattle.step_report.specs.declared.conditions.Reason.TheVariants.{Open}
 use Rattle.step_report.specs.Searches.{open_text}
 use Rattle.step_run.specs.Views.{posed_view}

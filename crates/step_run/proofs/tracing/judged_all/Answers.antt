@@ -1,7 +1,7 @@
 use Rattle.std.proofs.Common.{◌+◌, map, arith}
 use Rattle.st_program.specs.Plain.{plain_children}
 use Rattle.temporal_goals.specs.Plain.{plain_goal, plain_step}
-use Rattle.spl_semantics.specs.Runs.{observed}
+use Rattle.spl_semantics.specs.Observed.{observed}
 use Rattle.step_run.specs.Judged.{all_judged}
 use Rattle.step_run.proofs.Judging.{judged_is, judged_more}
 use Rattle.step_run.proofs.tracing.judged_all.Goals as goal

@@ -2,7 +2,8 @@ use Rattle.std.proofs.Common.{◌≡◌, ◌++◌, List, drop, map}
 use Rattle.st_form.specs.declared.conditions.TransName.{TransName}
 use Rattle.st_program.specs.Plain.{plain_children}
 use Rattle.temporal_goals.specs.Plain.{plain_step}
-use Rattle.spl_semantics.specs.Runs.{State, observed}
+use Rattle.spl_semantics.specs.Runs.{State}
+use Rattle.spl_semantics.specs.Observed.{observed}
 use Rattle.trace_player.specs.Playing.{IsPlayed}
 use Rattle.step_run.specs.Judged.{all_judged}
 use Rattle.step_run.proofs.tracing.judged_all.Given as goal

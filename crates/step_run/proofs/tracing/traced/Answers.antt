@@ -1,9 +1,8 @@
-use Rattle.std.proofs.Common.{◌≡◌, ◌∙◌, sym}
+use Rattle.std.proofs.Common.{◌∙◌, sym}
 use Rattle.std.proofs.lemmas.Result.{IfOk-weaker}
-use Rattle.run_judging.proofs.Backwards.{both-ok}
+use Rattle.schedule_reader.specs.Faults.{see}
 use Rattle.schedule_reader.specs.Schedules.{plain_schedule}
 use Rattle.step_plan.specs.Outcome.{ended_view}
-use Rattle.step_run.specs.Traced.{schedule_refused, IsOfText, traced}
 use Rattle.step_run.specs.Views.{source_view, scripted_view}
 use Rattle.step_run.proofs.Scripts.{names_are, store_fits, read_so, refused_so}
 use Rattle.step_run.proofs.tracing.traced.Goals as goal
@@ -36,5 +35,4 @@ returns-in-Ok c =
 pub returns-in-Err : goal.returns-in-Err
 returns-in-Err c =
     let x = scripted_view c.args.scripted.now in
-    both-ok c.schedule_refused.result (λ e. ended_view e ≡ schedule_refused c.in-Err.fault) (λ e. IsOfText c.in-Err.fault) (λ e. ended_view e ≡ traced x c.args.text.now)
-    c.schedule_refused.ensures.outcome c.schedule_refused.ensures.named (λ e outcome named. outcome ∙ refused_so x c.args.text.now c.in-Err.fault named c.in-Err.ensures)
+    IfOk-weaker c.schedule_refused.result _ _ (λ e end. refused_so x c.args.text.now (see c.in-Err.fault) (ended_view e) end c.in-Err.ensures) c.schedule_refused.ensures

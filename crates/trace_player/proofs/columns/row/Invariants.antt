@@ -1,6 +1,6 @@
 use Rattle.std.proofs.Common.{◌≡◌, ◌++◌, map, drop}
 use Rattle.st_form.specs.Plain.{plain}
-use Rattle.trace_player.specs.Seen.{seen_at}
+use Rattle.spl_semantics.specs.Data.{seen_at}
 use Rattle.trace_player.specs.Columns.{some_wide, row_of}
 use Rattle.trace_player.proofs.columns.row.Given as goal
 

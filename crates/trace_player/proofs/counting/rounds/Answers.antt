@@ -1,5 +1,5 @@
 use Rattle.st_program.specs.Plain.{plain_children}
-use Rattle.spl_semantics.specs.Runs.{observed}
+use Rattle.spl_semantics.specs.Observed.{observed}
 use Rattle.trace_player.proofs.counting.rounds.Goals as goal
 
 pub returns : goal.returns

@@ -1,7 +1,7 @@
 use Rattle.std.proofs.Common.{map, ap, ◌∙◌, sym, subst}
 use Rattle.st_form.specs.Plain.{plain}
 use Rattle.st_program.specs.Plain.{plain_children}
-use Rattle.spl_semantics.specs.Runs.{observed}
+use Rattle.spl_semantics.specs.Observed.{observed}
 use Rattle.temporal_goals.specs.Plain.{plain_goal}
 use Rattle.temporal_goals.specs.Texts.{waiting}
 use Rattle.trace_player.specs.Judgements.{IsJudgement}

@@ -1,0 +1,4 @@
+pub mod Integers
+pub mod Numbers
+pub mod Truths
+pub mod Types

@@ -1,6 +1,0 @@
-use Rattle.std.proofs.Common.{◌≡◌, drop}
-use Rattle.st_form.specs.Exchange.{is_listed}
-use Rattle.trace_player.proofs.values.is_listed.Given as goal
-
-abbrev pub invariant-loop-front : goal.invariant-loop-front
-invariant-loop-front l = is_listed l.location (drop l.front-index l.fronts) ≡ is_listed l.location l.fronts

@@ -13,6 +13,7 @@ ghost use Rattle.certificate_batches.specs.Claims.{setting_of, conditions_of, Ma
 ghost use Rattle.certificate_batches.specs.Turns.{reach, trailing};
 ghost use Rattle.certificate_batches.specs.Batches.{comes_to, Keeps, AreInOrder, AreAllDischarged};
 
+use crate::crew::Crew;
 use crate::turns::{Turn, drop_blanks, drop_front, next_turn};
 use crate::{Claims, Finding};
 use cert_text::{Block, CertReader};
@@ -65,13 +66,9 @@ impl Batches {
     /// Checks the blocks that wait.
     fn discharge<R: Threads + Sync, G: Gate + Sync>(
         &mut self,
-        rt: &R,
-        alloc: Global,
-        gate: &G,
-        workers: u32,
+        crew: &Crew<'_, R, G>,
         claims: &Claims<'_>,
     ) -> Result<(), Memory>
-        requires workers { 0 < workers }
         requires may { MayBeChecked claims.now }
         requires order { AreInOrder (conditions_of claims.now) self.old }
         requires unsettled { self.old.settled ≡ None }
@@ -88,10 +85,10 @@ impl Batches {
         let end = self.discharged + self.blocks.len();
         let conditions = &claims.conditions[self.discharged..end];
         match check_all(
-            rt,
-            alloc,
-            gate,
-            workers,
+            crew.rt,
+            crew.alloc,
+            crew.gate,
+            crew.workers,
             claims.components,
             claims.variables,
             conditions,
@@ -112,13 +109,9 @@ impl Batches {
     /// Checks the blocks that wait, where they are 64.
     fn discharge_full<R: Threads + Sync, G: Gate + Sync>(
         &mut self,
-        rt: &R,
-        alloc: Global,
-        gate: &G,
-        workers: u32,
+        crew: &Crew<'_, R, G>,
         claims: &Claims<'_>,
     ) -> Result<(), Memory>
-        requires workers { 0 < workers }
         requires may { MayBeChecked claims.now }
         requires order { AreInOrder (conditions_of claims.now) self.old }
         requires unsettled { self.old.settled ≡ None }
@@ -130,20 +123,16 @@ impl Batches {
         if self.blocks.len() < BATCH {
             return Ok(());
         }
-        self.discharge(rt, alloc, gate, workers, claims)
+        self.discharge(crew, claims)
     }
 
     /// Ends at the next condition without a block, once those before it are checked.
     fn refuse<R: Threads + Sync, G: Gate + Sync>(
         &mut self,
-        rt: &R,
-        alloc: Global,
-        gate: &G,
-        workers: u32,
+        crew: &Crew<'_, R, G>,
         claims: &Claims<'_>,
         reason: Reason,
     ) -> Result<(), Memory>
-        requires workers { 0 < workers }
         requires may { MayBeChecked claims.now }
         requires order { AreInOrder (conditions_of claims.now) self.old }
         requires unsettled { self.old.settled ≡ None }
@@ -154,7 +143,7 @@ impl Batches {
         ensures settled { OnOk result (IsSome self.new.settled) }
         ensures reader { OnOk result (self.new.reader ≡ self.old.reader) }
     {
-        self.discharge(rt, alloc, gate, workers, claims)?;
+        self.discharge(crew, claims)?;
         if self.settled.is_none() {
             let number = self.discharged as u32 + 1;
             self.settled = Some(Finding::Refused(number, reason));
@@ -165,13 +154,9 @@ impl Batches {
     /// Takes the next block, and checks those that wait where they are 64. Answers whether the text goes on.
     fn take_next<R: Threads + Sync, G: Gate + Sync>(
         &mut self,
-        rt: &R,
-        alloc: Global,
-        gate: &G,
-        workers: u32,
+        crew: &Crew<'_, R, G>,
         claims: &Claims<'_>,
     ) -> Result<bool, Memory>
-        requires workers { 0 < workers }
         requires may { MayBeChecked claims.now }
         requires order { AreInOrder (conditions_of claims.now) self.old }
         requires unsettled { self.old.settled ≡ None }
@@ -188,24 +173,20 @@ impl Batches {
             Turn::Taken(block) => self.blocks.push(block)?,
             Turn::Needs => return Ok(false),
             Turn::Lacks(reason) => {
-                self.refuse(rt, alloc, gate, workers, claims, reason)?;
+                self.refuse(crew, claims, reason)?;
                 return Ok(false);
             }
         }
-        self.discharge_full(rt, alloc, gate, workers, claims)?;
+        self.discharge_full(crew, claims)?;
         Ok(self.settled.is_none())
     }
 
     /// Takes blocks as far as the text goes. Answers whether all conditions are discharged.
     fn take_blocks<R: Threads + Sync, G: Gate + Sync>(
         &mut self,
-        rt: &R,
-        alloc: Global,
-        gate: &G,
-        workers: u32,
+        crew: &Crew<'_, R, G>,
         claims: &Claims<'_>,
     ) -> Result<bool, Memory>
-        requires workers { 0 < workers }
         requires may { MayBeChecked claims.now }
         requires order { AreInOrder (conditions_of claims.now) self.old }
         requires unsettled { self.old.settled ≡ None }
@@ -217,25 +198,21 @@ impl Batches {
         ensures settled { IfOk result (λ all. all ≡ false → self.old.reader.finished ≡ true → IsSome self.new.settled) }
     {
         while self.discharged + self.blocks.len() < claims.conditions.len() {
-            if !self.take_next(rt, alloc, gate, workers, claims)? {
+            if !self.take_next(crew, claims)? {
                 return Ok(false);
             }
         }
-        self.discharge(rt, alloc, gate, workers, claims)?;
+        self.discharge(crew, claims)?;
         Ok(self.settled.is_none())
     }
 
     /// Takes a further piece of the text.
     pub fn push<R: Threads + Sync, G: Gate + Sync>(
         &mut self,
-        rt: &R,
-        alloc: Global,
-        gate: &G,
-        workers: u32,
+        crew: &Crew<'_, R, G>,
         claims: &Claims<'_>,
         piece: &[u8],
     ) -> Result<(), Memory>
-        requires workers { 0 < workers }
         requires may { MayBeChecked claims.now }
         requires order { AreInOrder (conditions_of claims.now) self.old }
         requires unfinished { self.old.reader.finished ≡ false }
@@ -250,11 +227,11 @@ impl Batches {
             return Ok(());
         }
         self.reader.push(piece)?;
-        if !self.take_blocks(rt, alloc, gate, workers, claims)? {
+        if !self.take_blocks(crew, claims)? {
             return Ok(());
         }
         if claims.conditions.is_empty() {
-            self.skip_front(alloc, claims)?;
+            self.skip_front(crew.alloc, claims)?;
             return Ok(());
         }
         self.skip_blanks(claims);
@@ -308,13 +285,9 @@ impl Batches {
     /// What all comes to, where the text ends here.
     pub fn finish<R: Threads + Sync, G: Gate + Sync>(
         &mut self,
-        rt: &R,
-        alloc: Global,
-        gate: &G,
-        workers: u32,
+        crew: &Crew<'_, R, G>,
         claims: &Claims<'_>,
     ) -> Result<Finding, Memory>
-        requires workers { 0 < workers }
         requires may { MayBeChecked claims.now }
         requires order { AreInOrder (conditions_of claims.now) self.old }
         ensures finding { IfOk result (λ f. f ≡ comes_to (setting_of claims.now) (conditions_of claims.now) self.old []) }
@@ -324,7 +297,7 @@ impl Batches {
             return Ok(finding);
         }
         self.reader.finish();
-        if self.take_blocks(rt, alloc, gate, workers, claims)? {
+        if self.take_blocks(crew, claims)? {
             return Ok(Finding::Discharged(self.reader.trailing()));
         }
         match self.settled {

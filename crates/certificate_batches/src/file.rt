@@ -10,6 +10,7 @@ ghost use Rattle.certificate_batches.specs.Claims.{setting_of, conditions_of, im
 ghost use Rattle.step_report.specs.declared.refusals.FileRole.TheVariants as roles;
 
 use crate::batches::Batches;
+use crate::crew::Crew;
 use crate::{Claims, Finding};
 use st_memory::Memory;
 use st_outside::{Files, Gate};
@@ -53,6 +54,12 @@ pub fn check_file<R: Threads + Sync, F: Files, G: Gate + Sync>(
     ensures same { F.told files.new ≡ F.told files.old }
     ensures later { NoneFell (F.faults files.old) (F.faults files.new) }
 {
+    let crew = Crew {
+        rt,
+        alloc,
+        gate,
+        workers,
+    };
     let mut batches = Batches::new(alloc);
     let mut buf = Vec::new(alloc);
     buf.resize(PIECE, 0u8)?;
@@ -62,10 +69,10 @@ pub fn check_file<R: Threads + Sync, F: Files, G: Gate + Sync>(
             return Ok(Stage::Over(read_fault(alloc)?));
         };
         if count == 0 {
-            let finding = batches.finish(rt, alloc, gate, workers, claims)?;
+            let finding = batches.finish(&crew, claims)?;
             return Ok(Stage::On(finding));
         }
-        batches.push(rt, alloc, gate, workers, claims, &buf[..count])?;
+        batches.push(&crew, claims, &buf[..count])?;
         size += count as u64;
     }
     Ok(Stage::Over(limited(alloc, LimitKind::Certificates)?))

@@ -5,6 +5,7 @@
 
 mod batches;
 mod claims;
+mod crew;
 mod file;
 mod finding;
 mod turns;

@@ -2,4 +2,3 @@ pub mod Pieces
 pub mod Along
 pub mod Levels
 pub mod Numbers
-pub mod Owed

@@ -10,7 +10,8 @@ use Rattle.vc_generator.specs.declared.faults.VcFault.{VcFault}
 use Rattle.vc_generator.specs.Refusing.{refusals, Grows}
 use Rattle.vc_generator.proofs.Growing.{conditions, conditions-append, refusals-then, Left, left-all, left-on, left-refused}
 use Rattle.rule_laws.specs.Diagrams.{drawn_rank, each_node}
-use Rattle.diagram_conditions.specs.Asked.{CanFall, RanksCanFall}
+use Rattle.rule_fits.specs.Fitting.{CanFall}
+use Rattle.diagram_conditions.specs.Asked.{RanksCanFall}
 
 -- the pieces before are appended, and the others behind them
 pub grow-behind : (r : Result (Unit {0}) VcFault) (old mid new : List Implication) (ds es : List Draft) → refusals old ds ≡ None → mid ≡ old ++ conditions ds → Grows r mid new es → Grows r old new (ds ++ es)

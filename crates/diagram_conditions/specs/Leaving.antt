@@ -1,13 +1,12 @@
 -- The edges that leave a node, each with the node that it leads to, and the cases that they give.
-use Rattle.std.specs.Prelude.{ℕ, true, ◌==◌, nat_lt, if◌then◌else◌, List, [], ◌∷◌, ◌++◌, Option}
+use Rattle.std.specs.Prelude.{ℕ, ◌==◌, nat_lt, if◌then◌else◌, List, [], ◌∷◌, ◌++◌, Option}
 use Rattle.std.specs.List.{list_any}
-use Rattle.st_linear.specs.Simple.{lowered}
-use Rattle.st_form.specs.Formula.{Formula, truth_value}
+use Rattle.st_form.specs.Formula.{Formula}
 use Rattle.temporal_goals.specs.Texts.{PlainDrawnNode, PlainEdge}
 use Rattle.temporal_goals.specs.declared.diagrams.DiagramKind.{DiagramKind}
 use Rattle.temporal_goals.specs.declared.diagrams.DiagramKind.TheVariants.{Wait, Chain, Rank}
 use Rattle.vc_generator.specs.Atoms.{PlainCase}
-use Rattle.rule_laws.specs.Diagrams.{node_numbered, case_on, case_at, drawn_rank, unless_helper, rank_stays, rank_falls}
+use Rattle.rule_laws.specs.Diagrams.{node_numbered, case_on, case_at, unless_helper, rank_stays, rank_falls}
 
 -- the edges from the node with this number, with the nodes that they lead to
 abbrev pub leaving_from : ℕ → List PlainDrawnNode → List PlainEdge → List (PlainEdge × Option PlainDrawnNode)
@@ -27,10 +26,6 @@ along f number (l ∷ ls) = case_along f number l ++ along f number ls
 -- to the terminal node, or to a node with a lower number
 abbrev pub lower_case : Formula → ℕ → ℕ → Option PlainDrawnNode → List PlainCase
 lower_case terminal i j end = if j == 0 then case_on terminal ∷ [] else (if nat_lt j i then case_at end else [])
-
--- to a node with a lower rank
-abbrev pub falls_onto : PlainDrawnNode → PlainDrawnNode → PlainCase
-falls_onto n j = record { now = truth_value true; behind = j.form; falls = (drawn_rank j, lowered (drawn_rank n)) ∷ [] }
 
 -- to the terminal node, or to a node with a lower rank
 abbrev pub falling_case : Formula → PlainDrawnNode → ℕ → Option PlainDrawnNode → List PlainCase

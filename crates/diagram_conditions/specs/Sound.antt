@@ -12,17 +12,17 @@ use Rattle.temporal_goals.specs.declared.diagrams.DiagramKind.TheVariants.{Wait,
 use Rattle.vc_generator.specs.Validity.{HoldThroughout, TrueThroughout}
 use Rattle.rule_laws.proofs.WaitDrawn.{wait-sound}
 use Rattle.rule_laws.proofs.DrawnSound.{chain-sound, rank-sound}
-use Rattle.diagram_conditions.specs.Asked.{FitsWaiting, FitsResponse, FitsGoal, waiting_asks, response_asks, drawn_asks}
+use Rattle.diagram_conditions.specs.Asked.{FitsWaitDiagram, FitsResponseDiagram, FitsGoal, wait_diagram_asks, response_diagram_asks, drawn_asks}
 
 module _ (step : ℕ) (system : System) (lemmas : List Formula) (o : Observation Situation) (run : IsRun system o) (cited : TrueThroughout lemmas o) where
-  waiting-sound : (kind : DiagramKind) (p : Formula) (goals : List Formula) (d : PlainDiagram) → FitsWaiting kind (length goals) d
-      → HoldThroughout (waiting_asks kind step system lemmas p goals d) o → GoalHolds (waiting p goals) o
+  waiting-sound : (kind : DiagramKind) (p : Formula) (goals : List Formula) (d : PlainDiagram) → FitsWaitDiagram kind (length goals) d
+      → HoldThroughout (wait_diagram_asks kind step system lemmas p goals d) o → GoalHolds (waiting p goals) o
   waiting-sound Wait p goals d fits all = wait-sound step system lemmas o run cited d p goals fits all
   waiting-sound Chain p goals d fits all = absurd fits
   waiting-sound Rank p goals d fits all = absurd fits
 
-  response-sound : (kind : DiagramKind) (p q : Formula) (e : Linear) (d : PlainDiagram) → FitsResponse kind system d
-      → HoldThroughout (response_asks kind step system lemmas p q e d) o → GoalHolds (response p q e) o
+  response-sound : (kind : DiagramKind) (p q : Formula) (e : Linear) (d : PlainDiagram) → FitsResponseDiagram kind system d
+      → HoldThroughout (response_diagram_asks kind step system lemmas p q e d) o → GoalHolds (response p q e) o
   response-sound Wait p q e d fits all = absurd fits
   response-sound Chain p q e d fits all = chain-sound step system lemmas o run cited d fits p q e all
   response-sound Rank p q e d fits all = rank-sound step system lemmas o run cited d fits p q e all

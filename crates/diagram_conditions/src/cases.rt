@@ -8,9 +8,9 @@ ghost use Rattle.st_form.specs.Plain.{plain};
 ghost use Rattle.temporal_goals.specs.Plain.{plain_drawn_node};
 ghost use Rattle.vc_generator.specs.Plain.{plain_case};
 ghost use Rattle.rule_laws.specs.Names.{is_name};
-ghost use Rattle.rule_laws.specs.Diagrams.{drawn_rank, case_on as case_on_of, rank_stays};
-ghost use Rattle.diagram_conditions.specs.Asked.{CanFall};
-ghost use Rattle.diagram_conditions.specs.Leaving.{lower_case, falls_onto, falling_case, end_case, case_along, stay_case, step_cases as step_cases_of};
+ghost use Rattle.rule_laws.specs.Diagrams.{drawn_rank, case_on as case_on_of, falls_onto, rank_stays};
+ghost use Rattle.rule_fits.specs.Fitting.{CanFall};
+ghost use Rattle.diagram_conditions.specs.Leaving.{lower_case, falling_case, end_case, case_along, stay_case, step_cases as step_cases_of};
 ghost use Rattle.diagram_conditions.specs.Plain.{plain_leaving};
 
 use crate::leaving::Leaving;

@@ -8,8 +8,8 @@
 
 mod cases;
 mod ends;
-pub mod guards;
 mod leaving;
+mod listing;
 mod moves;
 mod nodes;
 mod premises;

@@ -6,7 +6,6 @@ ghost use Rattle.vc_generator.specs.Refusing.{Grows};
 ghost use Rattle.rule_laws.specs.Diagrams.{each_node as each_node_of};
 ghost use Rattle.diagram_conditions.specs.Asked.{RanksCanFall};
 
-use std::alloc::Global;
 use temporal_goals::{Diagram, DiagramNode};
 use vc_generator::{Conditions, VcFault};
 
@@ -19,18 +18,17 @@ pub trait PerNode {
     ghost use Rattle.vc_generator.specs.Plain.{plain_list};
     ghost use Rattle.vc_generator.specs.Refusing.{Grows};
     ghost use Rattle.rule_laws.specs.Diagrams.{drawn_rank};
-    ghost use Rattle.diagram_conditions.specs.Asked.{CanFall};
+    ghost use Rattle.rule_fits.specs.Fitting.{CanFall};
 
     ghost asks: { Self → PlainDrawnNode → List Draft };
 
-    fn append(&self, alloc: Global, node: &DiagramNode, out: &mut Conditions) -> Result<(), VcFault>
+    fn append(&self, node: &DiagramNode, out: &mut Conditions) -> Result<(), VcFault>
         requires { CanFall (drawn_rank (plain_drawn_node node.now)) }
         ensures { Grows result (plain_list out.old) (plain_list out.new) (asks self.now (plain_drawn_node node.now)) };
 }
 
 /// Appends what is asked of each node, in order.
 pub fn each_node<P: PerNode>(
-    alloc: Global,
     diagram: &Diagram,
     rule: &P,
     out: &mut Conditions,
@@ -40,7 +38,7 @@ pub fn each_node<P: PerNode>(
 {
     for index in 0..diagram.nodes.len() {
         let node = &diagram.nodes[index];
-        rule.append(alloc, node, out)?;
+        rule.append(node, out)?;
     }
     Ok(())
 }

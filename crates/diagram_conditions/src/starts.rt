@@ -7,7 +7,7 @@ ghost use Rattle.st_form.specs.Formula.{some, formulas};
 ghost use Rattle.st_form.specs.Plain.{plain};
 ghost use Rattle.temporal_goals.specs.Plain.{plain_drawn_node, plain_diagram};
 ghost use Rattle.rule_laws.specs.Diagrams.{wait_forms, chain_starts, rank_starts};
-ghost use Rattle.diagram_conditions.specs.Asked.{CanFall};
+ghost use Rattle.rule_fits.specs.Fitting.{CanFall};
 ghost use Rattle.diagram_conditions.specs.Starts.{starts_below};
 
 use crate::ranks::{number, rank};

@@ -1,4 +1,5 @@
 pub mod Totals
+pub mod Moved
 pub mod Changing
 pub mod Starting
 pub mod Zeros

@@ -1,4 +1,5 @@
 pub mod Sums
+pub mod Moving
 pub mod Space
 pub mod Rows
 pub mod Equations

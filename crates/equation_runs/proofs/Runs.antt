@@ -4,7 +4,6 @@ use Rattle.std.specs.Prelude.{flat_map, int_le, take}
 use Rattle.std.proofs.lemmas.Int.{ints}
 use Rattle.std.proofs.Math.IntN.{zero-*ℤ}
 use Rattle.st_linear.specs.Linear.{Linear, value, changed}
-use Rattle.st_linear.proofs.Ints.{*ℤ-+ℤ}
 use Rattle.st_form.specs.Formula.{Formula, Formulas, Situation, truth_value, row, equal, bool_var, at, negation, every, some, none, more, truth, every_truth, is_zero, formulas}
 use Rattle.st_form.specs.Simple.{append, opened}
 use Rattle.st_form.specs.Exchange.{Exchange, is_listed}
@@ -38,24 +37,9 @@ use Rattle.spl_translation.specs.Correspondence.{Corresponds}
 use Rattle.spl_translation.proofs.Pairs.{paired}
 use Rattle.equation_laws.specs.Sums.{presence, passage, equation_value, moved_value, first_value}
 use Rattle.equation_laws.specs.Space.{equations, equations_among, places, places_among, start_forms, start_places, modes_of, variables_of, AreKept, combination, IsInductive}
-use Rattle.equation_laws.proofs.Totals.{total-same, total-sum}
+use Rattle.equation_laws.proofs.Moved.{value-behind}
+use Rattle.equation_laws.proofs.Totals.{total-same}
 use Rattle.basic_laws.proofs.Truths.{same_bool}
-
--- the value behind a change
-value-behind : (n locations : ℕ) (x : Vector) (change : Exchange) (s t : Situation) → ((v : ℕ) → t.numbers v ≡ changed s.numbers change.numbers v) → ((l : ℕ) → presence (t.located l) ≡ presence (s.located l) +ℤ passage change l)
-    → equation_value n locations x t ≡ equation_value n locations x s +ℤ moved_value n locations x change s.numbers
-value-behind n locations x change s t h k =
-    let d : ℕ → ℤ = λ v. changed s.numbers change.numbers v +ℤ neg_ℤ (s.numbers v) in
-    let a = total-same (λ v. x v *ℤ t.numbers v) (λ v. x v *ℤ s.numbers v +ℤ x v *ℤ d v) n 0
-    (λ v i j. ap (λ z. x v *ℤ z) (h v ∙ split (changed s.numbers change.numbers v) (s.numbers v)) ∙ *ℤ-+ℤ (s.numbers v) (d v) (x v))
-    ∙ total-sum (λ v. x v *ℤ s.numbers v) (λ v. x v *ℤ d v) n 0 in
-    let b = total-same (λ l. x (n + l) *ℤ presence (t.located l)) (λ l. x (n + l) *ℤ presence (s.located l) +ℤ x (n + l) *ℤ passage change l) locations 0
-    (λ l i j. ap (λ z. x (n + l) *ℤ z) (k l) ∙ *ℤ-+ℤ (presence (s.located l)) (passage change l) (x (n + l)))
-    ∙ total-sum (λ l. x (n + l) *ℤ presence (s.located l)) (λ l. x (n + l) *ℤ passage change l) locations 0 in
-    omega (arith, ints, a, b)
-  where
-    split : (a b : ℤ) → a ≡ b +ℤ (a +ℤ neg_ℤ b)
-    split a b = omega (arith, ints)
 
 -- locations in lists side by side
 listed-append : (l : ℕ) (xs ys : List ℕ) → is_listed l (xs ++ ys) ≡ (is_listed l xs || is_listed l ys)

@@ -15,4 +15,3 @@ mod texts;
 pub use forms::form_of;
 pub use linear_invariants::Equation;
 pub use sentences::{push_left_out, sentence};
-pub use texts::push_formula;

@@ -98,7 +98,7 @@ fn push_closing(out: &mut Vec<u8>, form: &Form) -> Result<(), Memory>
 /// A formula, by the grammar of proof texts. `variables` is the number of variables.
 #[cycle(print)]
 #[tactic(auto, using(st_form::proofs::Nodes::nodes))]
-pub fn push_formula(
+pub(crate) fn push_formula(
     out: &mut Vec<u8>,
     names: &NameTable,
     variables: u32,

@@ -17,6 +17,11 @@ use st_form::Lin;
 use st_memory::Memory;
 use std::alloc::Global;
 
+/// A table with more formulas, or more parts of formulas, is full.
+const MOST_FORMULAS: usize = 1 << 20;
+
+const MOST_PARTS: usize = 1 << 22;
+
 impl Table {
     /// How many formulas there are.
     pub fn size(&self) -> usize
@@ -28,6 +33,11 @@ impl Table {
     /// How many parts of conjunctions and disjunctions are kept.
     pub fn part_count(&self) -> usize {
         self.pool.store.part_count()
+    }
+
+    /// Whether no more formulas, or parts of formulas, should be kept.
+    pub fn is_full(&self) -> bool {
+        self.size() > MOST_FORMULAS || self.part_count() > MOST_PARTS
     }
 
     /// The conjuncts of a list.

@@ -3,43 +3,43 @@
 #![tactic(auto)]
 
 ghost use Rattle.std.specs.Prelude.{◌≡◌, None, map};
+ghost use Rattle.std.specs.Option.{option_map};
 ghost use Rattle.st_form.specs.Plain.{plain};
-ghost use Rattle.transition_system.specs.Plain.{plain_system};
+ghost use Rattle.vc_generator.specs.Asked.{system_of, lemmas_of};
 ghost use Rattle.vc_generator.specs.Plain.{plain_list};
 ghost use Rattle.vc_generator.specs.Refusing.{Grows};
 ghost use Rattle.rule_laws.specs.Invariance.{kept_always, invariance_list};
-ghost use Rattle.invariance_rules.specs.Asked.{plain_stronger};
 
-use st_form::{CondName, Form, Premise};
+use st_form::{Form, Premise};
 use std::alloc::Global;
 use temporal_goals::Goal;
 use transition_system::{Fts, Mode, Transition};
 use vc_generator::{
-    Conditions, PerMode, Rule, VcFault, each_mode, entails, plainly, start, take_back, triple,
+    Asking, Conditions, PerMode, Rule, VcFault, by_mode, each_mode, entails, plainly, start,
+    take_back, triple,
 };
 
 /// An invariance, perhaps by a stronger formula, with the formulas of the steps that it cites.
 #[derive(Drop)]
-pub struct Invariance {
-    pub goal: Goal,
-    pub stronger: Option<Form>,
-    pub lemmas: Vec<Form>,
+pub struct Invariance<'a> {
+    pub goal: &'a Goal,
+    pub stronger: Option<&'a Form>,
+    pub lemmas: &'a [Form],
 }
 
 /// That each mode keeps a formula.
 #[derive(Drop)]
 struct Keeping<'a> {
-    step: u32,
-    lemmas: &'a [Form],
+    asking: &'a Asking<'a>,
     form: &'a Form,
 }
 
 impl PerMode for Keeping<'_> {
-    ghost use Rattle.std.specs.Prelude.{map};
     ghost use Rattle.st_form.specs.Plain.{plain};
-    ghost use Rattle.invariance_rules.specs.Asked.{keeps};
+    ghost use Rattle.vc_generator.specs.Asked.{lemmas_of};
+    ghost use Rattle.invariance_rules.specs.Walk.{keeps};
 
-    ghost asks = { λ r n t k m. keeps r.step (map plain r.lemmas.now) (plain r.form.now) n t k m };
+    ghost asks = { λ r n t k m. keeps r.asking.now.step (lemmas_of r.asking.now) (plain r.form.now) n t k m };
 
     #[tactic(auto, using(vc_generator::proofs::Growing::appends_one))]
     fn append(
@@ -51,88 +51,61 @@ impl PerMode for Keeping<'_> {
         mode: &Mode,
         out: &mut Conditions,
     ) -> Result<(), VcFault> {
-        let name = CondName {
-            step: self.step,
-            premise: Premise::Keep,
-            node: None,
-            trans: Some(transition.name),
-            mode: place,
-        };
-        triple(
-            alloc,
-            mode,
-            self.lemmas,
-            self.form,
-            self.form,
-            &Form::False,
-            name,
-            out,
-        )
+        let asking = self.asking;
+        let lemmas = asking.lemmas;
+        let form = self.form;
+        let name = by_mode(asking.step, Premise::Keep, None, transition.name, place);
+        triple(alloc, mode, lemmas, form, form, &Form::False, name, out)
     }
 }
 
 /// The formula holds at the start, and each mode keeps it.
-fn keep_always(
-    alloc: Global,
-    fts: &Fts,
-    step: u32,
-    lemmas: &[Form],
-    form: &Form,
-    out: &mut Conditions,
-) -> Result<(), VcFault>
-    ensures { Grows result (plain_list out.old) (plain_list out.new) (kept_always step (plain_system fts.now) (map plain lemmas.now) (plain form.now)) }
+fn keep_always(asking: &Asking<'_>, form: &Form, out: &mut Conditions) -> Result<(), VcFault>
+    ensures { Grows result (plain_list out.old) (plain_list out.new) (kept_always asking.now.step (system_of asking.now) (lemmas_of asking.now) (plain form.now)) }
 {
-    let name = plainly(step, Premise::Start, None);
-    start(alloc, fts, lemmas, form, name, out)?;
-    let keeping = Keeping { step, lemmas, form };
-    each_mode(alloc, fts, &keeping, out)
+    let name = plainly(asking.step, Premise::Start, None);
+    start(asking.alloc, asking.fts, asking.lemmas, form, name, out)?;
+    let keeping = Keeping { asking, form };
+    each_mode(asking.alloc, asking.fts, &keeping, out)
 }
 
 /// All conditions of the invariance of `form`.
 fn invariant(
-    alloc: Global,
-    fts: &Fts,
-    step: u32,
-    rule: &Invariance,
+    asking: &Asking<'_>,
+    stronger: Option<&Form>,
     form: &Form,
     out: &mut Conditions,
 ) -> Result<(), VcFault>
-    ensures { Grows result (plain_list out.old) (plain_list out.new) (invariance_list step (plain_system fts.now) (map plain rule.now.lemmas.items) (plain form.now) (plain_stronger rule.now.stronger)) }
+    ensures { Grows result (plain_list out.old) (plain_list out.new) (invariance_list asking.now.step (system_of asking.now) (lemmas_of asking.now) (plain form.now) (option_map (λ f. plain f.now) stronger.entry)) }
 {
-    match &rule.stronger {
-        None => keep_always(alloc, fts, step, &rule.lemmas, form, out),
+    match stronger {
+        None => keep_always(asking, form, out),
         Some(stronger) => {
-            let name = plainly(step, Premise::Implies, None);
-            entails(alloc, &rule.lemmas, stronger, form, name, out)?;
-            keep_always(alloc, fts, step, &rule.lemmas, stronger, out)
+            let name = plainly(asking.step, Premise::Implies, None);
+            entails(asking.alloc, asking.lemmas, stronger, form, name, out)?;
+            keep_always(asking, stronger, out)
         }
     }
 }
 
-impl Rule for Invariance {
+impl Rule for Invariance<'_> {
     ghost use Rattle.std.specs.Prelude.{map};
+    ghost use Rattle.std.specs.Option.{option_map};
     ghost use Rattle.st_form.specs.Plain.{plain};
     ghost use Rattle.temporal_goals.specs.Plain.{plain_goal};
-    ghost use Rattle.invariance_rules.specs.Asked.{plain_stronger, IsInvariance, invariance_asks};
+    ghost use Rattle.invariance_rules.specs.Asked.{IsInvariance, invariance_asks};
     ghost use Rattle.invariance_rules.specs.Sound.{invariance_sound};
 
-    ghost aim = { λ r. plain_goal r.goal };
+    ghost aim = { λ r. plain_goal r.goal.now };
 
-    ghost cited = { λ r. map plain r.lemmas.items };
+    ghost cited = { λ r. map plain r.lemmas.now };
 
-    ghost fits = { λ r system. IsInvariance (plain_goal r.goal) };
+    ghost fits = { λ r system. IsInvariance (plain_goal r.goal.now) };
 
-    ghost asked = { λ r system step. invariance_asks (plain_goal r.goal) (plain_stronger r.stronger) (map plain r.lemmas.items) system step };
+    ghost asked = { λ r system step. invariance_asks (plain_goal r.goal.now) (option_map (λ f. plain f.now) r.stronger) (map plain r.lemmas.now) system step };
 
     fn goal(&self) -> &Goal {
-        &self.goal
-    }
-
-    fn is_fit(&self, _fts: &Fts) -> bool {
-        match &self.goal {
-            Goal::Invariant(_) => true,
-            Goal::Waiting(..) | Goal::Response(..) => false,
-        }
+        self.goal
     }
 
     fn conditions(
@@ -144,8 +117,14 @@ impl Rule for Invariance {
     ) -> Result<(), VcFault> {
         let length = out.items.len();
         let weight = out.weight;
-        let result = match &self.goal {
-            Goal::Invariant(form) => invariant(alloc, fts, step, self, form, out),
+        let asking = Asking {
+            alloc,
+            fts,
+            step,
+            lemmas: self.lemmas,
+        };
+        let result = match self.goal {
+            Goal::Invariant(form) => invariant(&asking, self.stronger, form, out),
             Goal::Waiting(..) | Goal::Response(..) => Ok(()),
         };
         if result.is_err() {
@@ -154,5 +133,5 @@ impl Rule for Invariance {
         result
     }
 
-    ghost sound = { λ rule system step o. invariance_sound (plain_goal rule.goal) (plain_stronger rule.stronger) (map plain rule.lemmas.items) system step o };
+    ghost sound = { λ rule system step o. invariance_sound (plain_goal rule.goal.now) (option_map (λ f. plain f.now) rule.stronger) (map plain rule.lemmas.now) system step o };
 }

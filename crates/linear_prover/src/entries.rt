@@ -1,44 +1,13 @@
-//! What is known of each form by its type: variables rise, and no coefficient is 0.
+//! What is known of each form of a condition, since each shared formula knows it: variables rise, and no coefficient is 0.
 
 ghost use Rattle.std.specs.Prelude.{map};
 ghost use Rattle.st_form.specs.Formula.{formulas};
-ghost use Rattle.st_form.specs.Plain.{plain, plain_list};
+ghost use Rattle.st_form.specs.Plain.{plain_list};
 ghost use Rattle.st_form.specs.Shared.{given_of, shown_of, case_of, consequent_of};
 ghost use Rattle.search_laws.specs.Forms.{AllForms, AllFormsOf};
 ghost use Rattle.search_laws.specs.Steady.{HasEntries};
 
-use st_form::{Condition, Consequent, Form, SharedForm};
-
-#[cycle(look_at)]
-#[tactic(auto, using(st_form::proofs::Nodes::nodes))]
-fn look_at(f: &Form)
-    ensures { AllForms HasEntries (plain f.now) }
-{
-    match f {
-        Form::True => {}
-        Form::False => {}
-        Form::Row(g) => {
-            let _entries = g.entries();
-        }
-        Form::Equal(g) => {
-            let _entries = g.entries();
-        }
-        Form::BoolVar(_) => {}
-        Form::At(_) => {}
-        Form::Not(g) => look_at(g),
-        Form::And(fs) => look_at_all(fs),
-        Form::Or(fs) => look_at_all(fs),
-    }
-}
-
-#[cycle(look_at)]
-fn look_at_all(fs: &[Form])
-    ensures { AllFormsOf HasEntries (plain_list fs.now) }
-{
-    for f in fs {
-        look_at(f);
-    }
-}
+use st_form::{Condition, Consequent, SharedForm};
 
 pub fn look_at_condition(condition: &Condition)
     ensures given { AllForms HasEntries (given_of condition.now) }
@@ -52,7 +21,9 @@ fn look_at_consequent(shown: &Consequent)
     ensures { AllForms HasEntries (consequent_of shown.now) }
 {
     match shown {
-        Consequent::One(form) => look_at(form.get()),
+        Consequent::One(form) => {
+            let _width = form.width();
+        }
         Consequent::Any(cases) => look_at_cases(cases),
     }
 }
@@ -69,6 +40,6 @@ fn look_at_parts(parts: &[SharedForm])
     ensures { AllFormsOf HasEntries (plain_list parts.now) }
 {
     for part in parts {
-        look_at(part.get());
+        let _width = part.width();
     }
 }

@@ -15,9 +15,9 @@ use Rattle.vc_generator.specs.declared.building.Case.{Case}
 use Rattle.rule_laws.specs.Names.{is_name}
 use Rattle.rule_laws.specs.RankedNet.{case_end, cases_if}
 use Rattle.rule_laws.specs.NestedNet.{none_of, each_depth, falls_at, frees_at, nested_stay, nested_cases, nested_move}
-use Rattle.ranked_net.specs.Asked.{moves}
+use Rattle.ranked_net.specs.Walk.{moves}
 use Rattle.ranked_net.proofs.Choices.{first-part}
-use Rattle.nested_net.specs.Asked.{outside, fall_cases, free_cases, depth_cases, stay_cases, listed_depths, chosen}
+use Rattle.nested_net.specs.Walk.{outside, fall_cases, free_cases, depth_cases, stay_cases, listed_depths, chosen}
 use Rattle.nested_net.proofs.Depths.{passed, met, outside-within, list-at, cut}
 
 if-true : (b : Bool) (cs : List PlainCase) → b ≡ true → cases_if b cs ≡ cs

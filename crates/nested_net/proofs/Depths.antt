@@ -3,7 +3,7 @@ use Rattle.std.proofs.Common.{◌≡◌, ◌∙◌, ap, refl, arith, ℕ, zero, 
 use Rattle.temporal_goals.specs.Texts.{PlainLevel}
 use Rattle.vc_generator.specs.Atoms.{PlainCase}
 use Rattle.rule_laws.specs.NestedNet.{none_of, each_depth}
-use Rattle.nested_net.specs.Asked.{outside, listed_depths}
+use Rattle.nested_net.specs.Walk.{outside, listed_depths}
 
 -- as many groups as stand outside may be asked about, and no more
 passed-by : (b : Bool) (number k : ℕ) (ls : List PlainLevel) → suc k ≤ (if b then 0 else suc (outside number ls)) → (k ≤ outside number ls → none_of number k ls ≡ true) → (not b && none_of number k ls) ≡ true

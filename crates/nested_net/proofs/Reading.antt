@@ -12,10 +12,11 @@ use Rattle.vc_generator.specs.Building.{at_least_both}
 use Rattle.vc_generator.specs.Plain.{plain_case}
 use Rattle.vc_generator.specs.declared.building.Case.{Case}
 use Rattle.rule_laws.specs.NestedNet.{top_at, base_at, group_at, agree, agreeing, pairs_below, ranked_forms}
-use Rattle.ranked_net.specs.Asked.{IsModest}
+use Rattle.rule_fits.specs.Fitting.{CanFall}
 use Rattle.transition_system.specs.Systems.{System}
 use Rattle.rule_laws.specs.Names.{enabled_of}
-use Rattle.nested_net.specs.Asked.{LevelsModest, free_within, free_cases, plain_lists}
+use Rattle.nested_net.specs.Asked.{LevelsCanFall}
+use Rattle.nested_net.specs.Walk.{free_within, free_cases, plain_lists}
 
 -- the numbers and the group at a depth
 pub top_some : (ls : List Level) (k : ℕ) (l : Level) (d : Linear) → slice_get ls k ≡ Some l → l.top ≡ top_at k (map plain_level ls) d
@@ -49,10 +50,10 @@ group_none (x ∷ xs) zero e = absurd (none-some x (sym e))
 group_none (x ∷ xs) (suc k) e = group_none xs k e
 
 -- a number at a depth can be lowered
-pub base-modest : (ls : List PlainLevel) (d : Linear) (k : ℕ) → LevelsModest ls → IsModest d → IsModest (base_at k ls d)
-base-modest [] d k all h = h
-base-modest (l ∷ ls) d zero all h = all.0
-base-modest (l ∷ ls) d (suc k) all h = base-modest ls d k all.1 h
+pub base-can-fall : (ls : List PlainLevel) (d : Linear) (k : ℕ) → LevelsCanFall ls → CanFall d → CanFall (base_at k ls d)
+base-can-fall [] d k all h = h
+base-can-fall (l ∷ ls) d zero all h = all.0
+base-can-fall (l ∷ ls) d (suc k) all h = base-can-fall ls d k all.1 h
 
 -- agreement of too few levels, and of the next ones
 pub too-few : (k : ℕ) (ls ms : List Level) → length ls < k → agree k (map plain_level ls) (map plain_level ms) ≡ false

@@ -14,13 +14,13 @@ use Rattle.vc_generator.specs.Refusing.{refusal, Grows}
 use Rattle.vc_generator.specs.Walks.{plainly}
 use Rattle.vc_generator.proofs.Growing.{one_then}
 use Rattle.rule_laws.specs.NestedNet.{nested_starts, nested_cover}
-use Rattle.nested_net.specs.Asked.{NodeModest, AreModest}
+use Rattle.nested_net.specs.Asked.{NodeCanFall, NodesCanFall}
 
--- the numbers of each node are modest
-pub modest-at : (xs : List NestedNode) (i : ℕ) (x d : NestedNode) → i < length xs → x ≡ get_or xs i d → AreModest (map plain_nested_node xs) → NodeModest (plain_nested_node x)
-modest-at [] i x d below is all = absurd (omega arith)
-modest-at (y ∷ ys) zero x d below is all = subst (λ z. NodeModest (plain_nested_node z)) (sym is) all.0
-modest-at (y ∷ ys) (suc i) x d below is all = modest-at ys i x d (omega arith) is all.1
+-- the numbers of each node can fall
+pub can-fall-at : (xs : List NestedNode) (i : ℕ) (x d : NestedNode) → i < length xs → x ≡ get_or xs i d → NodesCanFall (map plain_nested_node xs) → NodeCanFall (plain_nested_node x)
+can-fall-at [] i x d below is all = absurd (omega arith)
+can-fall-at (y ∷ ys) zero x d below is all = subst (λ z. NodeCanFall (plain_nested_node z)) (sym is) all.0
+can-fall-at (y ∷ ys) (suc i) x d below is all = can-fall-at ys i x d (omega arith) is all.1
 
 -- the cover and then other conditions
 pub cover-then : (r : Result (Unit {0}) VcFault) (old mid new : List Implication) (step : ℕ) (lemmas : List Formula) (p q shown : Formula) (e : Linear) (nodes : List PlainNestedNode) (name : CondName) (ds : List Draft)

@@ -3,7 +3,7 @@
 ghost use Rattle.std.specs.Prelude.{◌≡◌, ◌++◌, ◌∷◌, [], OnOk, map};
 ghost use Rattle.temporal_goals.specs.Plain.{plain_level};
 ghost use Rattle.rule_laws.specs.NestedNet.{top_at as top_at_of, base_at as base_at_of, group_at as group_at_of, agree as agree_of, pairs_below};
-ghost use Rattle.nested_net.specs.Asked.{outside as outside_of};
+ghost use Rattle.nested_net.specs.Walk.{outside as outside_of};
 
 use st_linear::Lin;
 use st_memory::Memory;

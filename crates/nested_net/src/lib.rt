@@ -5,11 +5,13 @@
 
 mod cases;
 mod faults;
-pub mod guards;
+mod forms;
 mod levels;
 mod listing;
 mod making;
+mod moving;
 mod rule;
+mod ways;
 
 pub use faults::NestedFault;
 pub use making::make_nested;

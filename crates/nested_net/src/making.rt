@@ -13,7 +13,7 @@ use temporal_goals::{Level, NestedNet, NestedNode};
 use transition_system::Fts;
 
 /// Whether some group isn't compassionate.
-pub(crate) fn some_uncompassionate(fts: &Fts, levels: &[Level]) -> bool
+fn some_uncompassionate(fts: &Fts, levels: &[Level]) -> bool
     ensures { result ≡ some_uncompassionate_of (plain_system fts.now) (map plain_level levels.now) }
 {
     for level in levels {

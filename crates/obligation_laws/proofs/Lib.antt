@@ -1,3 +1,1 @@
 pub mod Enough
-pub mod Sizes
-pub mod NarrowLists

@@ -1,2 +1,1 @@
 pub mod Obligations
-pub mod Narrow

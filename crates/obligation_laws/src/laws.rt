@@ -3,7 +3,6 @@
 ghost use Rattle.st_form.specs.Plain.{plain};
 ghost use Rattle.st_program.specs.Plain.{plain_children};
 ghost use Rattle.spl_translation.specs.Translation.{translation};
-ghost use Rattle.obligation_laws.specs.Narrow.{InvarianceIsNarrow};
 ghost use Rattle.obligation_laws.specs.Obligations.{ValidIsEnough};
 
 use spl_semantics::laws::runs_meet_control;
@@ -20,8 +19,3 @@ pub fn valid_is_enough(program: &Program)
     runs_meet_control(program);
     runs_are_runs();
 }
-
-/// The conditions of an invariance whose formulas are written ones have numbers below 2^69, as the checker asks.
-pub fn invariances_are_narrow()
-    ensures { InvarianceIsNarrow }
-{}

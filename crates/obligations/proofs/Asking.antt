@@ -6,17 +6,17 @@ use Rattle.transition_system.specs.Systems.{System}
 use Rattle.temporal_goals.specs.Texts.{PlainGoal, invariant, waiting, response, PlainDiagram, diagram}
 use Rattle.temporal_goals.specs.declared.diagrams.DiagramKind.{DiagramKind}
 use Rattle.temporal_goals.specs.declared.diagrams.DiagramKind.TheVariants.{Wait, Chain, Rank}
-use Rattle.diagram_conditions.specs.Asked.{waiting_asks, response_asks, drawn_asks}
+use Rattle.diagram_conditions.specs.Asked.{wait_diagram_asks, response_diagram_asks, drawn_asks}
 use Rattle.script_laws.specs.Script.{waiting_drawn, response_drawn, step_list}
 use Rattle.rule_fits.specs.Obeying.{RuleFits}
 
 module _ (n : ℕ) (system : System) (lemmas : List Formula) where
-  waiting-asks : (kind : DiagramKind) (p : Formula) (qs : List Formula) (d : PlainDiagram) → kind ≡ Wait → waiting_asks kind n system lemmas p qs d ≡ waiting_drawn kind n system lemmas p qs d
+  waiting-asks : (kind : DiagramKind) (p : Formula) (qs : List Formula) (d : PlainDiagram) → kind ≡ Wait → wait_diagram_asks kind n system lemmas p qs d ≡ waiting_drawn kind n system lemmas p qs d
   waiting-asks Wait p qs d is = refl
   waiting-asks Chain p qs d is = cc
   waiting-asks Rank p qs d is = cc
 
-  response-asks : (kind : DiagramKind) (p q : Formula) (e : Linear) (d : PlainDiagram) → kind ≢ Wait → response_asks kind n system lemmas p q e d ≡ response_drawn kind n system lemmas p q e d
+  response-asks : (kind : DiagramKind) (p q : Formula) (e : Linear) (d : PlainDiagram) → kind ≢ Wait → response_diagram_asks kind n system lemmas p q e d ≡ response_drawn kind n system lemmas p q e d
   response-asks Wait p q e d other = absurd (other refl)
   response-asks Chain p q e d other = refl
   response-asks Rank p q e d other = refl

@@ -7,10 +7,10 @@ use Rattle.temporal_goals.specs.declared.diagrams.DiagramKind.TheVariants.{Wait,
 use Rattle.rule_fits.specs.Fitting.{DrawnNodesFit, LevelsExist}
 use Rattle.ranked_net.specs.Asked.{RankedFits}
 use Rattle.nested_net.specs.Asked.{NestedFits}
-use Rattle.diagram_conditions.specs.Asked.{FitsWaiting, FitsResponse, FitsGoal, BoundCanFall, Fits}
+use Rattle.diagram_conditions.specs.Asked.{FitsWaitDiagram, FitsResponseDiagram, FitsGoal, BoundCanFall, Fits}
 use Rattle.rule_fits.specs.Obeying.{RuleFits}
 use Rattle.script_laws.specs.Written.{GoalWritten, RuleWritten}
-use Rattle.obligations.proofs.Modest.{modest, nodes-modest, nested-modest, ranks-fall}
+use Rattle.obligations.proofs.Falling.{can-fall, nodes-fall, nested-fall, ranks-fall}
 
 module _ (system : System) where
   pub net-fits : (goal : PlainGoal) (ns : List PlainNode) → RuleFits system goal (net ns) → GoalWritten system goal → RuleWritten system (net ns) → RankedFits goal ns system
@@ -18,21 +18,21 @@ module _ (system : System) where
   net-fits (waiting p qs) ns fits small written = absurd fits
   net-fits (response p q e) ns fits small written =
       let few = fits.0 in
-      (modest system e small.2, omega arith, nodes-modest system ns written, fits.1)
+      (can-fall system e small.2, omega arith, nodes-fall system ns written, fits.1)
 
   pub nested-fits : (goal : PlainGoal) (ns : List PlainNestedNode) → RuleFits system goal (nested ns) → GoalWritten system goal → RuleWritten system (nested ns) → NestedFits goal ns system
   nested-fits (invariant p) ns fits small written = absurd fits
   nested-fits (waiting p qs) ns fits small written = absurd fits
   nested-fits (response p q e) ns fits small written =
       let few = fits.0 in
-      (modest system e small.2, omega arith, nested-modest system ns written, fits.1)
+      (can-fall system e small.2, omega arith, nested-fall system ns written, fits.1)
 
-  waiting-drawn : (kind : DiagramKind) (count : ℕ) (d : PlainDiagram) → kind ≡ Wait → LevelsExist count d.nodes → FitsWaiting kind count d
+  waiting-drawn : (kind : DiagramKind) (count : ℕ) (d : PlainDiagram) → kind ≡ Wait → LevelsExist count d.nodes → FitsWaitDiagram kind count d
   waiting-drawn Wait count d is exist = exist
   waiting-drawn Chain count d is exist = cc
   waiting-drawn Rank count d is exist = cc
 
-  response-drawn : (kind : DiagramKind) (d : PlainDiagram) → kind ≢ Wait → DrawnNodesFit system d.nodes → FitsResponse kind system d
+  response-drawn : (kind : DiagramKind) (d : PlainDiagram) → kind ≢ Wait → DrawnNodesFit system d.nodes → FitsResponseDiagram kind system d
   response-drawn Wait d other fit = absurd (other refl)
   response-drawn Chain d other fit = fit
   response-drawn Rank d other fit = fit
@@ -45,7 +45,7 @@ module _ (system : System) where
   bound-falls : (goal : PlainGoal) → GoalWritten system goal → BoundCanFall goal
   bound-falls (invariant p) written = tt
   bound-falls (waiting p qs) written = tt
-  bound-falls (response p q e) written = modest system e written.2
+  bound-falls (response p q e) written = can-fall system e written.2
 
   pub diagram-fits : (goal : PlainGoal) (d : PlainDiagram) → RuleFits system goal (diagram d) → GoalWritten system goal → RuleWritten system (diagram d) → Fits goal d system
   diagram-fits goal d fits small written = record {

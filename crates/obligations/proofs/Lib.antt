@@ -1,4 +1,4 @@
-pub mod Modest
+pub mod Falling
 pub mod Fitting
 pub mod Asking
 pub mod Citing

@@ -14,7 +14,7 @@ use crate::rules::{by_diagram, by_itself, by_levels, by_nested, by_net, by_stron
 use std::alloc::Global;
 use temporal_goals::{RuleText, Step};
 use transition_system::Fts;
-use vc_generator::{Conditions, VcFault};
+use vc_generator::{Asking, Conditions, VcFault};
 
 /// Appends the conditions of a step behind the earlier ones, by its rule and under the formulas that it cites. After a
 /// refusal, which comes at the first condition that may not be appended, the list is as before.
@@ -32,13 +32,19 @@ pub(crate) fn append_step(
         (step_list number (plain_system fts.now) (cited_of (map plain_step earlier.now) step.now.cited.items) (plain_step step.now).goal (plain_step step.now).rule) }
 {
     let lemmas = cited_forms(alloc, earlier, &step.cited)?;
+    let asking = Asking {
+        alloc,
+        fts,
+        step: number,
+        lemmas: &lemmas,
+    };
     let goal = &step.goal;
     match &step.rule {
-        RuleText::Basic => by_itself(alloc, fts, number, lemmas, goal, out),
-        RuleText::Stronger(form) => by_stronger(alloc, fts, number, lemmas, goal, form, out),
-        RuleText::Levels(forms) => by_levels(alloc, fts, number, lemmas, goal, forms, out),
-        RuleText::Net(net) => by_net(alloc, fts, number, lemmas, goal, net, out),
-        RuleText::Nested(net) => by_nested(alloc, fts, number, lemmas, goal, net, out),
-        RuleText::Diagram(diagram) => by_diagram(alloc, fts, number, lemmas, goal, diagram, out),
+        RuleText::Basic => by_itself(&asking, goal, out),
+        RuleText::Stronger(form) => by_stronger(&asking, goal, form, out),
+        RuleText::Levels(forms) => by_levels(&asking, goal, forms, out),
+        RuleText::Net(net) => by_net(&asking, goal, net, out),
+        RuleText::Nested(net) => by_nested(&asking, goal, net, out),
+        RuleText::Diagram(diagram) => by_diagram(&asking, goal, diagram, out),
     }
 }

@@ -9,10 +9,10 @@ use Rattle.st_reading.specs.Spelling.{Cut, Sound}
 use Rattle.st_reading.specs.Steady.{Within}
 use Rattle.st_reading.specs.declared.mark.Mark.{Mark}
 use Rattle.st_reading.specs.declared.sign.Sign.{Sign}
-use Rattle.proof_grammar.specs.Phrases.{Optional, left_out}
-use Rattle.proof_grammar.proofs.Choices.{marked_or, optional_begins, optional_complete, optional_sound}
-use Rattle.proof_grammar.proofs.Phrases.{Phrase}
-use Rattle.proof_grammar.proofs.Tokens.{but}
+use Rattle.st_reading.specs.Phrases.{Optional, left_out}
+use Rattle.st_reading.proofs.Choices.{marked_or, optional_begins, optional_complete, optional_sound}
+use Rattle.st_reading.proofs.Phrases.{Phrase}
+use Rattle.st_reading.proofs.Tokens.{but}
 
 -- a phrase where something is so, and else a value
 pub data Where {A : Type 0} (b : Bool) (L : List Lexeme → A → Type 0) (x : A) : List Lexeme → A → Type 0 where

@@ -13,10 +13,10 @@ use Rattle.st_reading.specs.declared.mark.Mark.{Mark}
 use Rattle.st_reading.specs.declared.mark.Mark.TheVariants as marks
 use Rattle.st_reading.specs.declared.sign.Sign.{Sign}
 use Rattle.st_reading.specs.declared.sign.Sign.TheVariants as signs
-use Rattle.proof_grammar.specs.Phrases.{Bracketed, after_mark, bracketed}
-use Rattle.proof_grammar.proofs.Phrases.{Phrase, after_phrase, as_phrase, made, map_phrase, the_mark, the_value, then_phrase}
-use Rattle.proof_grammar.proofs.Rows.{chain_phrase}
-use Rattle.proof_grammar.proofs.Tokens.{among, but, marks_within, not_that}
+use Rattle.st_reading.specs.Phrases.{Bracketed, after_mark, bracketed}
+use Rattle.st_reading.proofs.Phrases.{Phrase, after_phrase, as_phrase, made, map_phrase, the_mark, the_value, then_phrase}
+use Rattle.st_reading.proofs.Rows.{chain_phrase}
+use Rattle.st_reading.proofs.Tokens.{among, but, marks_within, not_that}
 
 -- behind fewer than 64 others
 abbrev pub Few : {A : Type 0} → ℕ → (List Lexeme → A → Type 0) → List Lexeme → A → Type 0

@@ -22,8 +22,8 @@ use Rattle.proof_grammar.specs.Drawings.{IsDrawing, a_drawing}
 use Rattle.proof_grammar.proofs.ItemKinds.{brace}
 use Rattle.proof_grammar.proofs.Items.{items_phrase}
 use Rattle.proof_grammar.proofs.Names.{Known, known}
-use Rattle.proof_grammar.proofs.Phrases.{Phrase, as_phrase, map_phrase, the_mark, then_phrase}
-use Rattle.proof_grammar.proofs.Tokens.{among}
+use Rattle.st_reading.proofs.Phrases.{Phrase, as_phrase, map_phrase, the_mark, then_phrase}
+use Rattle.st_reading.proofs.Tokens.{among}
 use Rattle.proof_grammar.proofs.Transitions.{drawn_phrase}
 
 mapped_some : {A B : Type 0} (h : A → B) (o : Option A) (x : B) → option_map h o ≡ Some x → (y : A) × (o ≡ Some y) × (h y ≡ x)

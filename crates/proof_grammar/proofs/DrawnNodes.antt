@@ -16,13 +16,13 @@ use Rattle.diagram_reader.specs.declared.fault.DiagramFault.{DiagramFault}
 use Rattle.diagram_reader.specs.declared.fault.DiagramFault.TheVariants as faults
 use Rattle.proof_script.specs.Listing.{Setting}
 use Rattle.proof_grammar.specs.Drawings.{IsDrawnNode, drawn_node, new_number}
-use Rattle.proof_grammar.specs.Phrases.{after_mark}
+use Rattle.st_reading.specs.Phrases.{after_mark}
 use Rattle.proof_grammar.proofs.Formulas.{drawn_truth}
 use Rattle.proof_grammar.proofs.Judgements.{If, judge_phrase, judged, roomy_phrase}
 use Rattle.proof_grammar.proofs.NodeParts.{allowed_helper, closing, drawn_setting, fits, helper_or_closing, may_help, rank_closing_calm, rank_or_closing, rank_phrase, wanted}
 use Rattle.proof_grammar.proofs.Numerals.{new_number_phrase, new_numeral, plain_number}
-use Rattle.proof_grammar.proofs.Phrases.{Phrase, as_phrase, the_mark, then_phrase}
-use Rattle.proof_grammar.proofs.Tokens.{among}
+use Rattle.st_reading.proofs.Phrases.{Phrase, as_phrase, the_mark, then_phrase}
+use Rattle.st_reading.proofs.Tokens.{among}
 use Rattle.proof_grammar.proofs.TypedTexts.{undrawn}
 
 module _ (g : Setting) (kind : DiagramKind) (highest : ℕ) where

@@ -17,7 +17,7 @@ use Rattle.proof_grammar.proofs.Fairness.{drawn_is_owed, drawn_just_is}
 use Rattle.proof_grammar.proofs.Formulas.{drawing_setting}
 use Rattle.proof_grammar.proofs.Judgements.{judge_phrase, judged}
 use Rattle.proof_grammar.proofs.Parts.{no_dot}
-use Rattle.proof_grammar.proofs.Phrases.{Phrase, as_phrase}
+use Rattle.st_reading.proofs.Phrases.{Phrase, as_phrase}
 use Rattle.proof_grammar.proofs.Transitions.{a_name_of, is_placed, placed_transition, transition_phrase}
 
 module _ (g : Setting) (kind : DiagramKind) (highest : ℕ) where

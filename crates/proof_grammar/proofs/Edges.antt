@@ -19,7 +19,7 @@ use Rattle.diagram_reader.specs.declared.fault.DiagramFault.{DiagramFault}
 use Rattle.diagram_reader.specs.declared.fault.DiagramFault.TheVariants as faults
 use Rattle.proof_script.specs.Listing.{Setting}
 use Rattle.proof_grammar.specs.Drawings.{IsEdge, IsTerminal, a_terminal, an_edge}
-use Rattle.proof_grammar.specs.Phrases.{after_mark}
+use Rattle.st_reading.specs.Phrases.{after_mark}
 use Rattle.proof_grammar.specs.Units.{IsTransition}
 use Rattle.proof_grammar.proofs.DrawnTransitions.{drawn_transition_phrase}
 use Rattle.proof_grammar.proofs.Formulas.{drawing_setting, drawn_truth}
@@ -27,9 +27,9 @@ use Rattle.proof_grammar.proofs.Judgements.{If, admit_phrase, admits, unbroken_p
 use Rattle.proof_grammar.proofs.NodeParts.{closing, closing_calm, closing_undotted}
 use Rattle.proof_grammar.proofs.Numerals.{drawn_number_of}
 use Rattle.proof_grammar.proofs.Parts.{no_dot}
-use Rattle.proof_grammar.proofs.Phrases.{Phrase, as_phrase, made, map_phrase, the_mark, then_phrase}
-use Rattle.proof_grammar.proofs.Rows.{row_phrase}
-use Rattle.proof_grammar.proofs.Tokens.{among, but, marks_within}
+use Rattle.st_reading.proofs.Phrases.{Phrase, as_phrase, made, map_phrase, the_mark, then_phrase}
+use Rattle.st_reading.proofs.Rows.{row_phrase}
+use Rattle.st_reading.proofs.Tokens.{among, but, marks_within}
 use Rattle.proof_grammar.proofs.TypedTexts.{undrawn}
 
 pub comma_undotted : no_dot (signs.Marked marks.Comma) ≡ true

@@ -27,7 +27,7 @@ use Rattle.proof_script.specs.Listing.{Setting, formula_of, listed_formula_of, s
 use Rattle.proof_script.specs.declared.fault.ScriptFault.{ScriptFault}
 use Rattle.proof_grammar.specs.Units.{IsFormula, IsNumber}
 use Rattle.proof_grammar.proofs.Counted.{Few}
-use Rattle.proof_grammar.proofs.Phrases.{Phrase}
+use Rattle.st_reading.proofs.Phrases.{Phrase}
 use Rattle.proof_grammar.proofs.TypedTexts.{above_two, no_front, not_both, refused, typed_complete, typed_cut, undrawn}
 
 -- a unit that is read, in a script and in a drawing

@@ -12,7 +12,7 @@ use Rattle.expression_parser.specs.Calm.{calm}
 use Rattle.proof_script.specs.Steps.{ends_rule}
 use Rattle.proof_grammar.proofs.ItemEnds.{only_mark}
 use Rattle.proof_grammar.proofs.Rules.{ending}
-use Rattle.proof_grammar.proofs.Tokens.{among, but, marks_within}
+use Rattle.st_reading.proofs.Tokens.{among, but, marks_within}
 
 pub same_number : (m n : ℕ) → not (nat_eq m n) ≡ false → m ≡ n
 same_number m n h = grind (arith, nat_tests)

@@ -12,7 +12,7 @@ use Rattle.proof_script.specs.declared.fault.ScriptFault.{ScriptFault}
 use Rattle.proof_script.specs.declared.steps.Claim.{Claim}
 use Rattle.proof_grammar.specs.Grammar.{no_further_step}
 use Rattle.proof_grammar.specs.Growing.{NothingStands, LinesStand, CommentsAddNothing, StandingIsSpelled, ScriptsGoOn}
-use Rattle.proof_grammar.proofs.Phrases.{made}
+use Rattle.st_reading.proofs.Phrases.{made}
 use Rattle.proof_grammar.proofs.Scripts.{never_leaves, over_script, read_scripts_are_spelled, turn}
 use Rattle.proof_script.proofs.Scripts.{alone_read}
 use Rattle.proof_grammar.proofs.TextEnds.{ends_there, shifted_none, shifted_twice, comment_has_none, no_text}

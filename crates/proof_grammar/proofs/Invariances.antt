@@ -10,13 +10,13 @@ use Rattle.proof_script.specs.Listing.{Setting}
 use Rattle.proof_script.specs.Steps.{invariance_of, invariance_rule}
 use Rattle.proof_script.specs.declared.fault.ScriptFault.{ScriptFault}
 use Rattle.proof_grammar.specs.Grammar.{IsInvariance, by_itself, by_stronger}
-use Rattle.proof_grammar.specs.Phrases.{after_mark, left_out, put_in}
-use Rattle.proof_grammar.proofs.Choices.{optional_phrase}
+use Rattle.st_reading.specs.Phrases.{after_mark, left_out, put_in}
+use Rattle.st_reading.proofs.Choices.{optional_phrase}
 use Rattle.proof_grammar.proofs.Formulas.{truth_phrase}
 use Rattle.proof_grammar.proofs.GoalEnds.{by_or_ending_calm, ending_calm, unlike_by}
-use Rattle.proof_grammar.proofs.Phrases.{Phrase, as_phrase, made, map_phrase, then_phrase}
+use Rattle.st_reading.proofs.Phrases.{Phrase, as_phrase, made, map_phrase, then_phrase}
 use Rattle.proof_grammar.proofs.Rules.{ending}
-use Rattle.proof_grammar.proofs.Tokens.{among}
+use Rattle.st_reading.proofs.Tokens.{among}
 use Rattle.proof_grammar.proofs.TypedTexts.{undrawn}
 
 module _ (g : Setting) where

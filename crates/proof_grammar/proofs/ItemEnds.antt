@@ -10,7 +10,7 @@ use Rattle.expression_parser.specs.Calm.{calm}
 use Rattle.proof_script.specs.Rules.{ends_item}
 use Rattle.proof_grammar.proofs.Counted.{item_end}
 use Rattle.proof_grammar.proofs.Parts.{no_dot}
-use Rattle.proof_grammar.proofs.Tokens.{among, but, marks_within}
+use Rattle.st_reading.proofs.Tokens.{among, but, marks_within}
 
 abbrev pub helper_or_end : Sign → Bool
 helper_or_end = among (marks.Helper ∷ marks.Semicolon ∷ marks.CloseBlock ∷ [])

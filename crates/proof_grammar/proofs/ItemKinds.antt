@@ -9,8 +9,8 @@ use Rattle.st_reading.specs.declared.sign.Sign.TheVariants as signs
 use Rattle.diagram_reader.specs.Drawing.{item_in}
 use Rattle.diagram_reader.specs.declared.item.Item.{Item}
 use Rattle.diagram_reader.specs.declared.item.Item.TheVariants as items
-use Rattle.proof_grammar.proofs.Choices.{first_of, none_chosen}
-use Rattle.proof_grammar.proofs.Tokens.{alone, among, at_mark}
+use Rattle.st_reading.proofs.Choices.{first_of, none_chosen}
+use Rattle.st_reading.proofs.Tokens.{alone, among, at_mark}
 
 abbrev pub item_mark : Item → Mark
 item_mark items.Terminal = marks.Terminal

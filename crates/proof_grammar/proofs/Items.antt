@@ -19,8 +19,8 @@ use Rattle.proof_grammar.proofs.DrawnNodes.{RoomyNode, node_phrase}
 use Rattle.proof_grammar.proofs.Edges.{FirstTerminal, edge_phrase, terminal_phrase}
 use Rattle.proof_grammar.proofs.Formulas.{below_limit, drawing_setting, is_below}
 use Rattle.proof_grammar.proofs.ItemKinds.{brace, is_free, item_found, item_is, no_item, no_item_at_end}
-use Rattle.proof_grammar.proofs.Phrases.{Made, Phrase, as_phrase, made, map_phrase, the_value}
-use Rattle.proof_grammar.proofs.Rows.{chain_phrase}
+use Rattle.st_reading.proofs.Phrases.{Made, Phrase, as_phrase, made, map_phrase, the_value}
+use Rattle.st_reading.proofs.Rows.{chain_phrase}
 
 module _ (g : Setting) (kind : DiagramKind) (highest : ℕ) where
   -- ITEMS, behind their first token

@@ -7,7 +7,7 @@ use Rattle.st_reading.specs.Reading.{Read, Stop, ahead, gives, place_of, refusal
 use Rattle.st_reading.specs.Spelling.{Cut, Sound}
 use Rattle.st_reading.specs.Steady.{Within}
 use Rattle.st_reading.specs.declared.sign.Sign.{Sign}
-use Rattle.proof_grammar.proofs.Phrases.{Phrase}
+use Rattle.st_reading.proofs.Phrases.{Phrase}
 
 -- what is made of a value that breaks no rule
 pub data Judged {A B : Type 0} (broken : A → Bool) (f : A → B) (L : List Lexeme → A → Type 0) : List Lexeme → B → Type 0 where

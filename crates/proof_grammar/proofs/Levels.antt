@@ -18,15 +18,15 @@ use Rattle.expression_parser.specs.Calm.{calm}
 use Rattle.proof_script.specs.Listing.{Setting}
 use Rattle.proof_script.specs.Rules.{group_level_of, group_levels_of, weight_of}
 use Rattle.proof_script.specs.declared.fault.ScriptFault.{ScriptFault}
-use Rattle.proof_grammar.specs.Phrases.{After, Many, after_mark, none_more, one_more}
+use Rattle.st_reading.specs.Phrases.{After, Many, after_mark, none_more, one_more}
 use Rattle.proof_grammar.specs.Rules.{IsLevel, a_level}
 use Rattle.proof_grammar.specs.Units.{IsGroup, IsNumber}
 use Rattle.proof_grammar.proofs.Formulas.{number_phrase}
 use Rattle.proof_grammar.proofs.ItemEnds.{before_top, only_mark}
 use Rattle.proof_grammar.proofs.NetItems.{weight_phrase}
 use Rattle.proof_grammar.proofs.Parts.{no_dot}
-use Rattle.proof_grammar.proofs.Phrases.{Phrase, after_phrase, as_phrase, made, map_phrase, then_phrase}
-use Rattle.proof_grammar.proofs.Tokens.{among, but, marks_within, not_that}
+use Rattle.st_reading.proofs.Phrases.{Phrase, after_phrase, as_phrase, made, map_phrase, then_phrase}
+use Rattle.st_reading.proofs.Tokens.{among, but, marks_within, not_that}
 use Rattle.proof_grammar.proofs.Transitions.{group_phrase}
 
 abbrev pub level_or_delay : Sign → Bool

@@ -1,9 +1,5 @@
-mod Tokens
-mod Phrases
-mod Choices
 mod Judgements
 mod Conditions
-mod Rows
 mod Counted
 mod TypedTexts
 mod Formulas

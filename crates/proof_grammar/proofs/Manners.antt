@@ -10,8 +10,8 @@ use Rattle.temporal_goals.specs.declared.diagrams.DiagramKind.TheVariants as kin
 use Rattle.proof_script.specs.Rules.{kind_in, manner_in}
 use Rattle.proof_script.specs.declared.rules.Manner.{Manner}
 use Rattle.proof_script.specs.declared.rules.Manner.TheVariants as manners
-use Rattle.proof_grammar.proofs.Choices.{first_of, none_chosen}
-use Rattle.proof_grammar.proofs.Tokens.{at_mark}
+use Rattle.st_reading.proofs.Choices.{first_of, none_chosen}
+use Rattle.st_reading.proofs.Tokens.{at_mark}
 
 abbrev pub manner_mark : Manner → Mark
 manner_mark manners.Just = marks.Just

@@ -16,11 +16,11 @@ use Rattle.proof_script.specs.Steps.{Earlier, citations_of, cited_of, is_taken, 
 use Rattle.proof_script.specs.declared.fault.ScriptFault.{ScriptFault}
 use Rattle.proof_script.specs.declared.fault.ScriptKind.{ScriptKind}
 use Rattle.proof_script.specs.declared.fault.ScriptKind.TheVariants as kinds
-use Rattle.proof_grammar.proofs.Choices.{behind_mark, either_phrase, without_mark}
+use Rattle.st_reading.proofs.Choices.{behind_mark, either_phrase, without_mark}
 use Rattle.proof_grammar.proofs.Judgements.{judge_phrase, judged}
-use Rattle.proof_grammar.proofs.Phrases.{Phrase, as_phrase, the_value, then_phrase}
-use Rattle.proof_grammar.proofs.Rows.{row_phrase}
-use Rattle.proof_grammar.proofs.Tokens.{among, but, marks_within}
+use Rattle.st_reading.proofs.Phrases.{Phrase, as_phrase, the_value, then_phrase}
+use Rattle.st_reading.proofs.Rows.{row_phrase}
+use Rattle.st_reading.proofs.Tokens.{among, but, marks_within}
 use Rattle.basic_laws.proofs.Truths.{not_false}
 
 pub name_complete : {X : Type 0} → Complete {X = X} anything named OneName

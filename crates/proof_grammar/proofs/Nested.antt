@@ -12,7 +12,7 @@ use Rattle.proof_script.specs.Listing.{Setting}
 use Rattle.proof_script.specs.Rules.{ends_item, helper_of, nested_completed_of, nested_node_of, nested_nodes_of, weight_of}
 use Rattle.proof_script.specs.declared.fault.ScriptFault.{ScriptFault}
 use Rattle.proof_script.specs.declared.fault.ScriptKind.TheVariants as kinds
-use Rattle.proof_grammar.specs.Phrases.{Bracketed}
+use Rattle.st_reading.specs.Phrases.{Bracketed}
 use Rattle.proof_grammar.specs.Rules.{IsNestedNode, a_nested_node}
 use Rattle.proof_grammar.proofs.Counted.{Few, bracketed_phrase, item_end}
 use Rattle.proof_grammar.proofs.Formulas.{listed_truth}
@@ -20,7 +20,7 @@ use Rattle.proof_grammar.proofs.ItemEnds.{helper_calm, helper_or_end, item_ends,
 use Rattle.proof_grammar.proofs.Judgements.{judge_phrase, judged, placed_phrase}
 use Rattle.proof_grammar.proofs.Levels.{before_levels, few_levels, level_or_delay, levels_phrase}
 use Rattle.proof_grammar.proofs.NetItems.{optional_helper_phrase, weight_phrase}
-use Rattle.proof_grammar.proofs.Phrases.{Phrase, then_phrase}
+use Rattle.st_reading.proofs.Phrases.{Phrase, then_phrase}
 use Rattle.proof_grammar.proofs.TypedTexts.{undrawn}
 
 module _ (g : Setting) where

@@ -16,13 +16,13 @@ use Rattle.proof_script.specs.Rules.{ends_item}
 use Rattle.proof_script.specs.declared.fault.ScriptFault.{ScriptFault}
 use Rattle.proof_script.specs.declared.fault.ScriptKind.TheVariants as kinds
 use Rattle.proof_grammar.specs.Rules.{IsFairItem, IsHelped, IsNode, IsRanked, a_node, fair_item, helped, ranked}
-use Rattle.proof_grammar.proofs.Choices.{optional_phrase}
+use Rattle.st_reading.proofs.Choices.{optional_phrase}
 use Rattle.proof_grammar.proofs.Counted.{Few, item_end}
 use Rattle.proof_grammar.proofs.Formulas.{listed_truth, number_phrase}
 use Rattle.proof_grammar.proofs.ItemEnds.{before_base, before_delay, before_helper, before_rank, before_top, end_undotted, end_unhelped, group_calm, group_or_end, helper_calm, helper_or_end, helper_undotted, helper_ungrouped, item_ends, only_mark}
 use Rattle.proof_grammar.proofs.Judgements.{judge_phrase, judged, placed_phrase}
 use Rattle.proof_grammar.proofs.Parts.{no_dot}
-use Rattle.proof_grammar.proofs.Phrases.{Phrase, after_phrase, made, map_phrase, then_phrase, within_phrase}
+use Rattle.st_reading.proofs.Phrases.{Phrase, after_phrase, made, map_phrase, then_phrase, within_phrase}
 use Rattle.proof_grammar.proofs.Transitions.{group_phrase, helper_phrase}
 use Rattle.proof_grammar.proofs.TypedTexts.{undrawn}
 

@@ -13,15 +13,15 @@ use Rattle.response_rules.specs.Forms.{chain_nodes, fair_nodes, ranked_nodes}
 use Rattle.proof_script.specs.Listing.{Setting}
 use Rattle.proof_script.specs.Rules.{chain_nodes_of, completed_of, fair_nodes_of, fair_of, group_of, helped_of, helper_of, just_nodes_of, node_of, nodes_of, ranked_nodes_of, ranked_of, wanted_helper_of, weight_of}
 use Rattle.proof_script.specs.declared.fault.ScriptFault.{ScriptFault}
-use Rattle.proof_grammar.specs.Phrases.{Bracketed}
+use Rattle.st_reading.specs.Phrases.{Bracketed}
 use Rattle.proof_grammar.specs.Rules.{IsFairItem, IsHelped, IsNode, IsRanked}
 use Rattle.proof_grammar.specs.Units.{IsGroup}
 use Rattle.proof_grammar.proofs.Counted.{bracketed_phrase}
 use Rattle.proof_grammar.proofs.ItemEnds.{only_mark}
 use Rattle.proof_grammar.proofs.NetItems.{fair_parts, from_fair, from_helped, from_ranked, helped_phrase, listed_helped, node_placed, ranked_item, to_fair, to_helped, to_ranked}
 use Rattle.proof_grammar.proofs.Parts.{no_dot}
-use Rattle.proof_grammar.proofs.Phrases.{Made, Phrase, as_phrase, made, map_phrase, then_phrase}
-use Rattle.proof_grammar.proofs.Tokens.{marks_within}
+use Rattle.st_reading.proofs.Phrases.{Made, Phrase, as_phrase, made, map_phrase, then_phrase}
+use Rattle.st_reading.proofs.Tokens.{marks_within}
 use Rattle.proof_grammar.proofs.Transitions.{group_phrase}
 use Rattle.proof_grammar.proofs.TypedTexts.{undrawn}
 

@@ -18,14 +18,14 @@ use Rattle.diagram_reader.specs.Drawn as diagrams
 use Rattle.diagram_reader.specs.declared.fault.DiagramFault.{DiagramFault}
 use Rattle.proof_script.specs.Listing.{Setting}
 use Rattle.proof_grammar.specs.Drawings.{IsNodeHelper, IsNodeRank, node_helper, node_rank, unhelped, unranked}
-use Rattle.proof_grammar.specs.Phrases.{Optional, after_mark, left_out, put_in}
+use Rattle.st_reading.specs.Phrases.{Optional, after_mark, left_out, put_in}
 use Rattle.proof_grammar.specs.Units.{IsHelper}
 use Rattle.proof_grammar.proofs.Conditions.{Where, allowed_phrase, where_not, where_phrase, where_so}
 use Rattle.proof_grammar.proofs.DrawnTransitions.{drawn_helper_phrase}
 use Rattle.proof_grammar.proofs.Formulas.{drawing_setting, drawn_number_phrase}
 use Rattle.proof_grammar.proofs.Parts.{no_dot}
-use Rattle.proof_grammar.proofs.Phrases.{Phrase, as_phrase, made, map_phrase, the_mark, then_phrase, within_phrase}
-use Rattle.proof_grammar.proofs.Tokens.{among, but, marks_within}
+use Rattle.st_reading.proofs.Phrases.{Phrase, as_phrase, made, map_phrase, the_mark, then_phrase, within_phrase}
+use Rattle.st_reading.proofs.Tokens.{among, but, marks_within}
 
 abbrev pub closing : Sign → Bool
 closing = among (marks.Semicolon ∷ [])

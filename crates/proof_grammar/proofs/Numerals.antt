@@ -20,7 +20,7 @@ use Rattle.proof_grammar.specs.Drawings.{IsDrawnNumber, IsNewNumber, drawn_numbe
 use Rattle.proof_grammar.proofs.Formulas.{drawing_setting}
 use Rattle.proof_grammar.proofs.Judgements.{admit_phrase, admits, judge_phrase, judged}
 use Rattle.basic_laws.proofs.Truths.{not_false}
-use Rattle.proof_grammar.proofs.Phrases.{Phrase, as_phrase, then_phrase}
+use Rattle.st_reading.proofs.Phrases.{Phrase, as_phrase, then_phrase}
 
 -- a numeral, and its place
 pub data IsNumeral : List Lexeme → ℕ × ℕ → Type 0 where

@@ -13,7 +13,7 @@ use Rattle.st_form.specs.declared.conditions.Part.TheVariants.{Whole}
 use Rattle.diagram_reader.specs.Transitions.{part_named, part_of, suffix_of}
 use Rattle.diagram_reader.specs.declared.fault.DiagramFault.{DiagramFault}
 use Rattle.proof_grammar.specs.Units.{IsPart, a_part, the_whole}
-use Rattle.proof_grammar.proofs.Tokens.{but, not_that}
+use Rattle.st_reading.proofs.Tokens.{but, not_that}
 
 abbrev pub no_dot : Sign → Bool
 no_dot = but marks.Dot

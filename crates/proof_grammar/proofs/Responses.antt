@@ -14,7 +14,7 @@ use Rattle.proof_grammar.specs.Grammar.{IsResponse, responds}
 use Rattle.proof_grammar.proofs.Formulas.{number_phrase, truth_phrase}
 use Rattle.proof_grammar.proofs.GoalEnds.{before_by, before_leads, before_within}
 use Rattle.proof_grammar.proofs.ItemEnds.{only_mark}
-use Rattle.proof_grammar.proofs.Phrases.{Phrase, after_phrase, as_phrase, made, map_phrase, then_phrase}
+use Rattle.st_reading.proofs.Phrases.{Phrase, after_phrase, as_phrase, made, map_phrase, then_phrase}
 use Rattle.proof_grammar.proofs.Rules.{ending, rule_phrase}
 use Rattle.proof_grammar.proofs.TypedTexts.{undrawn}
 

@@ -19,17 +19,17 @@ use Rattle.proof_script.specs.declared.fault.ScriptFault.{ScriptFault}
 use Rattle.proof_script.specs.declared.rules.Manner.{Manner}
 use Rattle.proof_script.specs.declared.rules.Manner.TheVariants as manners
 use Rattle.proof_grammar.specs.Drawings.{IsDrawing}
-use Rattle.proof_grammar.specs.Phrases.{Bracketed}
+use Rattle.st_reading.specs.Phrases.{Bracketed}
 use Rattle.proof_grammar.specs.Rules.{IsHelped, IsNestedNode, IsNode, IsRanked, IsRule, by_chain, by_chain_diagram, by_compassion, by_just, by_nested_net, by_net, by_rank_diagram, by_ranks}
-use Rattle.proof_grammar.proofs.Choices.{Chosen, Either, behind_mark, choice_phrase, chosen, either_front, either_phrase, without_mark}
+use Rattle.st_reading.proofs.Choices.{Chosen, Either, behind_mark, choice_phrase, chosen, either_front, either_phrase, without_mark}
 use Rattle.proof_grammar.proofs.Drawings.{rule_drawing}
 use Rattle.proof_grammar.proofs.ItemEnds.{only_mark}
 use Rattle.proof_grammar.proofs.Manners.{kind_found, kind_is, manner_found, manner_is}
 use Rattle.proof_grammar.proofs.Nested.{nested_complete, nested_sound}
 use Rattle.proof_grammar.proofs.Nets.{IsFairList, IsJustList, chain_nodes_complete, chain_nodes_sound, fair_items, fair_nodes_complete, fair_nodes_sound, just_complete, just_items, just_sound, nodes_begin, nodes_complete, nodes_sound, ranked_nodes_complete, ranked_nodes_sound}
 use Rattle.proof_grammar.proofs.Parts.{no_dot}
-use Rattle.proof_grammar.proofs.Phrases.{Made, Phrase, as_phrase, made, map_phrase}
-use Rattle.proof_grammar.proofs.Tokens.{among, but, marks_within}
+use Rattle.st_reading.proofs.Phrases.{Made, Phrase, as_phrase, made, map_phrase}
+use Rattle.st_reading.proofs.Tokens.{among, but, marks_within}
 
 -- what stands behind a goal with its rule
 abbrev pub ending : Sign → Bool

@@ -21,7 +21,7 @@ use Rattle.proof_script.specs.declared.steps.Claim.TheVariants as claims
 use Rattle.proof_grammar.specs.Grammar.{IsInvariance, IsResponse, IsScript, IsWaiting, a_further_step, invariance_step, no_further_step, response_step, waiting_step}
 use Rattle.proof_grammar.specs.Theorems.{ReadScriptsAreSpelled, ScriptsReadOnce, SpelledScriptsAreRead}
 use Rattle.proof_grammar.specs.Units.{names_of_steps}
-use Rattle.proof_grammar.proofs.Phrases.{Phrase, made, map_phrase}
+use Rattle.st_reading.proofs.Phrases.{Phrase, made, map_phrase}
 use Rattle.proof_grammar.proofs.Steps.{Claimed, Claims, IsRead, claim_found, from_named, step_complete, step_sound, still_apart, whole_step}
 use Rattle.proof_script.proofs.Scripts.{alone_read}
 

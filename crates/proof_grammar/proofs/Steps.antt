@@ -19,17 +19,17 @@ use Rattle.proof_script.specs.declared.fault.ScriptFault.{ScriptFault}
 use Rattle.proof_script.specs.declared.steps.Claim.{Claim}
 use Rattle.proof_script.specs.declared.steps.Claim.TheVariants as claims
 use Rattle.proof_grammar.specs.Grammar.{IsInvariance, IsNamed, IsResponse, IsStep, IsUsing, IsWaiting, invariance_step, named_step, no_using, response_step, using_names, waiting_step}
-use Rattle.proof_grammar.specs.Phrases.{After}
+use Rattle.st_reading.specs.Phrases.{After}
 use Rattle.proof_grammar.specs.Units.{IsCited, IsNewName, cited_name, names_of_steps, new_name}
-use Rattle.proof_grammar.proofs.Choices.{first_of, none_chosen}
+use Rattle.st_reading.proofs.Choices.{first_of, none_chosen}
 use Rattle.proof_grammar.proofs.Invariances.{invariance_complete, invariance_sound}
 use Rattle.proof_grammar.proofs.ItemEnds.{only_mark}
 use Rattle.proof_grammar.proofs.Lookups.{apart_grows, found_text, free_is, is_free_name, text_found}
 use Rattle.proof_grammar.proofs.Names.{AreFound, IsFoundName, IsFreeName, found_name, free_name, names_found, new_name_phrase, none_found, using_phrase}
-use Rattle.proof_grammar.proofs.Phrases.{Phrase, after_phrase, as_phrase, made, map_phrase, the_mark, then_phrase}
+use Rattle.st_reading.proofs.Phrases.{Phrase, after_phrase, as_phrase, made, map_phrase, the_mark, then_phrase}
 use Rattle.proof_grammar.proofs.Responses.{response_complete, response_sound}
 use Rattle.proof_grammar.proofs.Rules.{ending}
-use Rattle.proof_grammar.proofs.Tokens.{at_mark}
+use Rattle.st_reading.proofs.Tokens.{at_mark}
 use Rattle.proof_grammar.proofs.Waits.{waiting_complete, waiting_sound}
 
 -- WHAT THE TOKENS SAY

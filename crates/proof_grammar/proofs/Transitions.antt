@@ -24,7 +24,7 @@ use Rattle.proof_grammar.specs.Units.{IsGroup, IsHelper, IsPart, IsTransition, a
 use Rattle.proof_grammar.proofs.Fairness.{compassion_is_owed, compassionate_is, is_owed, just_is}
 use Rattle.proof_grammar.proofs.Judgements.{judge_phrase, judged}
 use Rattle.proof_grammar.proofs.Parts.{no_dot, part_complete, part_sound}
-use Rattle.proof_grammar.proofs.Phrases.{Phrase, as_phrase, made, map_phrase}
+use Rattle.st_reading.proofs.Phrases.{Phrase, as_phrase, made, map_phrase}
 
 -- WHAT IS DRAWN, READ IN A SCRIPT
 undrawn_read : {A : Type 0} (r : Read DiagramFault A) (y : A × Stream) → drawn r ≡ Ok y → r ≡ Ok y

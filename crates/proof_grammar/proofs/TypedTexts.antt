@@ -20,7 +20,7 @@ use Rattle.expression_parser.specs.declared.sign.Front.TheVariants as fronts
 use Rattle.expression_typer.specs.declared.fault.TypeFault.{TypeFault}
 use Rattle.assertions.specs.Reading.{Answer, before, typed_behind}
 use Rattle.proof_grammar.specs.Phrases.{Typed}
-use Rattle.proof_grammar.proofs.Tokens.{but}
+use Rattle.st_reading.proofs.Tokens.{but}
 
 -- WHAT IS TYPED AS A WHOLE
 abbrev pub read_to : {A : Type 0} → A → Stream → Answer A

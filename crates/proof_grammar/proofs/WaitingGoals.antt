@@ -11,13 +11,13 @@ use Rattle.proof_script.specs.Listing.{Setting}
 use Rattle.proof_script.specs.Steps.{waiting_goal_of}
 use Rattle.proof_script.specs.declared.fault.ScriptFault.{ScriptFault}
 use Rattle.proof_grammar.specs.Grammar.{IsWaitingGoal, waiting_goal}
-use Rattle.proof_grammar.specs.Phrases.{After, after_mark}
+use Rattle.st_reading.specs.Phrases.{After, after_mark}
 use Rattle.proof_grammar.specs.Units.{IsFormula}
 use Rattle.proof_grammar.proofs.Counted.{Few, further_phrase}
 use Rattle.proof_grammar.proofs.Formulas.{listed_truth, truth_phrase}
 use Rattle.proof_grammar.proofs.GoalEnds.{before_by, before_unless, before_wait, no_wait, two_few, wait_calm}
 use Rattle.proof_grammar.proofs.ItemEnds.{only_mark}
-use Rattle.proof_grammar.proofs.Phrases.{Phrase, after_phrase, as_phrase, made, map_phrase, then_phrase}
+use Rattle.st_reading.proofs.Phrases.{Phrase, after_phrase, as_phrase, made, map_phrase, then_phrase}
 use Rattle.proof_grammar.proofs.TypedTexts.{undrawn}
 
 module _ (g : Setting) where

@@ -17,16 +17,16 @@ use Rattle.proof_script.specs.declared.fault.ScriptFault.{ScriptFault}
 use Rattle.proof_script.specs.declared.fault.ScriptKind.TheVariants as kinds
 use Rattle.proof_grammar.specs.Drawings.{IsDrawing}
 use Rattle.proof_grammar.specs.Grammar.{IsWaiting, IsWaitingGoal, IsWaitingRule, by_levels, by_wait_diagram, waiting_goal, waits}
-use Rattle.proof_grammar.specs.Phrases.{after_mark}
+use Rattle.st_reading.specs.Phrases.{after_mark}
 use Rattle.proof_grammar.specs.Units.{IsFormula}
-use Rattle.proof_grammar.proofs.Choices.{behind_mark, either_front, either_phrase, without_mark}
+use Rattle.st_reading.proofs.Choices.{behind_mark, either_front, either_phrase, without_mark}
 use Rattle.proof_grammar.proofs.Counted.{listed_phrase}
 use Rattle.proof_grammar.proofs.Drawings.{rule_drawing}
 use Rattle.proof_grammar.proofs.Formulas.{listed_truth}
 use Rattle.proof_grammar.proofs.GoalEnds.{comma_calm, ending_calm, ending_no_comma, ends_so, not_other, same_number}
 use Rattle.proof_grammar.proofs.ItemEnds.{only_mark}
 use Rattle.proof_grammar.proofs.Judgements.{judge_phrase, judged}
-use Rattle.proof_grammar.proofs.Phrases.{Phrase, after_phrase, as_phrase, made, map_phrase, the_mark, then_phrase, within_phrase}
+use Rattle.st_reading.proofs.Phrases.{Phrase, after_phrase, as_phrase, made, map_phrase, the_mark, then_phrase, within_phrase}
 use Rattle.proof_grammar.proofs.Rules.{ending}
 use Rattle.proof_grammar.proofs.TypedTexts.{undrawn}
 use Rattle.proof_grammar.proofs.WaitingGoals.{goal_phrase}

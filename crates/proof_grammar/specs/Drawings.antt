@@ -11,7 +11,7 @@ use Rattle.temporal_goals.specs.Texts.{PlainDiagram, PlainDrawnNode, PlainEdge}
 use Rattle.temporal_goals.specs.declared.diagrams.DiagramKind.{DiagramKind}
 use Rattle.diagram_reader.specs.Drawn.{Drawing, diagram_with, has_helpers, has_ranks, is_above, is_known, is_upward, nothing_drawn, with_edge, with_node, with_terminal}
 use Rattle.proof_script.specs.Listing.{Setting}
-use Rattle.proof_grammar.specs.Phrases.{After}
+use Rattle.st_reading.specs.Phrases.{After}
 use Rattle.proof_grammar.specs.Units.{IsFormula, IsHelper, IsNumber, IsTransition}
 
 -- numeral: the number of a node that is drawn, or 0, which is the terminal node

@@ -10,7 +10,7 @@ use Rattle.temporal_goals.specs.Texts.{PlainDiagram, PlainGoal, PlainRule, Plain
 use Rattle.temporal_goals.specs.declared.diagrams.DiagramKind.TheVariants.{Wait}
 use Rattle.proof_script.specs.Listing.{Setting}
 use Rattle.proof_grammar.specs.Drawings.{IsDrawing}
-use Rattle.proof_grammar.specs.Phrases.{After}
+use Rattle.st_reading.specs.Phrases.{After}
 use Rattle.proof_grammar.specs.Rules.{IsRule}
 use Rattle.proof_grammar.specs.Units.{IsCited, IsFormula, IsNewName, IsNumber}
 

@@ -10,7 +10,7 @@ use Rattle.temporal_goals.specs.declared.diagrams.DiagramKind.TheVariants.{Chain
 use Rattle.response_rules.specs.Forms.{chain_nodes, fair_nodes, ranked_nodes}
 use Rattle.proof_script.specs.Listing.{Setting}
 use Rattle.proof_grammar.specs.Drawings.{IsDrawing}
-use Rattle.proof_grammar.specs.Phrases.{After, Bracketed, Many, Optional}
+use Rattle.st_reading.specs.Phrases.{After, Bracketed, Many, Optional}
 use Rattle.proof_grammar.specs.Units.{IsFormula, IsGroup, IsHelper, IsNumber}
 
 module _ (g : Setting) where

@@ -15,7 +15,7 @@ use Rattle.vc_generator.specs.declared.faults.VcFault.{VcFault}
 use Rattle.vc_generator.specs.declared.building.Case.{Case}
 use Rattle.rule_laws.specs.Names.{is_name, same_group}
 use Rattle.rule_laws.specs.RankedNet.{case_free, case_inner, grouped, cases_if, net_cases, move_of}
-use Rattle.ranked_net.specs.Asked.{own_cases, group_cases, stay_cases, chosen, moves}
+use Rattle.ranked_net.specs.Walk.{own_cases, group_cases, stay_cases, chosen, moves}
 
 -- the next node of a walk over a group
 pub grouped-next : (g : Option ℕ) (xs : List Node) (i : ℕ) (x : Node) → i < length xs → x ≡ get_or xs i x

@@ -1,5 +1,5 @@
 -- Nodes of a list, and the cover before the other conditions.
-use Rattle.std.proofs.Common.{◌≡◌, ◌∙◌, ap, sym, subst, arith, ℕ, zero, suc, ◌<◌, List, [], ◌∷◌, ◌++◌, length, map, get_or, None, Result}
+use Rattle.std.proofs.Common.{◌≡◌, sym, subst, arith, ℕ, zero, suc, ◌<◌, List, [], ◌∷◌, ◌++◌, length, map, get_or, None, Result}
 use Rattle.st_linear.specs.Linear.{Linear}
 use Rattle.st_form.specs.Condition.{Implication}
 use Rattle.st_form.specs.Formula.{Formula, some, formulas}
@@ -14,13 +14,14 @@ use Rattle.vc_generator.specs.Refusing.{refusal, Grows}
 use Rattle.vc_generator.specs.Walks.{plainly}
 use Rattle.rule_laws.specs.RankedNet.{starts_on, cover_of}
 use Rattle.vc_generator.proofs.Growing.{one_then}
-use Rattle.ranked_net.specs.Asked.{IsModest, AreModest}
+use Rattle.rule_fits.specs.Fitting.{CanFall}
+use Rattle.ranked_net.specs.Asked.{NodesCanFall}
 
--- the numbers of each node are modest
-pub modest-at : (xs : List Node) (i : ℕ) (x d : Node) → i < length xs → x ≡ get_or xs i d → AreModest (map plain_node xs) → IsModest x.base × IsModest x.delay
-modest-at [] i x d below is all = absurd (omega arith)
-modest-at (y ∷ ys) zero x d below is all = subst (λ z. IsModest z.base × IsModest z.delay) (sym is) (all.0, all.1)
-modest-at (y ∷ ys) (suc i) x d below is all = modest-at ys i x d (omega arith) is all.2
+-- the numbers of each node can fall
+pub can-fall-at : (xs : List Node) (i : ℕ) (x d : Node) → i < length xs → x ≡ get_or xs i d → NodesCanFall (map plain_node xs) → CanFall x.base × CanFall x.delay
+can-fall-at [] i x d below is all = absurd (omega arith)
+can-fall-at (y ∷ ys) zero x d below is all = subst (λ z. CanFall z.base × CanFall z.delay) (sym is) (all.0, all.1)
+can-fall-at (y ∷ ys) (suc i) x d below is all = can-fall-at ys i x d (omega arith) is all.2
 
 -- the cover and then the conditions of three walks
 pub cover-then : (r : Result (Unit {0}) VcFault) (old mid new : List Implication) (step : ℕ) (lemmas : List Formula) (p q shown : Formula) (e : Linear) (nodes : List PlainNode) (name : CondName) (ds : List Draft)

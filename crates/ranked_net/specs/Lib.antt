@@ -1,3 +1,4 @@
 pub mod Making
 pub mod Asked
+pub mod Walk
 pub mod Sound

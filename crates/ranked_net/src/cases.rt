@@ -1,22 +1,19 @@
-//! Where a step from a node may lead: to the end, by a drop to any node, by a free move or an inner drop within the group, or
-//! not away.
+//! Each case of where a step from a node may lead: to the end, by a drop to any node, by a free move or an inner drop within
+//! the group, or not away.
 
-ghost use Rattle.std.specs.Prelude.{◌≡◌, ◌++◌, ◌∷◌, [], IfOk, OnOk, map, is_some};
+ghost use Rattle.std.specs.Prelude.{◌≡◌, ◌++◌, IfOk, OnOk, map};
 ghost use Rattle.st_form.specs.Plain.{plain};
-ghost use Rattle.transition_system.specs.Plain.{plain_system};
 ghost use Rattle.temporal_goals.specs.Plain.{plain_node};
 ghost use Rattle.vc_generator.specs.Plain.{plain_case};
-ghost use Rattle.rule_laws.specs.Names.{enabled_of as enabled_of_name, same_group as same_group_of};
-ghost use Rattle.rule_laws.specs.RankedNet.{kept_pairs, case_end, case_drop, case_free, case_inner, case_stay, grouped, cases_if};
-ghost use Rattle.ranked_net.specs.Asked.{IsModest, free_under, own_cases, group_cases, stay_cases};
+ghost use Rattle.rule_laws.specs.RankedNet.{kept_pairs, case_end, case_drop, case_inner, case_stay};
+ghost use Rattle.rule_fits.specs.Fitting.{CanFall};
+ghost use Rattle.ranked_net.specs.Walk.{free_under, stay_cases};
 
-use crate::fairness::enabled_of;
 use st_form::Form;
 use st_linear::Lin;
 use st_memory::Memory;
 use std::alloc::Global;
 use temporal_goals::Node;
-use transition_system::Fts;
 use vc_generator::Case;
 
 /// Behind the step the formula holds.
@@ -31,8 +28,8 @@ pub fn end_case(alloc: Global, end: &Form) -> Result<Case, Memory>
 }
 
 /// A drop: the new top is below the old base.
-fn drop_case(alloc: Global, node: &Node, next: &Node) -> Result<Case, Memory>
-    requires { IsModest node.now.base }
+pub(crate) fn drop_case(alloc: Global, node: &Node, next: &Node) -> Result<Case, Memory>
+    requires { CanFall node.now.base }
     ensures { IfOk result (λ c. plain_case c ≡ case_drop (plain_node node.now) (plain_node next.now)) }
 {
     let fall = (next.top.copy(alloc)?, node.base.lowered(alloc)?);
@@ -66,7 +63,12 @@ fn push_kept(
 }
 
 /// A free move: the group is enabled, and neither base nor top is raised.
-fn free_case(alloc: Global, enabled: &Form, node: &Node, next: &Node) -> Result<Case, Memory>
+pub(crate) fn free_case(
+    alloc: Global,
+    enabled: &Form,
+    node: &Node,
+    next: &Node,
+) -> Result<Case, Memory>
     ensures { IfOk result (λ c. plain_case c ≡ free_under (plain enabled.now) (plain_node node.now) (plain_node next.now)) }
 {
     let mut falls = Vec::new(alloc);
@@ -79,8 +81,8 @@ fn free_case(alloc: Global, enabled: &Form, node: &Node, next: &Node) -> Result<
 }
 
 /// An inner drop: the new delay is below the old one, and neither base nor top is raised.
-fn inner_case(alloc: Global, node: &Node, next: &Node) -> Result<Case, Memory>
-    requires { IsModest node.now.delay }
+pub(crate) fn inner_case(alloc: Global, node: &Node, next: &Node) -> Result<Case, Memory>
+    requires { CanFall node.now.delay }
     ensures { IfOk result (λ c. plain_case c ≡ case_inner (plain_node node.now) (plain_node next.now)) }
 {
     let fall = (next.delay.copy(alloc)?, node.delay.lowered(alloc)?);
@@ -113,106 +115,4 @@ pub(crate) fn push_stay(alloc: Global, node: &Node, cases: &mut Vec<Case>) -> Re
 {
     cases.push(stay_case(alloc, node)?)?;
     Ok(())
-}
-
-/// Whether both have the same group, or none has one.
-fn same_group(group: Option<u32>, other: Option<u32>) -> bool
-    ensures { result ≡ same_group_of group other }
-{
-    match group {
-        Some(group) => match other {
-            Some(other) => group == other,
-            None => false,
-        },
-        None => other.is_none(),
-    }
-}
-
-/// The cases of a step of the node's group: the end, and a drop to any node.
-pub(crate) fn group_steps(
-    alloc: Global,
-    end: &Form,
-    nodes: &[Node],
-    node: &Node,
-) -> Result<Vec<Case>, Memory>
-    requires { IsModest node.now.base }
-    ensures { IfOk result (λ v. map plain_case v.items ≡ own_cases (map plain_node nodes.now) (plain end.now) (plain_node node.now)) }
-{
-    let mut cases = vec![in alloc; end_case(alloc, end)?]?;
-    for next in nodes {
-        cases.push(drop_case(alloc, node, next)?)?;
-    }
-    Ok(cases)
-}
-
-fn push_free(
-    alloc: Global,
-    enabled: &Form,
-    nodes: &[Node],
-    node: &Node,
-    cases: &mut Vec<Case>,
-) -> Result<(), Memory>
-    ensures { OnOk result (map plain_case cases.new.items
-        ≡ map plain_case cases.old.items ++ map (free_under (plain enabled.now) (plain_node node.now)) (grouped node.now.group (map plain_node nodes.now))) }
-{
-    for next in nodes {
-        if same_group(node.group, next.group) {
-            cases.push(free_case(alloc, enabled, node, next)?)?;
-        }
-    }
-    Ok(())
-}
-
-fn push_inner(
-    alloc: Global,
-    nodes: &[Node],
-    node: &Node,
-    cases: &mut Vec<Case>,
-) -> Result<(), Memory>
-    requires { IsModest node.now.delay }
-    ensures { OnOk result (map plain_case cases.new.items
-        ≡ map plain_case cases.old.items ++ map (case_inner (plain_node node.now)) (grouped node.now.group (map plain_node nodes.now))) }
-{
-    for next in nodes {
-        if same_group(node.group, next.group) {
-            cases.push(inner_case(alloc, node, next)?)?;
-        }
-    }
-    Ok(())
-}
-
-/// Free moves, if the node has a group.
-fn push_frees(
-    alloc: Global,
-    fts: &Fts,
-    nodes: &[Node],
-    node: &Node,
-    cases: &mut Vec<Case>,
-) -> Result<(), Memory>
-    ensures { OnOk result (map plain_case cases.new.items
-        ≡ map plain_case cases.old.items ++ cases_if (is_some node.now.group) (map (case_free (plain_system fts.now) (plain_node node.now)) (grouped node.now.group (map plain_node nodes.now)))) }
-{
-    match node.group {
-        Some(_) => {
-            let enabled = enabled_of(alloc, fts, node.group)?;
-            push_free(alloc, &enabled, nodes, node, cases)
-        }
-        None => Ok(()),
-    }
-}
-
-/// The further cases within the group, of a step of another transition: free moves if there is a group, and inner drops.
-pub(crate) fn push_within(
-    alloc: Global,
-    fts: &Fts,
-    nodes: &[Node],
-    node: &Node,
-    cases: &mut Vec<Case>,
-) -> Result<(), Memory>
-    requires { IsModest node.now.delay }
-    ensures { OnOk result (map plain_case cases.new.items
-        ≡ map plain_case cases.old.items ++ group_cases (plain_system fts.now) (map plain_node nodes.now) (plain_node node.now)) }
-{
-    push_frees(alloc, fts, nodes, node, cases)?;
-    push_inner(alloc, nodes, node, cases)
 }

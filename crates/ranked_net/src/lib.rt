@@ -6,10 +6,12 @@
 pub mod cases;
 pub mod fairness;
 mod faults;
-pub mod guards;
+mod forms;
 mod listing;
 mod making;
+mod moving;
 mod rule;
+mod ways;
 
 pub use faults::NetFault;
 pub use making::make_net;

@@ -1,51 +1,37 @@
 //! The rule.
 
-use crate::guards::{are_modest, is_modest, nodes_fit};
 use crate::listing::push_all;
 use st_form::Form;
 use std::alloc::Global;
 use temporal_goals::{Goal, Net};
 use transition_system::Fts;
-use vc_generator::{Conditions, Rule, VcFault, take_back};
+use vc_generator::{Asking, Conditions, Rule, VcFault, take_back};
 
 /// A response by a ranked net, with the formulas of the steps that it cites.
 #[derive(Drop)]
-pub struct Ranked {
-    pub goal: Goal,
-    pub net: Net,
-    pub lemmas: Vec<Form>,
+pub struct Ranked<'a> {
+    pub goal: &'a Goal,
+    pub net: &'a Net,
+    pub lemmas: &'a [Form],
 }
 
-impl Rule for Ranked {
+impl Rule for Ranked<'_> {
     ghost use Rattle.std.specs.Prelude.{map};
     ghost use Rattle.st_form.specs.Plain.{plain};
     ghost use Rattle.temporal_goals.specs.Plain.{plain_goal, plain_net};
     ghost use Rattle.ranked_net.specs.Asked.{RankedFits, ranked_asks};
     ghost use Rattle.ranked_net.specs.Sound.{ranked_sound};
 
-    ghost aim = { λ r. plain_goal r.goal };
+    ghost aim = { λ r. plain_goal r.goal.now };
 
-    ghost cited = { λ r. map plain r.lemmas.items };
+    ghost cited = { λ r. map plain r.lemmas.now };
 
-    ghost fits = { λ r system. RankedFits (plain_goal r.goal) (plain_net r.net) system };
+    ghost fits = { λ r system. RankedFits (plain_goal r.goal.now) (plain_net r.net.now) system };
 
-    ghost asked = { λ r system step. ranked_asks (plain_goal r.goal) (plain_net r.net) (map plain r.lemmas.items) system step };
+    ghost asked = { λ r system step. ranked_asks (plain_goal r.goal.now) (plain_net r.net.now) (map plain r.lemmas.now) system step };
 
     fn goal(&self) -> &Goal {
-        &self.goal
-    }
-
-    fn is_fit(&self, fts: &Fts) -> bool {
-        let nodes = &self.net.nodes;
-        match &self.goal {
-            Goal::Response(_, _, bound) => {
-                is_modest(bound)
-                    && nodes.len() <= u32::MAX as usize
-                    && are_modest(nodes)
-                    && nodes_fit(fts, nodes)
-            }
-            Goal::Invariant(..) | Goal::Waiting(..) => false,
-        }
+        self.goal
     }
 
     fn conditions(
@@ -57,18 +43,16 @@ impl Rule for Ranked {
     ) -> Result<(), VcFault> {
         let length = out.items.len();
         let weight = out.weight;
-        let result = match &self.goal {
-            Goal::Response(begin, end, bound) => push_all(
-                alloc,
-                fts,
-                step,
-                &self.lemmas,
-                begin,
-                end,
-                bound,
-                &self.net.nodes,
-                out,
-            ),
+        let asking = Asking {
+            alloc,
+            fts,
+            step,
+            lemmas: self.lemmas,
+        };
+        let result = match self.goal {
+            Goal::Response(begin, end, bound) => {
+                push_all(&asking, begin, end, bound, &self.net.nodes, out)
+            }
             Goal::Invariant(..) | Goal::Waiting(..) => Ok(()),
         };
         if result.is_err() {
@@ -77,5 +61,5 @@ impl Rule for Ranked {
         result
     }
 
-    ghost sound = { λ rule system step o. ranked_sound (plain_goal rule.goal) (plain_net rule.net) (map plain rule.lemmas.items) system step o };
+    ghost sound = { λ rule system step o. ranked_sound (plain_goal rule.goal.now) (plain_net rule.net.now) (map plain rule.lemmas.now) system step o };
 }

@@ -1,5 +1,7 @@
--- Which nets a law speaks of: helpers are just, and groups are compassionate.
-use Rattle.std.specs.Prelude.{ℕ, List, [], ◌∷◌, map, Option, Some, ⊤, ◌≡◌, ◌<◌}
+-- Which nets and diagrams a law speaks of: helpers are just, and groups are compassionate. And which numbers a rule can make
+-- less by 1.
+use Rattle.std.specs.Prelude.{ℕ, List, [], ◌∷◌, map, Option, Some, ⊤, ◌≡◌, ◌<◌, ◌^◌, unsigned_abs}
+use Rattle.st_linear.specs.Linear.{Linear}
 use Rattle.observations.specs.declared.Fairness.{Fairness}
 use Rattle.observations.specs.Observation.{IsJust, IsCompassionate}
 use Rattle.observations.specs.RankedNet.{IfName}
@@ -41,3 +43,7 @@ DrawnNodesFit system (n ∷ ns) = DrawnFits system n × DrawnNodesFit system ns
 abbrev pub LevelsExist : ℕ → List PlainDrawnNode → Type 0
 LevelsExist count [] = 0 < count
 LevelsExist count (n ∷ ns) = (0 < n.number) × (n.number < count) × LevelsExist count ns
+
+-- the number less 1 is a number: its constant is far from the limit of forms
+abbrev pub CanFall : Linear → Type 0
+CanFall f = unsigned_abs f.constant < 2 ^ 99

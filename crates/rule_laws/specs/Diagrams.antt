@@ -108,9 +108,13 @@ rank_starts e n = every (formulas (n.form ∷ at_least (lowered e) (drawn_rank n
 abbrev pub rank_stays : PlainDrawnNode → PlainCase
 rank_stays n = record { now = truth_value true; behind = n.form; falls = (drawn_rank n, drawn_rank n) ∷ [] }
 
+-- to a node with a lower rank
+abbrev pub falls_onto : PlainDrawnNode → PlainDrawnNode → PlainCase
+falls_onto n j = record { now = truth_value true; behind = j.form; falls = (drawn_rank j, lowered (drawn_rank n)) ∷ [] }
+
 abbrev pub rank_falls : PlainDrawnNode → Option PlainDrawnNode → List PlainCase
 rank_falls n None = []
-rank_falls n (Some j) = record { now = truth_value true; behind = j.form; falls = (drawn_rank j, lowered (drawn_rank n)) ∷ [] } ∷ []
+rank_falls n (Some j) = falls_onto n j ∷ []
 
 abbrev pub rank_end : PlainDiagram → PlainDrawnNode → ℕ → List PlainCase
 rank_end d n j = if j == 0 then case_on d.terminal ∷ [] else rank_falls n (node_numbered j d.nodes)

@@ -26,15 +26,6 @@ use st_form::Variable;
 use st_memory::Memory;
 use std::alloc::Global;
 
-/// More formulas, or more parts of formulas, aren't kept.
-const MOST_FORMULAS: usize = 1 << 20;
-
-const MOST_PARTS: usize = 1 << 22;
-
-fn is_full(table: &Table) -> bool {
-    table.size() > MOST_FORMULAS || table.part_count() > MOST_PARTS
-}
-
 /// Whether a certificate is valid for a problem. With `None` nothing is said.
 #[cycle(closes)]
 #[tactic(auto, using(st_certificate::proofs::Nodes::nodes))]
@@ -54,7 +45,7 @@ pub fn closes(
     ensures exact { IfOk result (λ o. IfSome o (λ yes. IsTrue yes
         ↔ Valid (setting components.now variables.now) (tree_of certificate.now) (problem_of (formulas_of table.old) problem.now))) }
 {
-    if is_full(table) {
+    if table.is_full() {
         return Ok(None);
     }
     match certificate {

@@ -33,11 +33,7 @@ pub struct Memo {
     pub left: u32,
 }
 
-/// More formulas, or more parts of formulas, or more entries, aren't kept.
-const MOST_FORMULAS: usize = 1 << 20;
-
-const MOST_PARTS: usize = 1 << 22;
-
+/// More entries aren't kept.
 const MOST_ENTRIES: usize = 1 << 20;
 
 /// Whether no more lists may be searched.
@@ -47,13 +43,10 @@ pub fn is_full(memo: &Memo) -> bool
     if memo.left == 0 {
         return true;
     }
-    if memo.table.size() > MOST_FORMULAS {
+    if memo.table.is_full() {
         return true;
     }
-    if memo.contexts.kept.len() > MOST_CONTEXTS || memo.found.others.kept.len() > MOST_ENTRIES {
-        return true;
-    }
-    memo.table.part_count() > MOST_PARTS
+    memo.contexts.kept.len() > MOST_CONTEXTS || memo.found.others.kept.len() > MOST_ENTRIES
 }
 
 /// The tree of a list in the first context, if one was found.

@@ -7,6 +7,7 @@ pub mod Moving
 pub mod Follows
 pub mod Enabled
 pub mod Ended
+pub mod Intervals
 pub mod Layouts
 pub mod Fronts
 pub mod Origins

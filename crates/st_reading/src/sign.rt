@@ -1,3 +1,6 @@
+//! What a token is, apart from its place: a name, a numeral, or the mark that its bytes spell. Keywords stand in groups, as in
+//! their definition.
+
 ghost use Rattle.std.specs.Prelude.{◌≡◌};
 ghost use Rattle.st_tokens.specs.Stream.{lexeme};
 ghost use Rattle.st_reading.specs.Breaches.{numeral_in};

@@ -1,3 +1,5 @@
+//! Tokens, and why no token stands at a place.
+
 use thiserror::Error;
 
 /// The kinds of tokens.

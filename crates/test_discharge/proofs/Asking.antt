@@ -1,9 +1,6 @@
 -- What the search and the check ask of conditions that true implies a truth value.
-use Rattle.std.proofs.Common.{◌≡◌, ℕ, suc, List, [], ◌∷◌, length, sym, subst}
-use Rattle.st_form.specs.Formula.{Formula}
-use Rattle.st_form.specs.Shared.{given_of, shown_of}
+use Rattle.std.proofs.Common.{◌≡◌, ℕ, List, [], ◌∷◌, length, sym, subst}
 use Rattle.st_form.specs.declared.conditions.Condition.{Condition}
-use Rattle.st_certificate.specs.Tree.{Tree}
 use Rattle.cert_text.specs.declared.reader.Block.{Block}
 use Rattle.farkas_check.specs.Limits.{IsNarrow, IsLimited}
 use Rattle.search_laws.specs.Forms.{AllForms}

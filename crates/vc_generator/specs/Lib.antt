@@ -4,3 +4,4 @@ pub mod Validity
 pub mod Walks
 pub mod Refusing
 pub mod Plain
+pub mod Asked

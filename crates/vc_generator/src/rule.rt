@@ -13,7 +13,7 @@ use transition_system::Fts;
 /// forms), and the list of its conditions. Conditions are generated, and the law holds, whatever variables and locations its
 /// formulas name.
 pub trait Rule {
-    ghost use Rattle.std.specs.Prelude.{◌≡◌, ℕ, List, true};
+    ghost use Rattle.std.specs.Prelude.{◌≡◌, ℕ, List};
     ghost use Rattle.st_form.specs.Formula.{Formula, Situation};
     ghost use Rattle.observations.specs.Observation.{Observation};
     ghost use Rattle.transition_system.specs.Systems.{System};
@@ -38,10 +38,6 @@ pub trait Rule {
     /// The goal.
     fn goal(&self) -> &Goal
         ensures { plain_goal result.now ≡ aim self.now };
-
-    /// Whether the rule fits the system. A true answer is a proof of it.
-    fn is_fit(&self, fts: &Fts) -> bool
-        ensures { result ≡ true → fits self.now (plain_system fts.now) };
 
     /// Appends the rule's conditions for the system, as those of the step of this number. After a refusal, which comes at
     /// the first condition that may not be appended, the list is as before.

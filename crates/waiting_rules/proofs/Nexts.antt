@@ -11,7 +11,7 @@ use Rattle.st_form.specs.Condition.{Implication}
 use Rattle.vc_generator.specs.Building.{Draft, entails_of}
 use Rattle.vc_generator.specs.declared.faults.VcFault.{VcFault}
 use Rattle.vc_generator.specs.Refusing.{Grows}
-use Rattle.waiting_rules.specs.Asked.{falls}
+use Rattle.waiting_rules.specs.Walk.{falls}
 use Rattle.vc_generator.specs.Walks.{each_mode, plainly}
 use Rattle.rule_laws.specs.WaitingFor.{level_list, move_list}
 

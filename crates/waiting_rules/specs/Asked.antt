@@ -1,11 +1,9 @@
 -- What nested waiting-for asks of a system.
-use Rattle.std.specs.Prelude.{◌≡◌, ℕ, ◌≤◌, List, [], ◌∷◌, length, Some, false}
-use Rattle.st_form.specs.Formula.{Formula, truth_value}
-use Rattle.st_form.specs.declared.conditions.Premise.TheVariants.{Move}
-use Rattle.transition_system.specs.Systems.{PlainMode, PlainTransition, System}
+use Rattle.std.specs.Prelude.{◌≡◌, ℕ, ◌≤◌, List, [], length}
+use Rattle.st_form.specs.Formula.{Formula}
+use Rattle.transition_system.specs.Systems.{System}
 use Rattle.temporal_goals.specs.Texts.{PlainGoal, invariant, waiting, response}
-use Rattle.vc_generator.specs.Building.{Draft, triple_of}
-use Rattle.vc_generator.specs.Walks.{by_mode}
+use Rattle.vc_generator.specs.Building.{Draft}
 use Rattle.rule_laws.specs.WaitingFor.{waiting_list}
 
 -- the goal is nested waiting-for, with as many formulas as there are levels, which are at most 64
@@ -19,7 +17,3 @@ abbrev pub waiting_asks : PlainGoal → List Formula → List Formula → System
 waiting_asks (invariant p) levels lemmas system step = []
 waiting_asks (waiting p goals) levels lemmas system step = waiting_list step system lemmas p goals levels
 waiting_asks (response p q e) levels lemmas system step = []
-
--- a mode leads from a level's formula to it or below
-abbrev pub falls : ℕ → List Formula → ℕ → Formula → Formula → ℕ → PlainTransition → ℕ → PlainMode → List Draft
-falls step lemmas node f below n t k m = triple_of m lemmas f below (truth_value false) (by_mode step Move (Some node) t.name k) ∷ []

@@ -3,6 +3,5 @@ use Rattle.invariance_rules.proofs.invariant.Goals as goal
 
 pub returns-in_ok-entails-in-Some : goal.returns-in_ok-entails-in-Some
 returns-in_ok-entails-in-Some c =
-    let begun = rw (c.plainly-name.ensures, c.deref-in-Some.ensures.value) at c.in_ok-entails-in-Some.ensures in
-    let rest = rw c.deref-in-Some-2.ensures.value at c.keep_always-in-Some.ensures in
-    rw c.in-Some.is (one_then _ _ _ _ _ _ begun.0 begun.1 rest)
+    let begun = rw c.plainly-name.ensures at c.in_ok-entails-in-Some.ensures in
+    rw c.in-Some.is (one_then _ _ _ _ _ _ begun.0 begun.1 c.keep_always-in-Some.ensures)

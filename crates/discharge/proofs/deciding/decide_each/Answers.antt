@@ -1,4 +1,4 @@
-use Rattle.std.proofs.Common.{◌∙◌, ◌+◌, ◌∷◌, List, length, drop, refl, ap, sym, arith}
+use Rattle.std.proofs.Common.{◌∙◌, ◌+◌, ◌∷◌, length, drop, refl, ap, sym, arith}
 use Rattle.std.proofs.lemmas.List.{drop_more, drop_all}
 use Rattle.std.proofs.lemmas.Option.{slice_get_read}
 use Rattle.st_form.specs.declared.conditions.Condition.{Condition}

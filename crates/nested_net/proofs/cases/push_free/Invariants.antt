@@ -3,7 +3,7 @@ use Rattle.st_form.specs.Plain.{plain}
 use Rattle.temporal_goals.specs.Plain.{plain_level, plain_nested_node}
 use Rattle.vc_generator.specs.Plain.{plain_case}
 use Rattle.rule_laws.specs.NestedNet.{agreeing}
-use Rattle.nested_net.specs.Asked.{free_within}
+use Rattle.nested_net.specs.Walk.{free_within}
 use Rattle.nested_net.proofs.cases.push_free.Given as goal
 
 abbrev pub invariant-loop-next : goal.invariant-loop-next

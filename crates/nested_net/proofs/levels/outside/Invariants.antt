@@ -1,6 +1,6 @@
 use Rattle.std.proofs.Common.{◌≡◌, ◌+◌, map, drop}
 use Rattle.temporal_goals.specs.Plain.{plain_level}
-use Rattle.nested_net.specs.Asked.{outside}
+use Rattle.nested_net.specs.Walk.{outside}
 use Rattle.nested_net.proofs.levels.outside.Given as goal
 
 abbrev pub invariant-loop-depth : goal.invariant-loop-depth

@@ -1,0 +1,49 @@
+use Rattle.std.proofs.Common.{[], ◌∷◌, ◌++◌, map, None, Err}
+use Rattle.std.proofs.lemmas.Result.{err_from_is_err_and}
+use Rattle.st_form.specs.Formula.{some, formulas}
+use Rattle.st_form.specs.Plain.{plain}
+use Rattle.st_form.specs.declared.conditions.Premise.TheVariants.{Cover}
+use Rattle.temporal_goals.specs.Plain.{plain_diagram}
+use Rattle.vc_generator.specs.Building.{entails_of}
+use Rattle.vc_generator.specs.Walks.{plainly}
+use Rattle.rule_laws.specs.Diagrams.{each_node, target_of, chain_starts, drawn_help, chain_move}
+use Rattle.vc_generator.specs.Asked.{system_of, lemmas_of}
+use Rattle.diagram_conditions.proofs.Pieces.{grow-behind, refused-before}
+use Rattle.diagram_conditions.proofs.listing.chain.Goals as goal
+
+pub returns-in_err-covers_chain : goal.returns-in_err-covers_chain
+returns-in_err-covers_chain c =
+    let p = err_from_is_err_and c.from_residual-in_err-covers_chain.result c.from_residual-in_err-covers_chain.ensures.1 in
+    let lemmas = lemmas_of c.args.asking.now in
+    let d = plain_diagram c.args.diagram.now in
+    let target = target_of c.args.asking.now.step lemmas (plain c.args.q.now) d ∷ [] in
+    let covers = entails_of lemmas (plain c.args.p.now) (some (formulas (d.terminal ∷ map (chain_starts c.args.bound.now) d.nodes))) (plainly c.args.asking.now.step Cover None) ∷ [] in
+    let helps = each_node (drawn_help c.args.asking.now.step (system_of c.args.asking.now) lemmas) d.nodes in
+    let moves = each_node (chain_move c.args.asking.now.step (system_of c.args.asking.now) lemmas d) d.nodes in
+    rw (p.1, p.2) (grow-behind (Err c.in_err-covers_chain.field-0.0) _ _ _ target (covers ++ (helps ++ moves)) c.in_ok-ends_response.ensures.0 c.in_ok-ends_response.ensures.1
+    (refused-before c.in_err-covers_chain.field-0.0 _ _ covers (helps ++ moves) c.in_err-covers_chain.ensures))
+
+pub returns-in_err-each_node : goal.returns-in_err-each_node
+returns-in_err-each_node c =
+    let p = err_from_is_err_and c.from_residual-in_err-each_node.result c.from_residual-in_err-each_node.ensures.1 in
+    let lemmas = lemmas_of c.args.asking.now in
+    let d = plain_diagram c.args.diagram.now in
+    let target = target_of c.args.asking.now.step lemmas (plain c.args.q.now) d ∷ [] in
+    let covers = entails_of lemmas (plain c.args.p.now) (some (formulas (d.terminal ∷ map (chain_starts c.args.bound.now) d.nodes))) (plainly c.args.asking.now.step Cover None) ∷ [] in
+    let helps = each_node (drawn_help c.args.asking.now.step (system_of c.args.asking.now) lemmas) d.nodes in
+    let moves = each_node (chain_move c.args.asking.now.step (system_of c.args.asking.now) lemmas d) d.nodes in
+    rw (p.1, p.2) (grow-behind (Err c.in_err-each_node.field-0.0) _ _ _ target (covers ++ (helps ++ moves)) c.in_ok-ends_response.ensures.0 c.in_ok-ends_response.ensures.1
+    (grow-behind (Err c.in_err-each_node.field-0.0) _ _ _ covers (helps ++ moves) c.in_ok-covers_chain.ensures.0 c.in_ok-covers_chain.ensures.1
+    (refused-before c.in_err-each_node.field-0.0 _ _ helps moves c.in_err-each_node.ensures)))
+
+pub returns : goal.returns
+returns c =
+    let lemmas = lemmas_of c.args.asking.now in
+    let d = plain_diagram c.args.diagram.now in
+    let target = target_of c.args.asking.now.step lemmas (plain c.args.q.now) d ∷ [] in
+    let covers = entails_of lemmas (plain c.args.p.now) (some (formulas (d.terminal ∷ map (chain_starts c.args.bound.now) d.nodes))) (plainly c.args.asking.now.step Cover None) ∷ [] in
+    let helps = each_node (drawn_help c.args.asking.now.step (system_of c.args.asking.now) lemmas) d.nodes in
+    let moves = each_node (chain_move c.args.asking.now.step (system_of c.args.asking.now) lemmas d) d.nodes in
+    grow-behind c.each_node-2.result _ _ _ target (covers ++ (helps ++ moves)) c.in_ok-ends_response.ensures.0 c.in_ok-ends_response.ensures.1
+    (grow-behind c.each_node-2.result _ _ _ covers (helps ++ moves) c.in_ok-covers_chain.ensures.0 c.in_ok-covers_chain.ensures.1
+    (grow-behind c.each_node-2.result _ _ _ helps moves c.in_ok-each_node.ensures.0 c.in_ok-each_node.ensures.1 c.each_node-2.ensures))

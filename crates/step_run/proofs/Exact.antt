@@ -40,7 +40,8 @@ use Rattle.step_run.proofs.Found.{looked, looks, source_found}
 use Rattle.step_plan.proofs.Named.{AsksOnly}
 use Rattle.judging_laws.specs.Counted.{round_counts}
 use Rattle.judging_laws.proofs.Counted.{counts-are-greatest}
-use Rattle.step_run.specs.Scheduled.{observed_of}
+use Rattle.spl_semantics.proofs.SeenRuns.{observed_seen}
+use Rattle.step_run.specs.Scheduled.{start_of, observed_of}
 use Rattle.step_run.specs.Judged.{all_judged}
 use Rattle.step_run.proofs.Judging.{are_judged}
 use Rattle.step_run.proofs.Runs.{trace_shows, trace_ends}
@@ -246,7 +247,9 @@ shows law spelled told (Some (traces a b c)) o Said e proved said =
       later = t.3;
       counts = round_counts seen;
       judged = all_judged seen t.1;
+      seen = seen;
       texts = t.4;
+      seen_of = observed_seen t.0.processes t.4.scripted.program.well.well.numbered (start_of t.0 t.2) t.3;
       greatest = counts-are-greatest seen;
       judges = are_judged seen t.1;
       said = subst Said (ap (λ (x : Outcome). x.text) t.5) said;

@@ -10,7 +10,7 @@ use Rattle.st_certificate.specs.Tree.{Tree}
 use Rattle.temporal_goals.specs.Texts.{PlainStep}
 use Rattle.obligation_laws.specs.Obligations.{HoldsOnRuns}
 use Rattle.observations.specs.Observation.{Observation}
-use Rattle.spl_semantics.specs.Runs.{State}
+use Rattle.spl_semantics.specs.Runs.{State, IsSeenOf}
 use Rattle.spl_typer.specs.Programs.{Typed}
 use Rattle.run_judging.specs.Greatest.{AreGreatest}
 use Rattle.run_judging.specs.declared.judged.Judged.{Judged}
@@ -26,7 +26,7 @@ use Rattle.step_plan.specs.declared.status.Status.TheVariants.{Proved}
 use Rattle.step_plan.specs.Plan.{Told}
 use Rattle.step_run.specs.Conditions.{system_of, conditions_of}
 use Rattle.step_run.specs.Verified.{nodes_in}
-use Rattle.step_run.specs.Scheduled.{observed_of}
+use Rattle.step_run.specs.Scheduled.{start_of}
 use Rattle.step_run.specs.WellFormed.{IsProgram, Checks, Decides, Traces, AreShort, IsShort}
 
 -- each goal holds on every run of the program
@@ -108,9 +108,11 @@ pub record TraceShown (pt qt st : List ℕ) (Said : List ℕ → Type 0) : Type 
   pub later : List (TransName × State)
   pub counts : List ℕ
   pub judged : List Judged
+  pub seen : Observation Situation
   pub texts : Traces pt qt st program steps schedule later
-  pub greatest : AreGreatest (observed_of program schedule later) counts
-  pub judges : AreJudged (observed_of program schedule later) steps judged
+  pub seen_of : IsSeenOf program.processes (start_of program schedule) later seen
+  pub greatest : AreGreatest seen counts
+  pub judges : AreJudged seen steps judged
   pub said : Said (played_text program.names steps (length schedule.moves) counts judged)
 
 abbrev pub TracePasses : List ℕ → List ℕ → List ℕ → Type 0

@@ -8,14 +8,17 @@ use Rattle.step_run.proofs.posed.ask_conditions.Goals as goal
 
 pub returns-in-On-clause-comes : goal.returns-in-On-clause-comes
 returns-in-On-clause-comes g c =
+    let told = g.F.Files.told c.args.files.now in
     let plan = scripted_plan c.args.program.now c.args.proof.now in
     let scripted = rw c.in-On.is at c.in_ok-scripted.ensures.comes in
+    let x = scripted_view c.in-On.scripted in
     IfOk-weaker c.obliged.result _ _
-    (λ s h. comes_as posed_view _ _ _ _ _ s (conditions_are c.args.program.now c.args.proof.now) (comes_text _ obliged_in posed_view _ _ plan (scripted_view c.in-On.scripted) s scripted.0 scripted.1 h))
+    (λ s h. comes_as posed_view told _ _ _ _ s (conditions_are c.args.program.now c.args.proof.now) (comes_text told obliged_in posed_view _ _ plan x s scripted.0 scripted.1 h))
     c.obliged.ensures.settles
 
 pub returns-in-Over-clause-comes : goal.returns-in-Over-clause-comes
 returns-in-Over-clause-comes g c =
+    let told = g.F.Files.told c.args.files.now in
     let plan = scripted_plan c.args.program.now c.args.proof.now in
     let over = rw c.in-Over.is at c.in_ok-scripted.ensures.comes in
-    follows_as _ _ _ _ _ _ (conditions_are c.args.program.now c.args.proof.now) (follows_first _ obliged_in _ _ plan _ over)
+    follows_as told _ _ _ _ _ (conditions_are c.args.program.now c.args.proof.now) (follows_first told obliged_in _ _ plan _ over)

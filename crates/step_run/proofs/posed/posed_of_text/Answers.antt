@@ -1,5 +1,7 @@
+use Rattle.std.proofs.Common.{◌≡◌, ◌∙◌, sym}
 use Rattle.std.proofs.lemmas.Result.{IfOk-weaker}
 use Rattle.step_plan.specs.Outcome.{ended_view}
+use Rattle.step_plan.specs.Plan.{ends, then_plan}
 use Rattle.step_run.specs.Posing.{obliged_in}
 use Rattle.step_run.specs.Plans.{scripted_of_text}
 use Rattle.step_run.specs.Views.{source_view, scripted_view, posed_view}
@@ -21,4 +23,5 @@ returns-in-Over-clause-settles c =
     let p = source_view c.args.source in
     let text = c.args.text.now in
     let over = rw c.in-Over.is at c.in_ok-scripted.ensures.settles in
-    settles_as posed_view _ _ _ (posed_is p text) (ends_then obliged_in (scripted_of_text p text) (ended_view c.in-Over.ended) over.0, over.1)
+    let ends_so : then_plan (scripted_of_text p text) obliged_in ≡ ends (ended_view c.in-Over.ended) = ends_then obliged_in (scripted_of_text p text) (ended_view c.in-Over.ended) over.0 in
+    (sym (posed_is p text) ∙ ends_so, over.1)

@@ -39,7 +39,11 @@ use Rattle.proof_script.proofs.Grouping.{groups_keep, nested_completed_fits}
 use Rattle.proof_script.proofs.Drawn.{drawn_over}
 use Rattle.proof_script.proofs.Fitting.{drawn_is, matched_is}
 use Rattle.proof_script.proofs.Scripts.{setting_for, script_keeps}
-use Rattle.diagram_reader.proofs.Speaking.{unit_is}
+
+-- what is read of a formula or sum alone is what is read
+unit_is : {A : Type 0} (a : Answer A) (x : A) (rest : Stream) → unit_of a ≡ Ok (x, rest) → a ≡ Ok (x, rest)
+unit_is (Ok y) x rest h = cc
+unit_is (Err f) x rest h = absurd cc
 
 module _ (vs : List Variable) (locations : ℕ) where
   small : (k : ℕ) → k ≤ 64 → SmallOver vs locations (number (pos k))

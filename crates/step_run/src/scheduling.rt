@@ -3,7 +3,8 @@
 ghost use Rattle.std.specs.Prelude.{◌≡◌, IfOk};
 ghost use Rattle.schedule_reader.specs.Faults.{see};
 ghost use Rattle.step_plan.specs.Outcome.{ended_view};
-ghost use Rattle.step_run.specs.Traced.{schedule_fault, moves_limited, token_refused, no_start, too_large_at, not_enabled, IsEndOf};
+ghost use Rattle.step_run.specs.Outcome.{moves_limited};
+ghost use Rattle.step_run.specs.Traced.{schedule_fault, token_refused, no_start, too_large_at, not_enabled, IsEndOf};
 
 use schedule_reader::ScheduleFault;
 use st_memory::Memory;

@@ -1,3 +1,4 @@
+-- What a call for the next block answers, also where a text ends inside a token.
 use Rattle.std.specs.Prelude.{ℕ, Option, Some, None}
 use Rattle.cert_text.specs.declared.scan.Word.{Word}
 use Rattle.cert_text.specs.declared.scan.Token.TheVariants as tokens

@@ -1,3 +1,4 @@
+-- What counts as blank between blocks: spaces and line ends, and a header where one may still come.
 use Rattle.std.specs.Prelude.{ℕ, ◌+◌, Bool, true, false, ◌==◌, ◌&&◌, ◌||◌, not, nat_lt, nat_eq, if◌then◌else◌, List, [], ◌∷◌, length, drop, codes, Option, Some, None}
 use Rattle.std.specs.List.{starts_with, prefix_len}
 use Rattle.cert_text.specs.Letters.{is_blank}

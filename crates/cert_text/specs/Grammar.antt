@@ -1,3 +1,4 @@
+-- The grammar of certificate texts of versions 1 and 2: the tokens of a tree, one constructor for each production, and of a block.
 use Rattle.std.specs.Prelude.{◌≡◌, ℕ, ◌+◌, ◌<◌, ◌≤◌, Bool, true, false, ◌||◌, nat_lt, nat_le, if◌then◌else◌, List, [], ◌∷◌, map, ℤ}
 use Rattle.cert_text.specs.declared.scan.Word.{Word}
 use Rattle.cert_text.specs.declared.scan.Word.TheVariants as words

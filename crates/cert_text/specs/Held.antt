@@ -1,3 +1,4 @@
+-- What a reader holds of a text, what it answers, and what it holds behind the answer.
 use Rattle.std.specs.Prelude.{◌≡◌, ℕ, ◌+◌, ◌-◌, ◌<◌, ◌≤◌, ◌^◌, Bool, false, if◌then◌else◌, List, [], length, take, drop}
 use Rattle.cert_text.specs.declared.progress.Progress.{Progress}
 use Rattle.cert_text.specs.Reading.{State, going, malformed, over, whole, after, start, progress_view}

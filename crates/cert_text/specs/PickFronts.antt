@@ -1,3 +1,4 @@
+-- A pick of a leaf in front of some bytes, which is read as a whole.
 use Rattle.std.specs.Prelude.{◌≡◌, ℕ, ◌+◌, ◌<◌, ◌≤◌, ◌^◌, Bool, true, false, List, length, drop, slice_index}
 use Rattle.std.specs.List.{prefix_len}
 use Rattle.cert_text.specs.declared.pick_fronts.Pick.{Pick}

@@ -1,3 +1,4 @@
+-- The one spelling of a block that is written.
 use Rattle.std.specs.Prelude.{ℕ, zero, suc, ◌+◌, ◌/◌, ◌%◌, nat_le, if◌then◌else◌, List, [], ◌∷◌, ◌++◌, codes, ℤ, pos, negsuc, unsigned_abs}
 use Rattle.st_linear.specs.Linear.{Linear}
 use Rattle.st_certificate.specs.Tree.{Tree, Trees, no_tree, with_tree, branch, by_case, by_truth, by_split, by_cut, impossible, farkas, linear}

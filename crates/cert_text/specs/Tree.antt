@@ -1,3 +1,4 @@
+-- What the tokens of a block build: trees, from the innermost node that is open.
 use Rattle.st_certificate.specs.Tree.{Tree, Trees, branch, by_case, by_truth, by_split, by_cut, impossible, farkas, linear, trees as trees_of}
 use Rattle.st_certificate.specs.Plain.{plain}
 use Rattle.std.specs.Prelude.{ℕ, ◌-◌, ◌<◌, ◌^◌, Bool, if◌then◌else◌, List, [], ◌∷◌, ◌++◌, Option, Some, None, ℤ, pos, neg_ℤ, map, reverse}

@@ -1,10 +1,15 @@
 //! What may stand next in a block, by numbers alone: nothing here takes memory.
 
-ghost use Rattle.std.specs.Prelude.{◌≡◌, ◌+◌};
+ghost use Rattle.std.specs.Prelude.{◌≡◌, ◌+◌, false, true};
 ghost use Rattle.cert_text.specs.Control.{only_sign, next_want, behind, at_block, at_header_number, at_block_number, at_tree, tree_begun, is_full, at_subject, at_row, at_multiplier, at_negative, at_more_picks, at_coefficient, at_variable, at_more_terms, at_constant, entered, give};
+ghost use Rattle.cert_text.specs.declared.scan.Action.TheVariants as actions;
+ghost use Rattle.cert_text.specs.declared.scan.Given.TheVariants as givens;
+ghost use Rattle.cert_text.specs.declared.scan.Want.TheVariants as wants;
 
-use crate::cuts::{at_coefficient, at_constant, at_more_terms, at_variable};
-use crate::picks::{at_more_picks, at_multiplier, at_negative, at_row};
+use crate::cuts::{
+    at_coefficient, at_colon, at_constant, at_constant_end, at_more_terms, at_terms, at_variable,
+};
+use crate::picks::{at_more_picks, at_multiplier, at_negative, at_picks, at_row, at_times};
 use crate::scan::{
     Action, Branching, Given, MAX_DEPTH, MAX_NUMBER, MAX_TREES, Scan, Token, Want, Word,
 };
@@ -81,6 +86,23 @@ pub fn at_header_number(scan: Scan, token: Token) -> Given
         }
         _ => Given::Wrong,
     }
+}
+
+pub fn at_header_end(scan: Scan, token: Token) -> Given
+    ensures { result ≡ only_sign token 59 (givens.On (record scan { want = wants.Block false; second = true }) actions.Nothing) }
+{
+    only_sign(
+        token,
+        b';',
+        Given::On(
+            Scan {
+                want: Want::Block { header: false },
+                second: true,
+                ..scan
+            },
+            Action::Nothing,
+        ),
+    )
 }
 
 pub fn at_block_number(scan: Scan, token: Token) -> Given
@@ -199,6 +221,13 @@ pub fn entered(scan: Scan, action: Action) -> Given
     }
 }
 
+/// The braces of a node open.
+pub fn at_braces(scan: Scan, action: Action, token: Token) -> Given
+    ensures { result ≡ only_sign token 123 (entered scan action) }
+{
+    only_sign(token, b'{', entered(scan, action))
+}
+
 /// The scan behind a token, and what the token adds.
 pub fn give(scan: Scan, token: Token) -> Given
     ensures { result ≡ give scan token }
@@ -206,52 +235,18 @@ pub fn give(scan: Scan, token: Token) -> Given
     match scan.want {
         Want::Block { header } => at_block(scan, header, token),
         Want::HeaderNumber => at_header_number(scan, token),
-        Want::HeaderEnd => only_sign(
-            token,
-            b';',
-            Given::On(
-                Scan {
-                    want: Want::Block { header: false },
-                    second: true,
-                    ..scan
-                },
-                Action::Nothing,
-            ),
-        ),
+        Want::HeaderEnd => at_header_end(scan, token),
         Want::BlockNumber => at_block_number(scan, token),
         Want::Tree { end } => at_tree(scan, end, token),
         Want::Subject(branching) => at_subject(scan, branching, token),
-        Want::Branches(branching, n) => {
-            only_sign(token, b'{', entered(scan, Action::Enter(branching, n)))
-        }
-        Want::Picks { signed } => only_sign(
-            token,
-            b'[',
-            next_want(scan, Want::Row { signed, count: 0 }),
-        ),
+        Want::Branches(branching, n) => at_braces(scan, Action::Enter(branching, n), token),
+        Want::Picks { signed } => at_picks(scan, signed, token),
         Want::Row { signed, count } => at_row(scan, signed, count, token),
-        Want::Times { signed, count, row } => {
-            only_sign(
-                token,
-                b'*',
-                next_want(scan, Want::Multiplier { signed, count, row }),
-            )
-        }
+        Want::Times { signed, count, row } => at_times(scan, signed, count, row, token),
         Want::Multiplier { signed, count, row } => at_multiplier(scan, signed, count, row, token),
         Want::Negative { count, row } => at_negative(scan, true, true, count, row, token),
         Want::MorePicks { signed, count } => at_more_picks(scan, signed, count, token),
-        Want::Terms => only_sign(
-            token,
-            b'[',
-            next_want(
-                scan,
-                Want::Coefficient {
-                    first: true,
-                    negative: false,
-                    last: 0,
-                },
-            ),
-        ),
+        Want::Terms => at_terms(scan, token),
         Want::Coefficient {
             first,
             negative,
@@ -261,20 +256,7 @@ pub fn give(scan: Scan, token: Token) -> Given
             negative,
             size,
             last,
-        } => {
-            only_sign(
-                token,
-                b':',
-                next_want(
-                    scan,
-                    Want::Variable {
-                        negative,
-                        size,
-                        last,
-                    },
-                ),
-            )
-        }
+        } => at_colon(scan, negative, size, last, token),
         Want::Variable {
             negative,
             size,
@@ -282,15 +264,9 @@ pub fn give(scan: Scan, token: Token) -> Given
         } => at_variable(scan, negative, size, last, token),
         Want::MoreTerms { last } => at_more_terms(scan, last, token),
         Want::Constant { negative } => at_constant(scan, negative, token),
-        Want::ConstantEnd { negative, size } => {
-            only_sign(
-                token,
-                b']',
-                next_want(scan, Want::CutBranches { negative, size }),
-            )
-        }
+        Want::ConstantEnd { negative, size } => at_constant_end(scan, negative, size, token),
         Want::CutBranches { negative, size } => {
-            only_sign(token, b'{', entered(scan, Action::Cut { negative, size }))
+            at_braces(scan, Action::Cut { negative, size }, token)
         }
         Want::End => only_sign(token, b';', next_want(scan, Want::Whole)),
         Want::Whole => Given::Wrong,

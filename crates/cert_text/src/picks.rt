@@ -1,10 +1,17 @@
 //! The picks of a leaf.
 
 ghost use Rattle.std.specs.Prelude.{◌≡◌, ◌+◌};
-ghost use Rattle.cert_text.specs.Control.{next_want, behind, at_row, at_multiplier, at_negative, at_more_picks, picks_closed};
+ghost use Rattle.cert_text.specs.Control.{only_sign, next_want, behind, at_row, at_multiplier, at_negative, at_more_picks, picks_closed};
+ghost use Rattle.cert_text.specs.declared.scan.Want.TheVariants as wants;
 
-use crate::control::{behind, next_want};
+use crate::control::{behind, next_want, only_sign};
 use crate::scan::{Action, Given, MAX_NUMBER, MAX_PICKS, MULTIPLIER_END, Scan, Token, Want};
+
+pub fn at_picks(scan: Scan, signed: bool, token: Token) -> Given
+    ensures { result ≡ only_sign token 91 (next_want scan (wants.Row signed 0)) }
+{
+    only_sign(token, b'[', next_want(scan, Want::Row { signed, count: 0 }))
+}
 
 pub fn at_row(scan: Scan, signed: bool, count: u32, token: Token) -> Given
     ensures { result ≡ at_row scan signed count token }
@@ -28,6 +35,16 @@ pub fn at_row(scan: Scan, signed: bool, count: u32, token: Token) -> Given
         }
         _ => Given::Wrong,
     }
+}
+
+pub fn at_times(scan: Scan, signed: bool, count: u32, row: u32, token: Token) -> Given
+    ensures { result ≡ only_sign token 42 (next_want scan (wants.Multiplier signed count row)) }
+{
+    only_sign(
+        token,
+        b'*',
+        next_want(scan, Want::Multiplier { signed, count, row }),
+    )
 }
 
 pub fn at_negative(

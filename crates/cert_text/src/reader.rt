@@ -4,7 +4,7 @@ ghost use Rattle.std.specs.Prelude.{◌≡◌, ◌+◌, ◌-◌, ◌<◌, ◌≤
 ghost use Rattle.cert_text.specs.Reading.{progress_view, pending_view, after, start};
 ghost use Rattle.st_certificate.specs.Plain.{plain};
 ghost use Rattle.cert_text.specs.Tree.{last_tree};
-ghost use Rattle.cert_text.specs.Answer.{answer_view, at_end, judged};
+ghost use Rattle.cert_text.specs.Answer.{answer_view, at_end, block, need, judged};
 ghost use Rattle.cert_text.specs.Blank.{first_place, past_blanks};
 ghost use Rattle.cert_text.specs.Held.{nothing_held, answer_of, taken_from};
 
@@ -82,6 +82,26 @@ fn at_end(progress: &Progress, end: u64) -> NextBlock
         },
         Pending::Number(place, n) => judged(give(progress.scan, Token::Number(n)), place, end),
     }
+}
+
+/// The answer where the bytes hold no whole block: more are needed, or the text ends.
+fn waiting(progress: &Progress, finished: bool, end: u64) -> NextBlock
+    ensures { answer_view result ≡ if finished then at_end progress.now.scan (pending_view progress.now.pending progress.now.letters) end else need }
+{
+    if finished {
+        at_end(progress, end)
+    } else {
+        NextBlock::Need
+    }
+}
+
+fn block_of(number: u32, certificate: Certificate) -> NextBlock
+    ensures { answer_view result ≡ block number (plain certificate) }
+{
+    NextBlock::Block(Block {
+        number,
+        certificate,
+    })
 }
 
 /// Reads on to the end of the bytes, or of the block.
@@ -221,14 +241,8 @@ impl CertReader {
         }
         match self.progress.stage {
             Stage::Going => {
-                if self.finished {
-                    Ok(at_end(
-                        &self.progress,
-                        self.place + (self.bytes.len() - self.taken) as u64,
-                    ))
-                } else {
-                    Ok(NextBlock::Need)
-                }
+                let end = self.place + (self.bytes.len() - self.taken) as u64;
+                Ok(waiting(&self.progress, self.finished, end))
             }
             Stage::Malformed(place) => Ok(NextBlock::Malformed(place)),
             Stage::Over(place) => Ok(NextBlock::CertLimit(place)),
@@ -241,10 +255,7 @@ impl CertReader {
                 self.number += 1;
                 self.second = self.progress.scan.second;
                 self.progress = beginning(self.alloc, self.number, self.second);
-                Ok(NextBlock::Block(Block {
-                    number,
-                    certificate,
-                }))
+                Ok(block_of(number, certificate))
             }
         }
     }

@@ -1,4 +1,4 @@
-// Certificates, and what is built of one while its text is read.
+//! Certificates, and what is built of one while its text is read.
 
 ghost use Rattle.std.specs.Prelude.{◌≡◌, ◌+◌, ◌<◌, ◌≤◌, ◌^◌, ◌++◌, ◌∷◌, [], IsOk, IfOk, OnOk, length, map};
 ghost use Rattle.st_linear.specs.Linear.{of_entries};

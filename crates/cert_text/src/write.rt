@@ -194,11 +194,11 @@ fn push_block(out: &mut Vec<u8>, block: &Block) -> Result<(), Memory>
 }
 
 /// Appends the one spelling of a block.
-pub fn write_block(_alloc: Global, block: &Block, out: &mut Vec<u8>) -> Result<(), Memory>
+pub fn write_block(alloc: Global, block: &Block, out: &mut Vec<u8>) -> Result<(), Memory>
     ensures ok { OnOk result (out.new.items ≡ out.old.items ++ block_text block.now.number (plain block.now.certificate)) }
     ensures err { OnErr result (out.new.items ≡ out.old.items) }
 {
-    let mut text = Vec::new(_alloc);
+    let mut text = Vec::new(alloc);
     push_block(&mut text, block)?;
     out.extend_from_slice(text.as_slice())?;
     Ok(())

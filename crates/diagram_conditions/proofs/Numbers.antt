@@ -1,8 +1,7 @@
 -- A number of 32 bits is a linear form.
-use Rattle.std.proofs.Common.{◌≡◌, ◌∙◌, ap, sym, refl, arith, ℕ, ◌^◌, ◌<◌, true, Option, Some, None, ℤ, pos}
+use Rattle.std.proofs.Common.{◌≡◌, ◌∙◌, ap, refl, arith, ℕ, ◌^◌, ◌<◌, true, Some, None, ℤ, pos}
 use Rattle.std.proofs.lemmas.Bool.Decides.{nat_tests}
 use Rattle.std.proofs.lemmas.Int.{to_z-of_z, fits_signed_from_abs}
-use Rattle.std.proofs.lemmas.Option.{none-some}
 use Rattle.st_linear.specs.Linear.{Linear, number, is_within, is_small, fitting}
 use mir.Syntax.{w128}
 use mir.Val.{to_z, of_z}

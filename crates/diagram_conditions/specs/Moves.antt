@@ -1,5 +1,5 @@
 -- The conditions of the steps from a node, by the kind of the diagram.
-use Rattle.std.specs.Prelude.{ℕ, List, [], ◌∷◌, Option, Some}
+use Rattle.std.specs.Prelude.{ℕ, List, [], ◌∷◌, Some}
 use Rattle.st_form.specs.Formula.{Formula}
 use Rattle.st_form.specs.declared.conditions.Premise.TheVariants.{Move}
 use Rattle.st_form.specs.declared.conditions.TransName.{TransName}

@@ -1,4 +1,4 @@
-use Rattle.std.proofs.Common.{subst, map}
+use Rattle.std.proofs.Common.{subst}
 use Rattle.temporal_goals.specs.Plain.{plain_drawn_node, plain_diagram}
 use Rattle.vc_generator.specs.Plain.{plain_list}
 use Rattle.vc_generator.specs.Refusing.{Grows}

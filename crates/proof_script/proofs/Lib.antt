@@ -12,3 +12,4 @@ pub mod Fitting
 pub mod Speech
 pub mod Sizes
 pub mod Lookups
+pub mod Responding

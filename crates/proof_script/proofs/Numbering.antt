@@ -1,10 +1,10 @@
 -- The numbers of a diagram's nodes are at most 2^30, as all numerals are.
-use Rattle.std.proofs.Common.{◌≡◌, ℕ, ◌^◌, ◌≤◌, Bool, true, false, cond, ◌&&◌, nat_lt, All, List, [], ◌∷◌, length, is_none, Ok, Err, refl, subst, ◌∙◌}
+use Rattle.std.proofs.Common.{◌≡◌, ℕ, ◌^◌, ◌≤◌, Bool, true, false, cond, ◌&&◌, nat_lt, All, List, length, is_none, Ok, Err, subst, ◌∙◌}
 use Rattle.std.proofs.lemmas.List.Elements.{All-nil, All-push}
-use Rattle.st_tokens.specs.Stream.{Stream, behind}
+use Rattle.st_tokens.specs.Stream.{Stream}
 use Rattle.st_tokens.specs.declared.limit.LimitKind.TheVariants as limits
 use Rattle.st_reading.specs.declared.mark.Mark.TheVariants as marks
-use Rattle.st_reading.specs.Reading.{other, ahead, expected}
+use Rattle.st_reading.specs.Reading.{other, expected}
 use Rattle.st_reading.specs.Rule as rules
 use Rattle.st_reading.specs.Breaches.{Breach, broke, limited, unless, numeral_of}
 use Rattle.st_reading.proofs.Judged.{both, given, allowed}
@@ -15,7 +15,6 @@ use Rattle.diagram_reader.specs.declared.item.Item.TheVariants as items
 use Rattle.diagram_reader.specs.Drawn.{Setting, Drawing, with_terminal, with_node, with_edge, is_known, is_above, has_helpers}
 use Rattle.diagram_reader.specs.Drawing.{formula_of, rank_of, helper_of, new_number_of, numbered_node_of, node_of, edge_of, terminal_of, item_of, drawing_of}
 use Rattle.diagram_reader.proofs.Obeying.{drawn}
-use Rattle.basic_laws.proofs.Numbers.{not_less}
 
 abbrev pub IsNumbered : PlainDrawnNode → Type 0
 IsNumbered n = n.number ≤ 2 ^ 30

@@ -7,7 +7,6 @@ use Rattle.st_reading.specs.Breaches.{Breach}
 use Rattle.st_reading.proofs.Loops.{stop_as}
 use Rattle.st_linear.specs.Linear.{Linear}
 use Rattle.st_form.specs.Formula.{Formula}
-use Rattle.temporal_goals.specs.Texts.{PlainRule}
 use Rattle.proof_script.specs.Listing.{Setting, behind_mark, formula_of, sum_of}
 use Rattle.proof_script.specs.Rules.{rule_of}
 use Rattle.proof_script.specs.Steps.{response_of}

@@ -1,5 +1,5 @@
 -- A script speaks of what the names stand for.
-use Rattle.std.proofs.Common.{◌≡◌, ℕ, ◌-◌, ◌<◌, ◌≤◌, Bool, true, false, cond, pos, All, List, [], ◌∷◌, length, Option, Ok, Err, subst, arith}
+use Rattle.std.proofs.Common.{◌≡◌, ℕ, ◌-◌, ◌<◌, ◌≤◌, Bool, true, false, cond, pos, All, List, [], ◌∷◌, length, Option, Ok, subst, arith}
 use Rattle.std.proofs.lemmas.List.Elements.{All-nil, All-cons, All-push, All-head, All-tail}
 use Rattle.st_tokens.specs.Stream.{Stream, behind}
 use Rattle.st_reading.proofs.Judged.{both, given}
@@ -22,7 +22,6 @@ use Rattle.assertions.specs.Reading.{form_of, linear_of}
 use Rattle.assertions.proofs.Over.{form_over, linear_over}
 use Rattle.diagram_reader.specs.Drawn.{Setting as DrawingSetting}
 use Rattle.diagram_reader.specs.Drawing.{diagram_of}
-use Rattle.st_reading.specs.Rule as rules
 use Rattle.st_reading.specs.Breaches.{Breach, Reader}
 use Rattle.proof_script.specs.declared.steps.Claim.{Claim}
 use Rattle.proof_script.specs.declared.steps.Claim.TheVariants as claims

@@ -2,12 +2,10 @@
 use Rattle.std.proofs.Common.{List, None, Option, Some, [], ap, refl, subst, ℕ, ◌++◌, ◌∷◌, ◌≡◌}
 use Rattle.std.specs.Option.{option_map}
 use Rattle.st_reading.specs.Rule as rules
-use Rattle.st_reading.specs.Breaches.{Breach, broke, present}
+use Rattle.st_reading.specs.Breaches.{Breach, broke}
 use Rattle.st_tokens.specs.Stream.{Lexeme}
 use Rattle.st_reading.proofs.ListCompleteness.{Complete}
 use Rattle.st_reading.proofs.ListSoundness.{one_mark}
-use Rattle.st_reading.proofs.Soundness.{taken}
-use Rattle.st_reading.specs.Reading.{gives}
 use Rattle.st_reading.specs.Spelling.{Sound, behind_it}
 use Rattle.st_reading.specs.Steady.{anything}
 use Rattle.st_reading.specs.declared.mark.Mark.TheVariants as marks
@@ -19,7 +17,7 @@ use Rattle.proof_script.specs.Listing.{Setting}
 use Rattle.proof_grammar.specs.Drawings.{IsDrawing, a_drawing}
 use Rattle.proof_grammar.proofs.ItemKinds.{brace}
 use Rattle.proof_grammar.proofs.Items.{items_phrase}
-use Rattle.proof_grammar.proofs.Names.{Known, known, known_phrase}
+use Rattle.proof_grammar.proofs.Names.{known, known_phrase}
 use Rattle.st_reading.proofs.Phrases.{Phrase, as_phrase, map_phrase, the_mark, then_phrase}
 use Rattle.st_reading.proofs.Tokens.{among}
 use Rattle.proof_grammar.proofs.Transitions.{drawn_phrase}

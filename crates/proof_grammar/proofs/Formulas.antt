@@ -4,7 +4,7 @@ use Rattle.std.proofs.lemmas.Bool.Decides.{nat_tests}
 use Rattle.st_reading.specs.Breaches.{Breach}
 use Rattle.st_tokens.specs.Stream.{Lexeme, Stream, ◌++>◌}
 use Rattle.st_reading.proofs.ListCompleteness.{Complete}
-use Rattle.st_reading.specs.Reading.{ahead, place_of, refusal}
+use Rattle.st_reading.specs.Reading.{Read, ahead, place_of, refusal}
 use Rattle.st_reading.specs.Sign.{is}
 use Rattle.st_reading.specs.Spelling.{Cut, Sound}
 use Rattle.st_reading.specs.Steady.{anything}

@@ -1,6 +1,5 @@
 -- The lists of items of a response's rule: read exactly where they are spelled.
 use Rattle.std.proofs.Common.{List, Option, [], arith, refl, true, ℕ, ◌++◌, ◌∷◌, ◌≡◌}
-use Rattle.st_reading.specs.Rule as rules
 use Rattle.st_reading.specs.Breaches.{Breach}
 use Rattle.st_tokens.specs.Stream.{Lexeme, Stream, ◌++>◌}
 use Rattle.st_reading.proofs.ListCompleteness.{Complete}

@@ -1,6 +1,5 @@
 -- The rules of a response, by the token behind "by": read exactly where they are spelled.
 use Rattle.std.proofs.Common.{Bool, List, [], refl, ◌++◌, ◌∷◌}
-use Rattle.st_reading.specs.Rule as rules
 use Rattle.st_reading.specs.Breaches.{Breach}
 use Rattle.st_tokens.specs.Stream.{Lexeme, Stream}
 use Rattle.st_reading.proofs.ListCompleteness.{Complete}

@@ -1,5 +1,5 @@
 -- Steps behind one another, up to the text's end, and the laws of scripts.
-use Rattle.std.proofs.Common.{Err, List, None, Ok, Option, Some, [], ap, refl, suc, sym, zero, ℕ, ◌++◌, ◌∙◌, ◌∷◌, ◌≡◌}
+use Rattle.std.proofs.Common.{List, None, Ok, Option, Some, [], ap, refl, suc, sym, zero, ℕ, ◌++◌, ◌∙◌, ◌∷◌, ◌≡◌}
 use Rattle.st_reading.specs.Breaches.{Breach, alone}
 use Rattle.st_tokens.specs.Stream.{Lexeme, Stream, behind, breaks, ends, more, text_stream, ◌++>◌}
 use Rattle.st_reading.proofs.Chains.{chain_none, chain_of, chain_step}
@@ -7,7 +7,7 @@ use Rattle.st_reading.proofs.ListSoundness.{Given, given}
 use Rattle.st_reading.proofs.Soundness.{Shrinks, chain_sound, sound_shrinks, split, taken, values}
 use Rattle.st_reading.proofs.Steadiness.{bind_ok}
 use Rattle.st_reading.proofs.Streams.{append_stream}
-use Rattle.st_reading.specs.Reading.{Read, Turn, ahead, at_end, chain, gives, goes, leaves, on_operator, place_of, size, then_reads, turned, ◌>>=◌}
+use Rattle.st_reading.specs.Reading.{Turn, ahead, at_end, chain, gives, goes, leaves, on_operator, place_of, size, then_reads, turned, ◌>>=◌}
 use Rattle.st_reading.specs.Sign.{sign_of}
 use Rattle.st_reading.specs.Spelling.{Links, Sound, ended as last_link, left, linked}
 use Rattle.st_reading.specs.Steady.{anything}

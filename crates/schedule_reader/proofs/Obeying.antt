@@ -1,12 +1,12 @@
 -- A schedule that was read obeys its rules, part by part.
-use Rattle.std.proofs.Common.{◌≡◌, ℕ, zero, suc, ◌<◌, ◌≤◌, ◌^◌, Bool, true, false, cond, List, [], ◌∷◌, ◌++◌, length, length-append, map, pos, Option, Some, None, Result, Ok, Err, refl, sym, ap, subst, ◌∙◌, arith}
-use Rattle.std.specs.Prelude.{⊤, ◌==◌, ◌&&◌, not, nat_lt, unsigned_abs, neg_ℤ, slice_get, slice_set, replicate, if◌then◌else◌}
+use Rattle.std.proofs.Common.{◌≡◌, ℕ, zero, suc, ◌<◌, ◌≤◌, ◌^◌, Bool, true, false, cond, List, [], ◌∷◌, ◌++◌, length, length-append, map, pos, Option, Some, None, Ok, Err, refl, sym, ap, subst, ◌∙◌, arith}
+use Rattle.std.specs.Prelude.{⊤, not, nat_lt, unsigned_abs, neg_ℤ, slice_get, slice_set, replicate, if◌then◌else◌}
 use Rattle.std.specs.Option.{option_map, option_and_then}
 use Rattle.std.specs.List.{All}
 use Rattle.std.proofs.lemmas.Bool.Decides.{nat_tests}
 use Rattle.std.proofs.lemmas.List.Elements.{All-push}
 use Rattle.st_linear.proofs.Dividing.{unsigned_abs-neg}
-use Rattle.st_tokens.specs.Stream.{Stream, ends, breaks, more, behind, text_stream}
+use Rattle.st_tokens.specs.Stream.{Stream, behind, text_stream}
 use Rattle.st_reading.specs.declared.mark.Mark.TheVariants as marks
 use Rattle.st_reading.specs.declared.sign.Sign.{Sign}
 use Rattle.st_reading.specs.Sign.{is}
@@ -23,7 +23,7 @@ use Rattle.expression_typer.specs.Naming.{is_text, variable_at, variable_named, 
 use Rattle.st_reading.proofs.Judged.{both, given, allowed, there}
 use Rattle.st_reading.proofs.Numerals.{numeral_small, numeral_within}
 use Rattle.st_reading.specs.Rule as rules
-use Rattle.st_reading.specs.Breaches.{Breach, broke, Reader, present, unless, numeral_in, numeral_of, alone}
+use Rattle.st_reading.specs.Breaches.{Breach, broke, Reader, unless, numeral_in, numeral_of, alone}
 use Rattle.schedule_reader.specs.declared.moving.Opening.{Opening}
 use Rattle.schedule_reader.specs.declared.moving.Opening.TheVariants.{Idling, Label as By, Number as Numbered}
 use Rattle.schedule_reader.specs.Items.{items_from}

@@ -1,5 +1,5 @@
 -- Whole schedules: how they are read, up to the first fault.
-use Rattle.std.specs.Prelude.{◌≡◌, ℕ, cond, List, [], ◌∷◌, length, replicate, ⊤, Option, Some, None, Result, Ok, Err}
+use Rattle.std.specs.Prelude.{ℕ, cond, List, [], ◌∷◌, length, replicate, Option, Some, None, Result}
 use Rattle.std.specs.Option.{option_map, option_and_then}
 use Rattle.st_tokens.specs.Stream.{text_stream}
 use Rattle.st_reading.specs.declared.mark.Mark.TheVariants as marks

@@ -1,5 +1,5 @@
 -- Settings: each gives a variable its value, which it has once.
-use Rattle.std.specs.Prelude.{◌≡◌, ℕ, Bool, true, false, List, slice_get, slice_set, if◌then◌else◌, Option, Some, None, Result, Ok, Err}
+use Rattle.std.specs.Prelude.{ℕ, Bool, true, false, List, slice_get, slice_set, if◌then◌else◌, Option, Some, None, Result, Ok, Err}
 use Rattle.st_reading.specs.declared.mark.Mark.TheVariants as marks
 use Rattle.st_reading.specs.Reading.{◌>>=◌, Stop, other, Label, expected, gives, then_reads}
 use Rattle.st_reading.specs.Rule as rules

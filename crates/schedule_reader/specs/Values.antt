@@ -1,5 +1,5 @@
 -- Values: whole numbers and truth values.
-use Rattle.std.specs.Prelude.{ℕ, ◌≤◌, ◌^◌, Bool, true, false, not, cond, pos, neg_ℤ, unsigned_abs, ⊤, Option, Some, None, Ok, Err}
+use Rattle.std.specs.Prelude.{◌≤◌, ◌^◌, Bool, true, false, not, cond, pos, neg_ℤ, unsigned_abs, ⊤, Option, Some, Ok, Err}
 use Rattle.std.specs.Option.{option_map}
 use Rattle.st_tokens.specs.Stream.{behind}
 use Rattle.st_reading.specs.declared.mark.Mark.TheVariants as marks

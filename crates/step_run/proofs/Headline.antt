@@ -42,7 +42,8 @@ use Rattle.proof_script.specs.Speaking.{ScriptsAreOver}
 use Rattle.st_tokens.specs.declared.kind.TokenFault.{TokenFault}
 use Rattle.st_tokens.specs.declared.kind.TokenFault.TheVariants as tokens
 use Rattle.st_reading.specs.Reading.{Stop, syntax, broken, other}
-use Rattle.st_reading.specs.Breaches.{Breach, broke, limited as over, crowded, unformed}
+use Rattle.st_reading.specs.Breaches as breaches
+use Rattle.st_reading.specs.Breaches.{Breach, broke, crowded, unformed}
 use Rattle.cert_text.specs.Blank.{first_place, past_blanks}
 use Rattle.cert_text.specs.Held.{Held}
 use Rattle.block_laws.specs.Checked.{Checked, all_valid, refused, whole_text, checked_from}
@@ -94,7 +95,7 @@ pub text_not : (status : Status) (role : FileRole) → (status ≡ Proved → �
 text_not status role never (syntax place) e = never e
 text_not status role never (broken f) e = token_not status role never f e
 text_not status role never (other (broke rule place)) e = never e
-text_not status role never (other (over kind place)) e = cc
+text_not status role never (other (breaches.limited kind place)) e = cc
 text_not status role never (other (crowded place)) e = cc
 text_not status role never (other (unformed place)) e = never e
 

@@ -24,7 +24,8 @@ use Rattle.expression_typer.proofs.Fits.{Compared, IsWord, fits_word, sum_word, 
 use Rattle.expression_typer.proofs.Numerals.{numeral_word, variable_word}
 use Rattle.expression_typer.specs.Naming.{NamesOver}
 use Rattle.assertions.specs.Over.{FormulaOver, FormulasOver}
-use Rattle.assertions.specs.Reading.{Answer, truth_of, number_of, before, typed_behind}
+use Rattle.st_reading.specs.Breaches.{Breach}
+use Rattle.assertions.specs.Reading.{truth_of, number_of, before, typed_behind}
 use Rattle.expression_typer.proofs.Terms.{either}
 
 module _ (vs : List Variable) (locations : ℕ) where
@@ -110,7 +111,7 @@ module _ (vs : List Variable) (locations : ℕ) where
         go (Ok (number f)) h = fits_word vs f h
         go (Err f) h = tt
 
-  abbrev value_or : {A : Type 0} → A → Answer A → A
+  abbrev value_or : {A : Type 0} → A → Read Breach A → A
   value_or y (Ok x) = x.0
   value_or y (Err f) = y
 

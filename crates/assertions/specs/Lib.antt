@@ -2,3 +2,4 @@ pub mod Faults
 pub mod Reading
 pub mod Named
 pub mod Over
+pub mod Labels

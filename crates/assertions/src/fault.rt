@@ -38,10 +38,9 @@ pub enum FormFault {
 }
 
 impl From<ParseFault> for FormFault {
-    ghost use Rattle.std.specs.Prelude.{◌≡◌};
-    ghost use Rattle.assertions.specs.Faults.{from_parsing};
+    ghost use Rattle.assertions.specs.Faults.{IsSeen};
 
-    ghost from_gives = { λ e fault. fault ≡ from_parsing e };
+    ghost from_gives = { IsSeen };
 
     fn from(fault: ParseFault) -> Self {
         match fault {

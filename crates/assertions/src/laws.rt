@@ -3,7 +3,8 @@
 ghost use Rattle.assertions.specs.Named.{FormFaultsAreNamed, LinearFaultsAreNamed};
 ghost use Rattle.assertions.specs.Over.{FormsAreOver, LinearsAreOver};
 
-/// An expression breaks none of the rules of declarations and statements: each fault of a formula is one of `FormFault`.
+/// An expression breaks none of the rules of declarations and statements: each fault of a formula is one of `FormFault`, and
+/// none is want of memory.
 pub fn form_faults_are_named()
     ensures { FormFaultsAreNamed }
 {}

@@ -3,10 +3,12 @@
 #![tactic(auto)]
 
 mod fault;
+mod labels;
 pub mod laws;
 mod names;
 mod reading;
 
 pub use fault::FormFault;
+pub use labels::{labelled, part_named};
 pub use names::text_of;
 pub use reading::{read_form, read_linear};

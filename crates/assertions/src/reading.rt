@@ -7,7 +7,9 @@
 ghost use Rattle.st_form.specs.Plain.{plain};
 ghost use Rattle.st_tokens.specs.Stream.{stream};
 ghost use Rattle.expression_typer.specs.Naming.{names_of};
-ghost use Rattle.assertions.specs.Reading.{Answers, form_of, linear_of};
+ghost use Rattle.st_reading.specs.Reading.{Reads};
+ghost use Rattle.assertions.specs.Faults.{see};
+ghost use Rattle.assertions.specs.Reading.{form_of, linear_of};
 
 use crate::fault::FormFault;
 use crate::names::Table;
@@ -31,7 +33,7 @@ pub fn read_form(
     tokens: &mut Tokens<'_>,
     names: &NameTable,
 ) -> Result<Form, FormFault>
-    ensures { Answers plain result (stream tokens.new) (form_of (names_of names.now) (stream tokens.old)) }
+    ensures { Reads see plain result (stream tokens.new) (form_of (names_of names.now) (stream tokens.old)) }
 {
     let formula = expression(alloc, true, LEVELS, tokens)?;
     let value = typed_by(alloc, &Table { names }, &formula)?;
@@ -46,7 +48,7 @@ pub fn read_linear(
     tokens: &mut Tokens<'_>,
     names: &NameTable,
 ) -> Result<Lin, FormFault>
-    ensures { Answers (λ f. f) result (stream tokens.new) (linear_of (names_of names.now) (stream tokens.old)) }
+    ensures { Reads see (λ f. f) result (stream tokens.new) (linear_of (names_of names.now) (stream tokens.old)) }
 {
     let sum = sum(alloc, true, LEVELS, tokens)?;
     let value = typed_by(alloc, &Table { names }, &sum)?;

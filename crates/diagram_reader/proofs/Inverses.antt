@@ -4,35 +4,11 @@ use Rattle.st_tokens.specs.Stream.{Stream, behind}
 use Rattle.st_reading.specs.declared.mark.Mark.{Mark}
 use Rattle.st_reading.specs.declared.sign.Sign.{Sign}
 use Rattle.st_reading.specs.Reading.{Stop, other, Read, ◌>>=◌, ahead, place_of, Turn, leaves, goes, turned, on_operator, chain, gives, only, listing, further, size}
-use Rattle.diagram_reader.specs.declared.fault.DiagramFault.{DiagramFault}
-use Rattle.diagram_reader.specs.Transitions.{present}
-use Rattle.diagram_reader.specs.Drawing.{unless}
+use Rattle.st_reading.specs.Breaches.{Breach}
+use Rattle.st_reading.proofs.Judged.{both, given}
 
 abbrev pub going : {B S : Type 0} → S → Turn B S
 going x = goes x
-
-module _ {E A B : Type 0} where
-  -- both parts went through
-  pub record Both (r : Result A E) (q : A → Result B E) (y : B) : Type 0 where
-    pub value : A
-    pub first : r ≡ Ok value
-    pub second : q value ≡ Ok y
-
-  pub both : (r : Result A E) (q : A → Result B E) (y : B) → (r >>= q) ≡ Ok y → Both r q y
-  both (Ok x) q y h = record { value = x; first = refl; second = h }
-  both (Err e) q y h = absurd cc
-
-module _ {A : Type 0} where
-  pub given : (x y : A) (s rest : Stream) → gives {X = DiagramFault} x s ≡ Ok (y, rest) → x ≡ y
-  given x y s rest h = let e : (x, s) ≡ (y, rest) = cc in ap (λ (p : A × Stream). p.0) e
-
-  pub allowed : (broken : Bool) (fault : DiagramFault) (x y : A) (s rest : Stream) → unless broken fault x s ≡ Ok (y, rest) → (broken ≡ false) × (x ≡ y)
-  allowed true fault x y s rest h = absurd cc
-  allowed false fault x y s rest h = (refl, given x y s rest h)
-
-  pub there : (fault : DiagramFault) (o : Option A) (y : A) (s rest : Stream) → present fault o s ≡ Ok (y, rest) → o ≡ Some y
-  there fault None y s rest h = absurd cc
-  there fault (Some x) y s rest h = ap Some (given x y s rest h)
 
 -- What holds of what a chain has read at first, and goes on to hold, holds at its end.
 module _ {X O B S : Type 0} (op : Sign → Option O) (turn : O → ℕ → S → Stream → Read X (Turn B S)) (finish : S → Stream → Read X B) (P : S → Type 0) (Q : B → Type 0)
@@ -58,21 +34,21 @@ module _ {X O B S : Type 0} (op : Sign → Option O) (turn : O → ℕ → S →
   chain_keeps (suc k) x s y rest p h = at_operator k (λ z m w end q e. chain_keeps k z m w end q e) (op (ahead s)) x s y rest p h
 
 -- What holds of a list at first, and of each further item, holds of the whole list.
-module _ {A : Type 0} (mark : Mark) (r : Stream → Read DiagramFault A) (P : List A → Type 0) (keeps : (x : A) (xs : List A) (s rest : Stream) → r s ≡ Ok (x, rest) → P xs → P (xs ++ x ∷ [])) where
-  pushed : (o : Unit {0}) (place : ℕ) (xs ys : List A) (s rest : Stream) → P xs → listing {X = DiagramFault} {B = List A} r o place xs s ≡ Ok (goes ys, rest) → P ys
+module _ {A : Type 0} (mark : Mark) (r : Stream → Read Breach A) (P : List A → Type 0) (keeps : (x : A) (xs : List A) (s rest : Stream) → r s ≡ Ok (x, rest) → P xs → P (xs ++ x ∷ [])) where
+  pushed : (o : Unit {0}) (place : ℕ) (xs ys : List A) (s rest : Stream) → P xs → listing {X = Breach} {B = List A} r o place xs s ≡ Ok (goes ys, rest) → P ys
   pushed o place xs ys s rest p h =
-      let b = both (r s) (λ x. gives {X = DiagramFault} (going {B = List A} (xs ++ x.0 ∷ [])) x.1) (goes ys, rest) h in
+      let b = both (r s) (λ x. gives {X = Breach} (going {B = List A} (xs ++ x.0 ∷ [])) x.1) (goes ys, rest) h in
       let e : going {B = List A} (xs ++ b.value.0 ∷ []) ≡ goes ys = given (going {B = List A} (xs ++ b.value.0 ∷ [])) (goes ys) b.value.1 rest b.second in
       let i : xs ++ b.value.0 ∷ [] ≡ ys = cc in
       rw (← i) (keeps b.value.0 xs s b.value.1 b.first p)
 
-  never : (o : Unit {0}) (place : ℕ) (xs ys : List A) (s rest : Stream) → P xs → listing {X = DiagramFault} {B = List A} r o place xs s ≡ Ok (leaves ys, rest) → P ys
+  never : (o : Unit {0}) (place : ℕ) (xs ys : List A) (s rest : Stream) → P xs → listing {X = Breach} {B = List A} r o place xs s ≡ Ok (leaves ys, rest) → P ys
   never o place xs ys s rest p h =
-      let b = both (r s) (λ x. gives {X = DiagramFault} (going {B = List A} (xs ++ x.0 ∷ [])) x.1) (leaves ys, rest) h in
+      let b = both (r s) (λ x. gives {X = Breach} (going {B = List A} (xs ++ x.0 ∷ [])) x.1) (leaves ys, rest) h in
       let e : going {B = List A} (xs ++ b.value.0 ∷ []) ≡ leaves ys = given (going {B = List A} (xs ++ b.value.0 ∷ [])) (leaves ys) b.value.1 rest b.second in
       absurd cc
 
-  ended : (xs ys : List A) (s rest : Stream) → P xs → gives {X = DiagramFault} xs s ≡ Ok (ys, rest) → P ys
+  ended : (xs ys : List A) (s rest : Stream) → P xs → gives {X = Breach} xs s ≡ Ok (ys, rest) → P ys
   ended xs ys s rest p h = rw (← given xs ys s rest h) p
 
   pub further_keeps : (xs ys : List A) (s rest : Stream) → P xs → further mark r xs s ≡ Ok (ys, rest) → P ys

@@ -1,4 +1,3 @@
-pub mod Refusals
 pub mod Numbering
 pub mod Justice
 pub mod Shrinking

@@ -6,6 +6,7 @@ use Rattle.std.proofs.lemmas.Bool.Decides.{nat_tests}
 use Rattle.std.proofs.lemmas.List.Folds.{list_any-append}
 use Rattle.std.proofs.lemmas.List.Elements.{All-nil, All-push}
 use Rattle.st_tokens.specs.Stream.{Stream, behind}
+use Rattle.st_reading.proofs.Judged.{both, given, allowed, there}
 use Rattle.st_reading.specs.declared.mark.Mark.TheVariants as marks
 use Rattle.st_reading.specs.Sign.{is}
 use Rattle.st_reading.specs.Reading.{other, ahead, expected, named, gives, then_reads, leaves, goes, size}
@@ -21,15 +22,17 @@ use Rattle.observations.specs.declared.Fairness.{Fairness}
 use Rattle.observations.specs.declared.Fairness.TheVariants.{Unfair, Just, Compassionate}
 use Rattle.observations.specs.Observation.{IsJust}
 use Rattle.rule_fits.specs.Fitting.{fairness_of}
-use Rattle.diagram_reader.specs.declared.fault.DiagramFault.{DiagramFault}
-use Rattle.diagram_reader.specs.declared.fault.DiagramFault.TheVariants as faults
+use Rattle.st_tokens.specs.declared.limit.LimitKind.TheVariants as limits
+use Rattle.st_reading.specs.Rule as rules
+use Rattle.st_reading.specs.Breaches.{Breach, broke, limited, unless, present, numeral_of}
 use Rattle.diagram_reader.specs.declared.item.Item.{Item}
 use Rattle.diagram_reader.specs.declared.item.Item.TheVariants as items
-use Rattle.diagram_reader.specs.Transitions.{part_of, owes_justice, is_just, is_step, number_of, statement_labelled, transition_named, transition_of}
+use Rattle.diagram_reader.specs.Transitions.{part_of, owes_justice, is_just, is_step, number_of, transition_named, transition_of}
+use Rattle.assertions.specs.Labels.{labelled}
 use Rattle.diagram_reader.specs.Drawn.{Setting, Drawing, nothing_drawn, with_terminal, with_node, with_edge, diagram_with, is_known, is_above, is_upward, has_ranks, has_helpers}
-use Rattle.diagram_reader.specs.Drawing.{item_in, unless, numeral_of, formula_of, sum_of, rank_of, just_of, helper_of, new_number_of, numbered_node_of, node_of, known_of, transition_number_of, numbers_of, edge_of, terminal_of, item_of, turn_of, items_of, closed_of, drawing_of}
+use Rattle.diagram_reader.specs.Drawing.{item_in, formula_of, sum_of, rank_of, just_of, helper_of, new_number_of, numbered_node_of, node_of, known_of, transition_number_of, numbers_of, edge_of, terminal_of, item_of, turn_of, items_of, closed_of, drawing_of}
 use Rattle.diagram_reader.specs.Obeying.{NumberFits, RankFits, HelperFits, NodeObeys, is_numbered, AreApart, Descends, EdgeObeys, Obeys}
-use Rattle.diagram_reader.proofs.Inverses.{going, both, given, allowed, there, chain_keeps, further_keeps}
+use Rattle.diagram_reader.proofs.Inverses.{going, chain_keeps, further_keeps}
 use Rattle.basic_laws.proofs.Numbers.{is_zero, less, not_less}
 use Rattle.basic_laws.proofs.Truths.{not_false}
 
@@ -76,7 +79,7 @@ number_in_range occ part (t ∷ ts) n h = at_test (is_step occ part t.name) (num
     at_test false (Some m) low h = let e : suc m ≡ n = cc in let k = low m refl in omega (arith, e, k)
 
 named_in_range : (names : Names) (system : System) (label : List ℕ) (part : Part) (n : ℕ) → transition_named names system label part ≡ Some n → n < length system.transitions
-named_in_range names system label part n h = at_statement (statement_labelled names label) h
+named_in_range names system label part n h = at_statement (labelled names label) h
   where
     at_statement : (o : Option ℕ) → option_and_then (λ occ. number_of occ part system.transitions) o ≡ Some n → n < length system.transitions
     at_statement None h = absurd cc
@@ -89,10 +92,10 @@ mapped_some f (Some x) y h = (x, refl, cc)
 transition_in_range : (names : Names) (system : System) (s : Stream) (t : ℕ × ℕ) (rest : Stream) → transition_of names system s ≡ Ok (t, rest) → t.0 < length system.transitions
 unfolding transition_of
 transition_in_range names system s t rest h =
-    let a = both (named {X = DiagramFault} s) _ (t, rest) h in
+    let a = both (named {X = Breach} s) _ (t, rest) h in
     let b = both (part_of a.value.1) _ (t, rest) a.second in
     let o = option_map (λ (n : ℕ). (n, a.value.0.place)) (transition_named names system a.value.0.text b.value.0) in
-    let found = mapped_some (λ (n : ℕ). (n, a.value.0.place)) (transition_named names system a.value.0.text b.value.0) t (there (faults.UnknownTransition a.value.0.place) o t b.value.1 rest b.second) in
+    let found = mapped_some (λ (n : ℕ). (n, a.value.0.place)) (transition_named names system a.value.0.text b.value.0) t (there (broke rules.UnknownTransition a.value.0.place) o t b.value.1 rest b.second) in
     let e : found.0 ≡ t.0 = ap (λ (p : ℕ × ℕ). p.0) found.2 in
     subst (λ n. n < length system.transitions) e (named_in_range names system a.value.0.text b.value.0 found.0 found.1)
 
@@ -120,13 +123,13 @@ module _ (g : Setting) where
       at_kind : (k : DiagramKind) → cond (has_ranks k) (then_reads (expected marks.Rank) (λ m. then_reads (sum_of g) (λ f. gives (Some f))) s) (Ok (None, s)) ≡ Ok (r, rest) → RankFits k r
       at_kind Wait h = sym (given None r s rest h)
       at_kind Chain h = sym (given None r s rest h)
-      at_kind Rank h = let a = both (expected {X = DiagramFault} marks.Rank s) _ (r, rest) h in let b = both (sum_of g a.value.1) _ (r, rest) a.second in (b.value.0, sym (given (Some b.value.0) r b.value.1 rest b.second))
+      at_kind Rank h = let a = both (expected {X = Breach} marks.Rank s) _ (r, rest) h in let b = both (sum_of g a.value.1) _ (r, rest) a.second in (b.value.0, sym (given (Some b.value.0) r b.value.1 rest b.second))
 
   just_fits : (s : Stream) (h : ℕ) (rest : Stream) → just_of g s ≡ Ok (h, rest) → IsJust (fairness_of g.system) h
   unfolding just_of
   just_fits s h rest e =
       let a = both (transition_of g.names g.system s) _ (h, rest) e in
-      let b = allowed (not (is_just g.system a.value.0.0)) (faults.UnfairHelper a.value.0.1) a.value.0.0 h a.value.1 rest a.second in
+      let b = allowed (not (is_just g.system a.value.0.0)) (broke rules.UnfairHelper a.value.0.1) a.value.0.0 h a.value.1 rest a.second in
       subst (λ n. IsJust (fairness_of g.system) n) b.1 (just_is (slice_get (fairness_of g.system) a.value.0.0) (not_false (is_just g.system a.value.0.0) b.0))
 
   helper_fits : (s : Stream) (h : Option ℕ) (rest : Stream) → helper_of g s ≡ Ok (h, rest) → (has_helpers g.kind && is_none h) ≡ false → HelperFits g.kind g.system h
@@ -153,9 +156,9 @@ module _ (g : Setting) where
   unfolding new_number_of
   number_read nodes s n rest h =
       let a = both (numeral_of s) _ (n, rest) h in
-      let b = both (unless (is_known a.value.0.0 nodes) (faults.Twice a.value.0.1) a.value.0 a.value.1) _ (n, rest) a.second in
-      let c = allowed (is_known a.value.0.0 nodes) (faults.Twice a.value.0.1) a.value.0 b.value.0 a.value.1 b.value.1 b.first in
-      let d = allowed (is_above g.kind g.levels b.value.0.0) (faults.UnknownNode b.value.0.1) b.value.0 n b.value.1 rest b.second in
+      let b = both (unless (is_known a.value.0.0 nodes) (broke rules.Twice a.value.0.1) a.value.0 a.value.1) _ (n, rest) a.second in
+      let c = allowed (is_known a.value.0.0 nodes) (broke rules.Twice a.value.0.1) a.value.0 b.value.0 a.value.1 b.value.1 b.first in
+      let d = allowed (is_above g.kind g.levels b.value.0.0) (broke rules.UnknownNode b.value.0.1) b.value.0 n b.value.1 rest b.second in
       let e : a.value.0 ≡ n = c.1 ∙ d.1 in
       (subst (λ (m : ℕ × ℕ). is_known m.0 nodes ≡ false) e c.0, subst (λ (m : ℕ × ℕ). is_above g.kind g.levels m.0 ≡ false) d.1 d.0)
 
@@ -163,13 +166,13 @@ module _ (g : Setting) where
   unfolding numbered_node_of
   numbered_node_read nodes s n rest h =
       let a = both (new_number_of g nodes s) _ (n, rest) h in
-      let b = both (expected {X = DiagramFault} marks.Colon a.value.1) _ (n, rest) a.second in
+      let b = both (expected {X = Breach} marks.Colon a.value.1) _ (n, rest) a.second in
       let c = both (formula_of g b.value.1) _ (n, rest) b.second in
       let d = both (rank_of g c.value.1) _ (n, rest) c.second in
       let e = both (helper_of g d.value.1) _ (n, rest) d.second in
-      let f = both (expected {X = DiagramFault} marks.Semicolon e.value.1) _ (n, rest) e.second in
+      let f = both (expected {X = Breach} marks.Semicolon e.value.1) _ (n, rest) e.second in
       let made : PlainDrawnNode = record { number = a.value.0.0; form = c.value.0; rank = d.value.0; helper = e.value.0 } in
-      let z = allowed (has_helpers g.kind && is_none e.value.0) (faults.NoHelper a.value.0.1) made n f.value.1 rest f.second in
+      let z = allowed (has_helpers g.kind && is_none e.value.0) (broke rules.NoHelper a.value.0.1) made n f.value.1 rest f.second in
       let fresh = number_read nodes s a.value.0 a.value.1 a.first in
       let read : NodeRead nodes made =
       record {
@@ -190,7 +193,7 @@ module _ (g : Setting) where
   unfolding node_of
   node_read place nodes s n rest h = at_test (nat_lt (length nodes) 64) refl h
     where
-      at_test : (b : Bool) → b ≡ nat_lt (length nodes) 64 → cond b (numbered_node_of g nodes s) (Err (other (faults.Nodes place))) ≡ Ok (n, rest) → (length nodes < 64) × NodeRead nodes n
+      at_test : (b : Bool) → b ≡ nat_lt (length nodes) 64 → cond b (numbered_node_of g nodes s) (Err (other (limited limits.Nodes place))) ≡ Ok (n, rest) → (length nodes < 64) × NodeRead nodes n
       at_test true e h = (less (length nodes) 64 (sym e), numbered_node_read nodes s n rest h)
       at_test false e h = absurd cc
 
@@ -198,7 +201,7 @@ module _ (g : Setting) where
   unfolding known_of
   known_read nodes s n rest h =
       let a = both (numeral_of s) _ (n, rest) h in
-      let b = allowed (not (is_known a.value.0.0 nodes)) (faults.UnknownNode a.value.0.1) a.value.0.0 n a.value.1 rest a.second in
+      let b = allowed (not (is_known a.value.0.0 nodes)) (broke rules.UnknownNode a.value.0.1) a.value.0.0 n a.value.1 rest a.second in
       subst (λ m. is_known m nodes ≡ true) b.1 (not_false (is_known a.value.0.0 nodes) b.0)
 
   transition_number_read : (s : Stream) (n : ℕ) (rest : Stream) → transition_number_of g s ≡ Ok (n, rest) → n < length g.system.transitions
@@ -227,13 +230,13 @@ module _ (g : Setting) where
   unfolding edge_of
   edge_read place nodes s x rest h =
       let a = both (known_of nodes s) _ (x, rest) h in
-      let b = both (expected {X = DiagramFault} marks.Implies a.value.1) _ (x, rest) a.second in
+      let b = both (expected {X = Breach} marks.Implies a.value.1) _ (x, rest) a.second in
       let c = both (known_of nodes b.value.1) _ (x, rest) b.second in
-      let d = both (unless (is_upward g.kind a.value.0 c.value.0) (faults.Upward place) c.value.0 c.value.1) _ (x, rest) c.second in
-      let e = both (expected {X = DiagramFault} marks.On d.value.1) _ (x, rest) d.second in
+      let d = both (unless (is_upward g.kind a.value.0 c.value.0) (broke rules.Upward place) c.value.0 c.value.1) _ (x, rest) c.second in
+      let e = both (expected {X = Breach} marks.On d.value.1) _ (x, rest) d.second in
       let f = both (numbers_of g e.value.1) _ (x, rest) e.second in
-      let z = both (expected {X = DiagramFault} marks.Semicolon f.value.1) _ (x, rest) f.second in
-      let up = allowed (is_upward g.kind a.value.0 c.value.0) (faults.Upward place) c.value.0 d.value.0 c.value.1 d.value.1 d.first in
+      let z = both (expected {X = Breach} marks.Semicolon f.value.1) _ (x, rest) f.second in
+      let up = allowed (is_upward g.kind a.value.0 c.value.0) (broke rules.Upward place) c.value.0 d.value.0 c.value.1 d.value.1 d.first in
       let made : PlainEdge = record { from = a.value.0; to = d.value.0; on = f.value.0 } in
       let from = known_read nodes s a.value.0 a.value.1 a.first in
       let to = known_read nodes b.value.1 c.value.0 c.value.1 c.first in
@@ -304,7 +307,7 @@ module _ (g : Setting) where
         let same : going {B = Drawing} a.value.0 ≡ leaves e = given (going {B = Drawing} a.value.0) (leaves e) a.value.1 rest a.second in
         absurd cc
 
-    all_drawn : (d e : Drawing) (s rest : Stream) → P d → gives {X = DiagramFault} d s ≡ Ok (e, rest) → P e
+    all_drawn : (d e : Drawing) (s rest : Stream) → P d → gives {X = Breach} d s ≡ Ok (e, rest) → P e
     all_drawn d e s rest p h = subst P (given d e s rest h) p
 
     items_keep : (d e : Drawing) (s rest : Stream) → P d → items_of g d s ≡ Ok (e, rest) → P e
@@ -314,11 +317,11 @@ module _ (g : Setting) where
     pub drawn : (s : Stream) (x : PlainDiagram) (rest : Stream) → P nothing_drawn → drawing_of g s ≡ Ok (x, rest) → (d : Drawing) × (f : Formula) × P d × (d.terminal ≡ Some f) × (diagram_with g.kind d f ≡ x)
     unfolding drawing_of closed_of
     drawn s x rest p h =
-        let a = both (expected {X = DiagramFault} marks.OpenBrace s) _ (x, rest) h in
+        let a = both (expected {X = Breach} marks.OpenBrace s) _ (x, rest) h in
         let b = both (items_of g nothing_drawn a.value.1) _ (x, rest) a.second in
-        let c = both (expected {X = DiagramFault} marks.CloseBrace b.value.1) _ (x, rest) b.second in
+        let c = both (expected {X = Breach} marks.CloseBrace b.value.1) _ (x, rest) b.second in
         let o = option_map (diagram_with g.kind b.value.0) b.value.0.terminal in
-        let m = mapped_some (diagram_with g.kind b.value.0) b.value.0.terminal x (there (faults.NoTerminal c.value.0) o x c.value.1 rest c.second) in
+        let m = mapped_some (diagram_with g.kind b.value.0) b.value.0.terminal x (there (broke rules.NoTerminal c.value.0) o x c.value.1 rest c.second) in
         (b.value.0, m.0, items_keep nothing_drawn b.value.0 a.value.1 b.value.1 p b.first, m.1, m.2)
 
   pub diagram_obeys : (s : Stream) (x : PlainDiagram) (rest : Stream) → drawing_of g s ≡ Ok (x, rest) → Obeys g.kind g.levels g.system x

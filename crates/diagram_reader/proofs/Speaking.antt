@@ -2,6 +2,7 @@
 use Rattle.std.proofs.Common.{◌≡◌, ◌≢◌, ℕ, zero, suc, ◌^◌, ◌<◌, ◌≤◌, true, false, cond, All, List, [], ◌∷◌, ◌++◌, length, Option, Some, None, Ok, Err, refl, sym, ap, subst, ◌∙◌, arith}
 use Rattle.std.proofs.lemmas.List.Elements.{All-nil, All-push, All-head, All-tail}
 use Rattle.st_tokens.specs.Stream.{Stream}
+use Rattle.st_reading.proofs.Judged.{both, given}
 use Rattle.st_reading.specs.declared.mark.Mark.TheVariants as marks
 use Rattle.st_reading.specs.Reading.{Read, then_reads, expected, gives}
 use Rattle.st_linear.specs.Linear.{Linear}
@@ -17,19 +18,18 @@ use Rattle.rule_fits.specs.Fitting.{DrawnFits, DrawnNodesFit, LevelsExist}
 use Rattle.expression_typer.specs.Naming.{names_of}
 use Rattle.expression_typer.specs.Naming.{NamesOver}
 use Rattle.assertions.specs.Over.{FormulaOver}
-use Rattle.assertions.specs.Reading.{Answer, form_of, linear_of}
+use Rattle.assertions.specs.Reading.{form_of, linear_of}
 use Rattle.assertions.proofs.Over.{form_over, linear_over}
 use Rattle.diagram_reader.specs.declared.item.Item.{Item}
 use Rattle.diagram_reader.specs.declared.item.Item.TheVariants as items
-use Rattle.diagram_reader.specs.declared.fault.DiagramFault.{DiagramFault}
+use Rattle.st_reading.specs.Breaches.{Breach}
 use Rattle.diagram_reader.specs.Faults.{unit_of}
 use Rattle.diagram_reader.specs.Drawn.{Setting, Drawing, nothing_drawn, with_terminal, with_node, with_edge, diagram_with, has_ranks}
 use Rattle.diagram_reader.specs.Drawing.{formula_of, sum_of, rank_of, node_of, edge_of, terminal_of, item_of, drawing_of}
 use Rattle.diagram_reader.specs.Obeying.{NumberFits, HelperFits, NodeObeys, Obeys, RankOver, NodeOver, DiagramOver}
-use Rattle.diagram_reader.proofs.Inverses.{both, given}
 use Rattle.diagram_reader.proofs.Obeying.{NodeRead, node_read, drawn, diagram_obeys}
 
-pub unit_is : {A : Type 0} (a : Answer A) (x : A) (rest : Stream) → unit_of a ≡ Ok (x, rest) → a ≡ Ok (x, rest)
+pub unit_is : {A : Type 0} (a : Read Breach A) (x : A) (rest : Stream) → unit_of a ≡ Ok (x, rest) → a ≡ Ok (x, rest)
 unit_is (Ok y) x rest h = cc
 unit_is (Err f) x rest h = absurd cc
 
@@ -50,7 +50,7 @@ module _ (vs : List Variable) (locations : ℕ) (g : Setting) (over : NamesOver 
       at_kind Wait h = subst (RankOver vs) (given None r s rest h) tt
       at_kind Chain h = subst (RankOver vs) (given None r s rest h) tt
       at_kind Rank h =
-          let a = both (expected {X = DiagramFault} marks.Rank s) _ (r, rest) h in
+          let a = both (expected {X = Breach} marks.Rank s) _ (r, rest) h in
           let b = both (sum_of g a.value.1) _ (r, rest) a.second in
           subst (RankOver vs) (given (Some b.value.0) r b.value.1 rest b.second) (sum_over a.value.1 b.value.0 b.value.1 b.first)
 
@@ -66,9 +66,9 @@ module _ (vs : List Variable) (locations : ℕ) (g : Setting) (over : NamesOver 
   unfolding terminal_of
   terminal_over place (Some e) s f rest h = absurd cc
   terminal_over place None s f rest h =
-      let a = both (expected {X = DiagramFault} marks.Colon s) _ (f, rest) h in
+      let a = both (expected {X = Breach} marks.Colon s) _ (f, rest) h in
       let b = both (formula_of g a.value.1) _ (f, rest) a.second in
-      let c = both (expected {X = DiagramFault} marks.Semicolon b.value.1) _ (f, rest) b.second in
+      let c = both (expected {X = Breach} marks.Semicolon b.value.1) _ (f, rest) b.second in
       subst (FormulaOver vs locations) (given b.value.0 f c.value.1 rest c.second) (formula_over a.value.1 b.value.0 b.value.1 b.first)
 
   node_over : (nodes : List PlainDrawnNode) (n : PlainDrawnNode) → NodeRead g nodes n → NodeOver vs locations n

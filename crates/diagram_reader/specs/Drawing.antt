@@ -2,12 +2,14 @@
 -- refused decides; a fault of a rule is named where the rule is broken, and found where the token is read that breaks it.
 use Rattle.std.specs.Prelude.{ℕ, Bool, true, false, not, cond, ◌&&◌, nat_lt, List, [], ◌∷◌, length, Option, Some, None, is_some, is_none, Ok, Err}
 use Rattle.std.specs.Option.{option_map}
-use Rattle.st_tokens.specs.Stream.{Stream, behind}
+use Rattle.st_tokens.specs.Stream.{behind}
 use Rattle.st_reading.specs.declared.mark.Mark.TheVariants as marks
 use Rattle.st_reading.specs.declared.sign.Sign.{Sign}
-use Rattle.st_reading.specs.declared.sign.Sign.TheVariants as signs
 use Rattle.st_reading.specs.Sign.{is}
-use Rattle.st_reading.specs.Reading.{Read, other, ahead, place_of, refusal, expected, gives, then_reads, goes, on_operator, chain, size, further, Turn}
+use Rattle.st_tokens.specs.declared.limit.LimitKind.TheVariants as limits
+use Rattle.st_reading.specs.Reading.{other, ahead, expected, gives, then_reads, goes, chain, size, further, Turn}
+use Rattle.st_reading.specs.Rule as rules
+use Rattle.st_reading.specs.Breaches.{broke, limited, Reader, unless, present, numeral_of}
 use Rattle.st_linear.specs.Linear.{Linear}
 use Rattle.st_form.specs.Formula.{Formula}
 use Rattle.st_program.specs.Names.{Names}
@@ -16,28 +18,11 @@ use Rattle.temporal_goals.specs.Texts.{PlainDrawnNode, PlainEdge, PlainDiagram}
 use Rattle.temporal_goals.specs.declared.diagrams.DiagramKind.{DiagramKind}
 use Rattle.expression_typer.specs.Naming.{names_of}
 use Rattle.assertions.specs.Reading.{form_of, linear_of}
-use Rattle.diagram_reader.specs.declared.fault.DiagramFault.{DiagramFault}
-use Rattle.diagram_reader.specs.declared.fault.DiagramFault.TheVariants as faults
 use Rattle.diagram_reader.specs.declared.item.Item.{Item}
 use Rattle.diagram_reader.specs.declared.item.Item.TheVariants as items
 use Rattle.diagram_reader.specs.Faults.{unit_of}
-use Rattle.diagram_reader.specs.Transitions.{is_just, present, transition_of}
+use Rattle.diagram_reader.specs.Transitions.{is_just, transition_of}
 use Rattle.diagram_reader.specs.Drawn.{Setting, Drawing, nothing_drawn, with_terminal, with_node, with_edge, diagram_with, is_known, is_above, is_upward, has_ranks, has_helpers}
-
-abbrev pub Reader : Type 0 → Type 0
-Reader A = Stream → Read DiagramFault A
-
--- the value, unless it breaks a rule
-abbrev pub unless : {A : Type 0} → Bool → DiagramFault → A → Reader A
-unless broken fault x s = cond broken (Err (other fault)) (Ok (x, s))
-
-abbrev pub numeral_in : Sign → Option ℕ
-numeral_in (signs.Numeral n) = Some n
-numeral_in _ = None
-
--- numeral: its value and its place
-unfoldable pub numeral_of : Reader (ℕ × ℕ)
-numeral_of s = on_operator (numeral_in (ahead s)) (Err (refusal s)) (λ n. Ok ((n, place_of s), behind s))
 
 -- what an item of a drawing begins with
 abbrev pub item_in : Sign → Option Item
@@ -45,7 +30,7 @@ item_in g = cond (is g marks.Terminal) (Some items.Terminal) (cond (is g marks.N
 
 -- the number of a known node
 unfoldable pub known_of : List PlainDrawnNode → Reader ℕ
-known_of nodes s = then_reads numeral_of (λ n. unless (not (is_known n.0 nodes)) (faults.UnknownNode n.1) n.0) s
+known_of nodes s = then_reads numeral_of (λ n. unless (not (is_known n.0 nodes)) (broke rules.UnknownNode n.1) n.0) s
 
 module _ (g : Setting) where
   -- a formula, and an integer expression, over the program's names
@@ -58,7 +43,7 @@ module _ (g : Setting) where
   -- the number of a new node, and its place
   unfoldable pub new_number_of : List PlainDrawnNode → Reader (ℕ × ℕ)
   new_number_of nodes s =
-      then_reads numeral_of (λ n. then_reads (unless (is_known n.0 nodes) (faults.Twice n.1) n) (λ n. unless (is_above g.kind g.levels n.0) (faults.UnknownNode n.1) n)) s
+      then_reads numeral_of (λ n. then_reads (unless (is_known n.0 nodes) (broke rules.Twice n.1) n) (λ n. unless (is_above g.kind g.levels n.0) (broke rules.UnknownNode n.1) n)) s
 
   -- "rank" sum, in a rank diagram
   unfoldable pub rank_of : Reader (Option Linear)
@@ -66,7 +51,7 @@ module _ (g : Setting) where
 
   -- trans: a just transition
   unfoldable pub just_of : Reader ℕ
-  just_of s = then_reads (transition_of g.names g.system) (λ t. unless (not (is_just g.system t.0)) (faults.UnfairHelper t.1) t.0) s
+  just_of s = then_reads (transition_of g.names g.system) (λ t. unless (not (is_just g.system t.0)) (broke rules.UnfairHelper t.1) t.0) s
 
   -- [ "helper" trans ], in a chain or rank diagram
   unfoldable pub helper_of : Reader (Option ℕ)
@@ -76,11 +61,11 @@ module _ (g : Setting) where
   unfoldable pub numbered_node_of : List PlainDrawnNode → Reader PlainDrawnNode
   numbered_node_of nodes s =
       then_reads (new_number_of nodes) (λ n. then_reads (expected marks.Colon) (λ m. then_reads formula_of (λ f. then_reads rank_of (λ r. then_reads helper_of (λ h. then_reads (expected marks.Semicolon)
-      (λ z. unless (has_helpers g.kind && is_none h) (faults.NoHelper n.1) (record { number = n.0; form = f; rank = r; helper = h }))))))) s
+      (λ z. unless (has_helpers g.kind && is_none h) (broke rules.NoHelper n.1) (record { number = n.0; form = f; rank = r; helper = h }))))))) s
 
   -- behind "node", which stands at the place
   unfoldable pub node_of : ℕ → List PlainDrawnNode → Reader PlainDrawnNode
-  node_of place nodes s = cond (nat_lt (length nodes) 64) (numbered_node_of nodes s) (Err (other (faults.Nodes place)))
+  node_of place nodes s = cond (nat_lt (length nodes) 64) (numbered_node_of nodes s) (Err (other (limited limits.Nodes place)))
 
   -- a transition, by its number
   unfoldable pub transition_number_of : Reader ℕ
@@ -93,13 +78,13 @@ module _ (g : Setting) where
   -- behind "edge", which stands at the place: numeral "->" numeral "on" trans { "," trans } ";"
   unfoldable pub edge_of : ℕ → List PlainDrawnNode → Reader PlainEdge
   edge_of place nodes s =
-      then_reads (known_of nodes) (λ i. then_reads (expected marks.Implies) (λ m. then_reads (known_of nodes) (λ j. then_reads (unless (is_upward g.kind i j) (faults.Upward place) j) (λ j.
+      then_reads (known_of nodes) (λ i. then_reads (expected marks.Implies) (λ m. then_reads (known_of nodes) (λ j. then_reads (unless (is_upward g.kind i j) (broke rules.Upward place) j) (λ j.
       then_reads (expected marks.On) (λ m. then_reads numbers_of (λ on. then_reads (expected marks.Semicolon) (λ z. gives (record { from = i; to = j; on = on })))))))) s
 
   -- behind "terminal", which stands at the place: ":" expr ";"
   unfoldable pub terminal_of : ℕ → Option Formula → Reader Formula
   terminal_of place before s =
-      cond (is_some before) (Err (other (faults.Twice place))) (then_reads (expected marks.Colon) (λ m. then_reads formula_of (λ f. then_reads (expected marks.Semicolon) (λ z. gives f))) s)
+      cond (is_some before) (Err (other (broke rules.Twice place))) (then_reads (expected marks.Colon) (λ m. then_reads formula_of (λ f. then_reads (expected marks.Semicolon) (λ z. gives f))) s)
 
   -- an item behind its first token, which stands at the place
   unfoldable pub item_of : Item → ℕ → Drawing → Reader Drawing
@@ -116,7 +101,7 @@ module _ (g : Setting) where
 
   -- "}"
   unfoldable pub closed_of : Drawing → Reader PlainDiagram
-  closed_of d s = then_reads (expected marks.CloseBrace) (λ place. present (faults.NoTerminal place) (option_map (diagram_with g.kind d) d.terminal)) s
+  closed_of d s = then_reads (expected marks.CloseBrace) (λ place. present (broke rules.NoTerminal place) (option_map (diagram_with g.kind d) d.terminal)) s
 
   -- "{" { item } "}"
   unfoldable pub drawing_of : Reader PlainDiagram

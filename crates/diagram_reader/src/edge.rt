@@ -11,10 +11,9 @@ ghost use Rattle.diagram_reader.specs.Drawing.{known_of, transition_number_of, n
 
 use crate::drawing::{is_known, is_upward};
 use crate::fault::DiagramFault;
-use crate::numeral::{expect, numeral};
 use crate::setting::Setting;
 use crate::transition::read_transition;
-use st_reading::{Mark, advance, ahead, is};
+use st_reading::{Mark, advance, ahead, expect, is, numeral};
 use st_tokens::Tokens;
 use std::alloc::Global;
 use temporal_goals::{DiagramNode, Edge};

@@ -48,9 +48,11 @@ pub enum DiagramFault {
 
 impl From<FormFault> for DiagramFault {
     ghost use Rattle.std.specs.Prelude.{◌≡◌};
-    ghost use Rattle.diagram_reader.specs.Faults.{from_forming};
+    ghost use Rattle.std.specs.Option.{option_map};
+    ghost use Rattle.assertions.specs.Faults as forms;
+    ghost use Rattle.diagram_reader.specs.Faults.{see, of_form};
 
-    ghost from_gives = { λ e fault. fault ≡ from_forming e };
+    ghost from_gives = { λ e fault. see fault ≡ option_map of_form (forms.see e) };
 
     fn from(fault: FormFault) -> Self {
         match fault {
@@ -61,10 +63,10 @@ impl From<FormFault> for DiagramFault {
 }
 
 impl From<ParseFault> for DiagramFault {
-    ghost use Rattle.std.specs.Prelude.{◌≡◌};
-    ghost use Rattle.diagram_reader.specs.Faults.{from_parsing};
+    ghost use Rattle.st_reading.specs.Breaches.{Takes};
+    ghost use Rattle.diagram_reader.specs.Faults.{see};
 
-    ghost from_gives = { λ e fault. fault ≡ from_parsing e };
+    ghost from_gives = { λ e fault. Takes e (see fault) };
 
     fn from(fault: ParseFault) -> Self {
         match fault {

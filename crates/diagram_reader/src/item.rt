@@ -12,11 +12,10 @@ use crate::drawing::Drawing;
 use crate::edge::edge;
 use crate::fault::DiagramFault;
 use crate::node::node;
-use crate::numeral::expect;
 use crate::setting::Setting;
 use crate::unit::formula;
 use st_form::Form;
-use st_reading::{Mark, Sign, is};
+use st_reading::{Mark, Sign, expect, is};
 use st_tokens::Tokens;
 use std::alloc::Global;
 

@@ -8,7 +8,6 @@ mod fault;
 mod item;
 pub mod laws;
 mod node;
-mod numeral;
 mod reading;
 mod setting;
 mod transition;

@@ -10,12 +10,11 @@ ghost use Rattle.diagram_reader.specs.Drawing.{new_number_of, rank_of, just_of, 
 
 use crate::drawing::{NODES, has_helpers, has_ranks, is_above, is_known};
 use crate::fault::DiagramFault;
-use crate::numeral::{expect, numeral};
 use crate::setting::Setting;
 use crate::transition::{is_just, read_transition};
 use crate::unit::{formula, sum};
 use st_form::Lin;
-use st_reading::{Mark, advance, ahead, is};
+use st_reading::{Mark, advance, ahead, expect, is, numeral};
 use st_tokens::Tokens;
 use std::alloc::Global;
 use temporal_goals::DiagramNode;

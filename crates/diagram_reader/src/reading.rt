@@ -15,10 +15,9 @@ ghost use Rattle.diagram_reader.specs.Drawing.{items_of, closed_of, drawing_of, 
 use crate::drawing::Drawing;
 use crate::fault::DiagramFault;
 use crate::item::{item_in, read_item};
-use crate::numeral::expect;
 use crate::setting::Setting;
 use st_program::NameTable;
-use st_reading::{Mark, advance, ahead, place_of};
+use st_reading::{Mark, advance, ahead, expect, place_of};
 use st_tokens::Tokens;
 use std::alloc::Global;
 use temporal_goals::{Diagram, DiagramKind};

@@ -5,44 +5,23 @@ ghost use Rattle.st_tokens.specs.Stream.{stream};
 ghost use Rattle.st_reading.specs.Reading.{Reads, size};
 ghost use Rattle.transition_system.specs.Plain.{plain_transition, plain_system};
 ghost use Rattle.diagram_reader.specs.Faults.{see};
-ghost use Rattle.diagram_reader.specs.Transitions.{owes_justice, is_just, statement_labelled, transition_named, part_named, suffix_of, part_of, transition_of};
+ghost use Rattle.diagram_reader.specs.Transitions.{owes_justice, is_just, transition_named, suffix_of, part_of, transition_of};
 
 use crate::fault::DiagramFault;
-use crate::numeral::{name, refusal};
-use assertions::text_of;
+use assertions::{labelled, part_named};
 use st_form::{Part, TransName};
 use st_program::NameTable;
-use st_reading::{Mark, advance, ahead, is, is_name, name_ahead};
+use st_reading::{Mark, advance, ahead, is, is_name, name, name_ahead, refusal};
 use st_tokens::Tokens;
 use transition_system::{Fts, Transition};
-
-/// The statement with this label.
-fn statement_labelled(names: &NameTable, label: &[u8]) -> Option<u32>
-    ensures { result ≡ statement_labelled names.now label.now }
-{
-    names.labelled(text_of(label)?)
-}
 
 /// The number of the transition that is that part of the statement with this label.
 fn transition_named(names: &NameTable, fts: &Fts, label: &[u8], part: Part) -> Option<u32>
     ensures { result ≡ transition_named names.now (plain_system fts.now) label.now part }
 {
-    let occ = statement_labelled(names, label)?;
+    let occ = labelled(names, label)?;
     let _few = &fts.transitions;
     fts.find(TransName::Step { occ, part })
-}
-
-#[tactic(auto, unfolding(crate::specs::Transitions::part_named))]
-fn part_named(text: &[u8]) -> Option<Part>
-    ensures { result ≡ part_named text.now }
-{
-    if text == b"entry".as_slice() {
-        Some(Part::Entry)
-    } else if text == b"exit".as_slice() {
-        Some(Part::Exit)
-    } else {
-        None
-    }
 }
 
 /// What stands behind a `.`.
@@ -52,10 +31,10 @@ fn suffix(tokens: &mut Tokens) -> Result<Part, DiagramFault>
     ensures shrinks { IfOk result (λ _. size (stream tokens.new) ≤ size (stream tokens.old)) }
 {
     if !is_name(ahead(tokens)) {
-        return Err(refusal(tokens));
+        return Err(DiagramFault::from(refusal(tokens)));
     }
     let Some(part) = part_named(name_ahead(tokens).text) else {
-        return Err(refusal(tokens));
+        return Err(DiagramFault::from(refusal(tokens)));
     };
     advance(tokens);
     Ok(part)

@@ -1,11 +1,11 @@
 -- Whole drawings: read exactly where they are spelled.
 use Rattle.std.proofs.Common.{List, None, Option, Some, [], ap, refl, subst, ℕ, ◌++◌, ◌∷◌, ◌≡◌}
 use Rattle.std.specs.Option.{option_map}
+use Rattle.st_reading.specs.Rule as rules
+use Rattle.st_reading.specs.Breaches.{Breach, broke}
 use Rattle.st_tokens.specs.Stream.{Lexeme}
 use Rattle.st_reading.proofs.ListCompleteness.{Complete}
 use Rattle.st_reading.proofs.ListSoundness.{one_mark}
-use Rattle.st_reading.proofs.Soundness.{taken}
-use Rattle.st_reading.specs.Reading.{gives}
 use Rattle.st_reading.specs.Spelling.{Sound, behind_it}
 use Rattle.st_reading.specs.Steady.{anything}
 use Rattle.st_reading.specs.declared.mark.Mark.TheVariants as marks
@@ -13,15 +13,11 @@ use Rattle.temporal_goals.specs.Texts.{PlainDiagram, PlainRule, diagram}
 use Rattle.temporal_goals.specs.declared.diagrams.DiagramKind.{DiagramKind}
 use Rattle.diagram_reader.specs.Drawing.{closed_of, diagram_of, drawing_of}
 use Rattle.diagram_reader.specs.Drawn.{Drawing, diagram_with, nothing_drawn}
-use Rattle.diagram_reader.specs.Transitions.{present}
-use Rattle.diagram_reader.specs.declared.fault.DiagramFault.{DiagramFault}
-use Rattle.diagram_reader.specs.declared.fault.DiagramFault.TheVariants as faults
 use Rattle.proof_script.specs.Listing.{Setting}
-use Rattle.proof_script.specs.declared.fault.ScriptFault.{ScriptFault}
 use Rattle.proof_grammar.specs.Drawings.{IsDrawing, a_drawing}
 use Rattle.proof_grammar.proofs.ItemKinds.{brace}
 use Rattle.proof_grammar.proofs.Items.{items_phrase}
-use Rattle.proof_grammar.proofs.Names.{Known, known}
+use Rattle.proof_grammar.proofs.Names.{known, known_phrase}
 use Rattle.st_reading.proofs.Phrases.{Phrase, as_phrase, map_phrase, the_mark, then_phrase}
 use Rattle.st_reading.proofs.Tokens.{among}
 use Rattle.proof_grammar.proofs.Transitions.{drawn_phrase}
@@ -33,22 +29,11 @@ mapped_some h (Some y) x e = (y, refl, inside (h y) x e)
     inside : {C : Type 0} (a b : C) → Some a ≡ Some b → a ≡ b
     inside a b e = cc
 
-module _ {A : Type 0} (place : ℕ) where
-  pub there_sound : (o : Option A) → Sound (present (faults.NoTerminal place) o) (Known o)
-  there_sound None s x rest h = absurd cc
-  there_sound (Some y) s x rest h = taken {X = DiagramFault} (Known (Some y)) [] (gives y s) y x s rest refl h (known y refl)
-
-  pub there_complete : (o : Option A) → Complete anything (present (faults.NoTerminal place) o) (Known o)
-  there_complete o ts x (known y e) after h = rw e refl
-
-  abbrev pub there_phrase : Option A → Phrase DiagramFault A anything anything
-  there_phrase o = record { reader = present (faults.NoTerminal place) o; language = Known o; sound = there_sound o; complete = there_complete o; begins = λ ts x l after h. refl }
-
 module _ (g : Setting) (kind : DiagramKind) (highest : ℕ) where
-  abbrev pub closed_parts : Drawing → Phrase DiagramFault PlainDiagram brace anything
-  closed_parts d = then_phrase brace anything anything anything (λ g h. h) (the_mark marks.CloseBrace) (λ place. there_phrase place (option_map (diagram_with kind d) d.terminal))
+  abbrev pub closed_parts : Drawing → Phrase Breach PlainDiagram brace anything
+  closed_parts d = then_phrase brace anything anything anything (λ g h. h) (the_mark marks.CloseBrace) (λ place. known_phrase (broke rules.NoTerminal place) (option_map (diagram_with kind d) d.terminal))
 
-  abbrev pub drawing_parts : Phrase DiagramFault PlainDiagram (among (marks.OpenBrace ∷ [])) anything
+  abbrev pub drawing_parts : Phrase Breach PlainDiagram (among (marks.OpenBrace ∷ [])) anything
   drawing_parts = then_phrase (among (marks.OpenBrace ∷ [])) anything anything anything (λ g h. h) (the_mark marks.OpenBrace) (λ m. then_phrase anything brace brace anything (λ g h. h) (items_phrase g kind highest nothing_drawn) closed_parts)
 
   pub to_drawing : (ts : List Lexeme) (x : PlainDiagram) → drawing_parts.language ts x → IsDrawing g kind highest ts x
@@ -60,7 +45,7 @@ module _ (g : Setting) (kind : DiagramKind) (highest : ℕ) where
   from_drawing ts x (a_drawing t u a d f e l i k) =
       behind_it (t ∷ []) (a ++ u ∷ []) t.start (diagram_with kind d f) (one_mark t e) (behind_it a (u ∷ []) d (diagram_with kind d f) l (behind_it (u ∷ []) [] u.start (diagram_with kind d f) (one_mark u i) (known (diagram_with kind d f) (ap (option_map (diagram_with kind d)) k))))
 
-  abbrev pub drawing_as : Phrase DiagramFault PlainDiagram (among (marks.OpenBrace ∷ [])) anything
+  abbrev pub drawing_as : Phrase Breach PlainDiagram (among (marks.OpenBrace ∷ [])) anything
   drawing_as = as_phrase (among (marks.OpenBrace ∷ [])) anything drawing_parts (IsDrawing g kind highest) to_drawing from_drawing
 
   pub drawing_sound : Sound (diagram_of kind highest g.names g.system) (IsDrawing g kind highest)
@@ -71,9 +56,9 @@ module _ (g : Setting) (kind : DiagramKind) (highest : ℕ) where
   unfolding drawing_of closed_of
   drawing_complete = drawing_as.complete
 
-  abbrev pub drawing_phrase : Phrase DiagramFault PlainDiagram anything anything
+  abbrev pub drawing_phrase : Phrase Breach PlainDiagram anything anything
   drawing_phrase = record { reader = diagram_of kind highest g.names g.system; language = IsDrawing g kind highest; sound = drawing_sound; complete = drawing_complete; begins = λ ts x l after h. refl }
 
   -- in a script
-  abbrev pub rule_drawing : Phrase ScriptFault PlainRule anything anything
+  abbrev pub rule_drawing : Phrase Breach PlainRule anything anything
   rule_drawing = map_phrase anything anything (λ d. diagram d) (drawn_phrase anything anything drawing_phrase)

@@ -1,5 +1,7 @@
 -- The edges and the terminal node of a drawing: read exactly where they are spelled.
 use Rattle.std.proofs.Common.{List, Option, [], false, is_some, refl, true, ℕ, ◌++◌, ◌∷◌, ◌≡◌}
+use Rattle.st_reading.specs.Rule as rules
+use Rattle.st_reading.specs.Breaches.{Breach, broke}
 use Rattle.st_tokens.specs.Stream.{Lexeme}
 use Rattle.st_reading.proofs.ListCompleteness.{Complete}
 use Rattle.st_reading.proofs.ListSoundness.{one_mark}
@@ -15,8 +17,6 @@ use Rattle.temporal_goals.specs.declared.diagrams.DiagramKind.{DiagramKind}
 use Rattle.expression_parser.specs.Calm.{calm}
 use Rattle.diagram_reader.specs.Drawing.{edge_of, numbers_of, terminal_of}
 use Rattle.diagram_reader.specs.Drawn.{is_upward}
-use Rattle.diagram_reader.specs.declared.fault.DiagramFault.{DiagramFault}
-use Rattle.diagram_reader.specs.declared.fault.DiagramFault.TheVariants as faults
 use Rattle.proof_script.specs.Listing.{Setting}
 use Rattle.proof_grammar.specs.Drawings.{IsEdge, IsTerminal, a_terminal, an_edge}
 use Rattle.st_reading.specs.Phrases.{after_mark}
@@ -42,7 +42,7 @@ closing_no_comma = marks_within (but marks.Comma) (marks.Semicolon ∷ []) refl
 
 module _ (g : Setting) (kind : DiagramKind) (highest : ℕ) where
   -- EDGES
-  abbrev pub numbers_row : Phrase DiagramFault (List ℕ) is_name closing
+  abbrev pub numbers_row : Phrase Breach (List ℕ) is_name closing
   numbers_row = row_phrase marks.Comma is_name no_dot closing comma_undotted closing_no_comma closing_undotted (drawn_transition_phrase g kind highest)
 
   pub numbers_sound : Sound (numbers_of (drawing_setting g kind highest)) (Row marks.Comma (IsTransition g))
@@ -53,15 +53,15 @@ module _ (g : Setting) (kind : DiagramKind) (highest : ℕ) where
   unfolding numbers_of
   numbers_complete = numbers_row.complete
 
-  abbrev pub numbers_phrase : Phrase DiagramFault (List ℕ) is_name closing
+  abbrev pub numbers_phrase : Phrase Breach (List ℕ) is_name closing
   numbers_phrase = record { reader = numbers_of (drawing_setting g kind highest); language = Row marks.Comma (IsTransition g); sound = numbers_sound; complete = numbers_complete; begins = numbers_row.begins }
 
-  abbrev pub edge_parts : ℕ → List PlainDrawnNode → Phrase DiagramFault PlainEdge anything anything
+  abbrev pub edge_parts : ℕ → List PlainDrawnNode → Phrase Breach PlainEdge anything anything
   edge_parts place nodes =
       then_phrase anything anything (among (marks.Implies ∷ [])) anything (λ g h. refl) (drawn_number_of nodes) (λ i.
       then_phrase (among (marks.Implies ∷ [])) anything anything anything (λ g h. refl) (the_mark marks.Implies) (λ m.
       then_phrase anything anything (among (marks.On ∷ [])) anything (λ g h. refl) (drawn_number_of nodes) (λ j.
-      then_phrase (among (marks.On ∷ [])) (among (marks.On ∷ [])) (among (marks.On ∷ [])) anything (λ g h. h) (admit_phrase (among (marks.On ∷ [])) (is_upward kind i j) (other (faults.Upward place)) j) (λ j.
+      then_phrase (among (marks.On ∷ [])) (among (marks.On ∷ [])) (among (marks.On ∷ [])) anything (λ g h. h) (admit_phrase (among (marks.On ∷ [])) (is_upward kind i j) (other (broke rules.Upward place)) j) (λ j.
       then_phrase (among (marks.On ∷ [])) anything is_name anything (λ g h. refl) (the_mark marks.On) (λ m.
       then_phrase is_name closing closing anything (λ g h. h) numbers_phrase (λ on.
       map_phrase closing anything (λ z. record { from = i; to = j; on = on }) (the_mark marks.Semicolon)))))))
@@ -75,7 +75,7 @@ module _ (g : Setting) (kind : DiagramKind) (highest : ℕ) where
       behind_it a (t ∷ (d ++ (v ∷ (o ++ u ∷ [])))) i _ l1 (behind_it (t ∷ []) (d ++ (v ∷ (o ++ u ∷ []))) t.start _ (one_mark t e) (behind_it d (v ∷ (o ++ u ∷ [])) k _ l3 (behind_it [] (v ∷ (o ++ u ∷ [])) k _ (admits up)
       (behind_it (v ∷ []) (o ++ u ∷ []) v.start _ (one_mark v f) (behind_it o (u ∷ []) os _ l6 (made (u ∷ []) u.start (one_mark u q)))))))
 
-  abbrev pub edge_as : ℕ → List PlainDrawnNode → Phrase DiagramFault PlainEdge anything anything
+  abbrev pub edge_as : ℕ → List PlainDrawnNode → Phrase Breach PlainEdge anything anything
   edge_as place nodes = as_phrase anything anything (edge_parts place nodes) (IsEdge g kind highest nodes) (to_edge place nodes) (from_edge place nodes)
 
   pub edge_sound : (place : ℕ) (nodes : List PlainDrawnNode) → Sound (edge_of (drawing_setting g kind highest) place nodes) (IsEdge g kind highest nodes)
@@ -86,11 +86,11 @@ module _ (g : Setting) (kind : DiagramKind) (highest : ℕ) where
   unfolding edge_of
   edge_complete place nodes = (edge_as place nodes).complete
 
-  abbrev pub edge_phrase : ℕ → List PlainDrawnNode → Phrase DiagramFault PlainEdge anything anything
+  abbrev pub edge_phrase : ℕ → List PlainDrawnNode → Phrase Breach PlainEdge anything anything
   edge_phrase place nodes = record { reader = edge_of (drawing_setting g kind highest) place nodes; language = IsEdge g kind highest nodes; sound = edge_sound place nodes; complete = edge_complete place nodes; begins = λ ts x l after h. refl }
 
   -- THE TERMINAL NODE
-  abbrev pub terminal_parts : Phrase DiagramFault Formula (among (marks.Colon ∷ [])) anything
+  abbrev pub terminal_parts : Phrase Breach Formula (among (marks.Colon ∷ [])) anything
   terminal_parts =
       then_phrase (among (marks.Colon ∷ [])) anything undrawn anything (λ g h. refl) (the_mark marks.Colon) (λ m.
       then_phrase undrawn calm closing anything closing_calm (drawn_truth g kind highest) (λ f.
@@ -105,9 +105,9 @@ module _ (g : Setting) (kind : DiagramKind) (highest : ℕ) where
   abbrev pub FirstTerminal : Option Formula → List Lexeme → Formula → Type 0
   FirstTerminal before = If (is_some before) false (IsTerminal g kind highest)
 
-  abbrev pub terminal_as : ℕ → Option Formula → Phrase DiagramFault Formula (among (marks.Colon ∷ [])) anything
+  abbrev pub terminal_as : ℕ → Option Formula → Phrase Breach Formula (among (marks.Colon ∷ [])) anything
   terminal_as place before =
-      unbroken_phrase (among (marks.Colon ∷ [])) anything (is_some before) (other (faults.Twice place)) (as_phrase (among (marks.Colon ∷ [])) anything terminal_parts (IsTerminal g kind highest) to_terminal from_terminal)
+      unbroken_phrase (among (marks.Colon ∷ [])) anything (is_some before) (other (broke rules.Twice place)) (as_phrase (among (marks.Colon ∷ [])) anything terminal_parts (IsTerminal g kind highest) to_terminal from_terminal)
 
   pub terminal_sound : (place : ℕ) (before : Option Formula) → Sound (terminal_of (drawing_setting g kind highest) place before) (FirstTerminal before)
   unfolding terminal_of
@@ -117,5 +117,5 @@ module _ (g : Setting) (kind : DiagramKind) (highest : ℕ) where
   unfolding terminal_of
   terminal_complete place before = (terminal_as place before).complete
 
-  abbrev pub terminal_phrase : ℕ → Option Formula → Phrase DiagramFault Formula anything anything
+  abbrev pub terminal_phrase : ℕ → Option Formula → Phrase Breach Formula anything anything
   terminal_phrase place before = record { reader = terminal_of (drawing_setting g kind highest) place before; language = FirstTerminal before; sound = terminal_sound place before; complete = terminal_complete place before; begins = λ ts x l after h. refl }

@@ -1,9 +1,10 @@
 -- Formulas and integer expressions, in scripts and in drawings: read exactly where they are spelled.
 use Rattle.std.proofs.Common.{Bool, Err, List, Ok, ap, arith, cond, false, nat_lt, not, refl, sym, true, ℕ, ◌<◌, ◌≡◌}
 use Rattle.std.proofs.lemmas.Bool.Decides.{nat_tests}
+use Rattle.st_reading.specs.Breaches.{Breach}
 use Rattle.st_tokens.specs.Stream.{Lexeme, Stream, ◌++>◌}
 use Rattle.st_reading.proofs.ListCompleteness.{Complete}
-use Rattle.st_reading.specs.Reading.{ahead, place_of, refusal}
+use Rattle.st_reading.specs.Reading.{Read, ahead, place_of, refusal}
 use Rattle.st_reading.specs.Sign.{is}
 use Rattle.st_reading.specs.Spelling.{Cut, Sound}
 use Rattle.st_reading.specs.Steady.{anything}
@@ -17,25 +18,19 @@ use Rattle.expression_parser.specs.Calm.{calm}
 use Rattle.expression_parser.specs.Grammar.{Inside, IsSum, SpellsWithin}
 use Rattle.expression_parser.specs.Reading.{below, expression_of, sum_of as tree_sum_of}
 use Rattle.expression_typer.specs.Naming.{names_of}
-use Rattle.assertions.specs.Reading.{Answer, before, form_of, linear_of, number_of, truth_of}
+use Rattle.assertions.specs.Reading.{before, form_of, linear_of, number_of, truth_of}
 use Rattle.diagram_reader.specs.Drawing.{formula_of as drawing_formula_of, sum_of as drawing_sum_of}
 use Rattle.diagram_reader.specs.Drawn as diagrams
 use Rattle.diagram_reader.specs.Faults.{unit_of as drawing_unit_of}
-use Rattle.diagram_reader.specs.declared.fault.DiagramFault.{DiagramFault}
-use Rattle.proof_script.specs.Faults.{one_too_many, unit_of}
+use Rattle.proof_script.specs.Faults.{one_too_many}
 use Rattle.proof_script.specs.Listing.{Setting, formula_of, listed_formula_of, sum_of}
-use Rattle.proof_script.specs.declared.fault.ScriptFault.{ScriptFault}
 use Rattle.proof_grammar.specs.Units.{IsFormula, IsNumber}
 use Rattle.proof_grammar.proofs.Counted.{Few}
 use Rattle.st_reading.proofs.Phrases.{Phrase}
 use Rattle.proof_grammar.proofs.TypedTexts.{above_two, no_front, not_both, refused, typed_complete, typed_cut, undrawn}
 
--- a unit that is read, in a script and in a drawing
-unit_read : {A : Type 0} (r : Answer A) (y : A × Stream) → unit_of r ≡ Ok y → r ≡ Ok y
-unit_read (Ok x) y h = ap Ok (let e : x ≡ y = cc in e)
-unit_read (Err f) y h = absurd cc
-
-drawing_unit_read : {A : Type 0} (r : Answer A) (y : A × Stream) → drawing_unit_of r ≡ Ok y → r ≡ Ok y
+-- a unit that is read in a drawing
+drawing_unit_read : {A : Type 0} (r : Read Breach A) (y : A × Stream) → drawing_unit_of r ≡ Ok y → r ≡ Ok y
 drawing_unit_read (Ok x) y h = ap Ok (let e : x ≡ y = cc in e)
 drawing_unit_read (Err f) y h = absurd cc
 
@@ -45,7 +40,7 @@ below_limit n h = grind (arith, nat_tests)
 pub is_below : (n : ℕ) → n < 64 → nat_lt n 64 ≡ true
 is_below n h = grind (arith, nat_tests)
 
-none_read : {A : Type 0} (place : ℕ) (r : Answer A) (y : A) (rest : Stream) → one_too_many place r ≡ Ok (y, rest) → ⊥
+none_read : {A : Type 0} (place : ℕ) (r : Read Breach A) (y : A) (rest : Stream) → one_too_many place r ≡ Ok (y, rest) → ⊥
 none_read place (Ok x) y rest h = cc
 none_read place (Err f) y rest h = cc
 
@@ -81,24 +76,24 @@ module _ (g : Setting) where
   -- IN SCRIPTS
   pub truth_sound : Sound (formula_of g) (IsFormula g)
   unfolding formula_of
-  truth_sound s x rest h = form_cut s x rest (unit_read (form_of (names_of g.names) s) (x, rest) h)
+  truth_sound s x rest h = form_cut s x rest h
 
   pub truth_complete : Complete calm (formula_of g) (IsFormula g)
   unfolding formula_of
-  truth_complete ts x l after h = ap unit_of (form_complete ts x l after h)
+  truth_complete ts x l after h = form_complete ts x l after h
 
-  abbrev pub truth_phrase : Phrase ScriptFault Formula undrawn calm
+  abbrev pub truth_phrase : Phrase Breach Formula undrawn calm
   truth_phrase = record { reader = formula_of g; language = IsFormula g; sound = truth_sound; complete = truth_complete; begins = truth_begins }
 
   pub number_sound : Sound (sum_of g) (IsNumber g)
   unfolding sum_of
-  number_sound s x rest h = linear_cut s x rest (unit_read (linear_of (names_of g.names) s) (x, rest) h)
+  number_sound s x rest h = linear_cut s x rest h
 
   pub number_complete : Complete calm (sum_of g) (IsNumber g)
   unfolding sum_of
-  number_complete ts x l after h = ap unit_of (linear_complete ts x l after h)
+  number_complete ts x l after h = linear_complete ts x l after h
 
-  abbrev pub number_phrase : Phrase ScriptFault Linear anything calm
+  abbrev pub number_phrase : Phrase Breach Linear anything calm
   number_phrase = record { reader = sum_of g; language = IsNumber g; sound = number_sound; complete = number_complete; begins = λ ts x l after h. refl }
 
   -- A FORMULA THAT IS LISTED
@@ -117,7 +112,7 @@ module _ (g : Setting) where
   pub few_begins : (before : ℕ) (ts : List Lexeme) (x : Formula) → Few before (IsFormula g) ts x → (after : Stream) → calm (ahead after) ≡ true → undrawn (ahead (ts ++> after)) ≡ true
   few_begins before ts x l after h = truth_begins ts x l.1 after h
 
-  abbrev pub listed_truth : ℕ → Phrase ScriptFault Formula undrawn calm
+  abbrev pub listed_truth : ℕ → Phrase Breach Formula undrawn calm
   listed_truth before = record { reader = listed_formula_of g before; language = Few before (IsFormula g); sound = few_sound before; complete = few_complete before; begins = few_begins before }
 
   -- IN DRAWINGS
@@ -133,7 +128,7 @@ module _ (g : Setting) where
     unfolding drawing_formula_of
     drawn_truth_complete ts x l after h = ap drawing_unit_of (form_complete ts x l after h)
 
-    abbrev pub drawn_truth : Phrase DiagramFault Formula undrawn calm
+    abbrev pub drawn_truth : Phrase Breach Formula undrawn calm
     drawn_truth = record { reader = drawing_formula_of drawing_setting; language = IsFormula g; sound = drawn_truth_sound; complete = drawn_truth_complete; begins = truth_begins }
 
     pub drawn_number_sound : Sound (drawing_sum_of drawing_setting) (IsNumber g)
@@ -144,5 +139,5 @@ module _ (g : Setting) where
     unfolding drawing_sum_of
     drawn_number_complete ts x l after h = ap drawing_unit_of (linear_complete ts x l after h)
 
-    abbrev pub drawn_number_phrase : Phrase DiagramFault Linear anything calm
+    abbrev pub drawn_number_phrase : Phrase Breach Linear anything calm
     drawn_number_phrase = record { reader = drawing_sum_of drawing_setting; language = IsNumber g; sound = drawn_number_sound; complete = drawn_number_complete; begins = λ ts x l after h. refl }

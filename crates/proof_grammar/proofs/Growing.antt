@@ -1,5 +1,6 @@
 -- Texts that grow at their end: the steps that they have spelled stay.
 use Rattle.std.proofs.Common.{◌≡◌, ℕ, zero, suc, ◌+◌, List, None, Ok, Option, Some, [], ◌∷◌, ◌++◌, length, ap, refl, sym, ◌∙◌, arith, append_assoc, append-nil, length-append}
+use Rattle.st_reading.specs.Breaches.{Breach}
 use Rattle.st_tokens.specs.Stream.{Lexeme, Stream, behind, breaks, ends, more, text_stream, shifted, ◌++>◌}
 use Rattle.st_tokens.proofs.Shifting.{texts_go_on}
 use Rattle.st_reading.proofs.Soundness.{split, values}
@@ -8,7 +9,6 @@ use Rattle.temporal_goals.specs.Texts.{PlainStep}
 use Rattle.proof_script.specs.Listing.{Setting}
 use Rattle.proof_script.specs.Script.{ended, script_spelled, step_turn, steps_of}
 use Rattle.proof_script.specs.Steps.{claim_in}
-use Rattle.proof_script.specs.declared.fault.ScriptFault.{ScriptFault}
 use Rattle.proof_script.specs.declared.steps.Claim.{Claim}
 use Rattle.proof_grammar.specs.Grammar.{no_further_step}
 use Rattle.proof_grammar.specs.Growing.{NothingStands, LinesStand, CommentsAddNothing, StandingIsSpelled, ScriptsGoOn}
@@ -31,7 +31,7 @@ module _ (g : Setting) where
   -- what is read behind steps has them in front
   ended_same : (steps zs : List PlainStep) (s rest : Stream) → ended steps s ≡ Ok (zs, rest) → zs ≡ steps
   unfolding at_end
-  ended_same steps zs (ends q) rest h = let v = values {X = ScriptFault} (gives steps (ends q)) steps zs (ends q) rest refl h in sym v.0
+  ended_same steps zs (ends q) rest h = let v = values {X = Breach} (gives steps (ends q)) steps zs (ends q) rest refl h in sym v.0
   ended_same steps zs (breaks f) rest h = absurd cc
   ended_same steps zs (more t s) rest h = absurd cc
 

@@ -1,5 +1,6 @@
 -- Goals of an invariance with their rules: read exactly where they are spelled.
 use Rattle.std.proofs.Common.{List, None, Some, [], append-nil, subst, sym, ◌∷◌}
+use Rattle.st_reading.specs.Breaches.{Breach}
 use Rattle.st_tokens.specs.Stream.{Lexeme}
 use Rattle.st_reading.proofs.ListCompleteness.{Complete}
 use Rattle.st_reading.specs.Spelling.{Sound, behind_it}
@@ -8,7 +9,6 @@ use Rattle.temporal_goals.specs.Texts.{PlainGoal, PlainRule, basic, invariant, s
 use Rattle.expression_parser.specs.Calm.{calm}
 use Rattle.proof_script.specs.Listing.{Setting}
 use Rattle.proof_script.specs.Steps.{invariance_of, invariance_rule}
-use Rattle.proof_script.specs.declared.fault.ScriptFault.{ScriptFault}
 use Rattle.proof_grammar.specs.Grammar.{IsInvariance, by_itself, by_stronger}
 use Rattle.st_reading.specs.Phrases.{after_mark, left_out, put_in}
 use Rattle.st_reading.proofs.Choices.{optional_phrase}
@@ -20,7 +20,7 @@ use Rattle.st_reading.proofs.Tokens.{among}
 use Rattle.proof_grammar.proofs.TypedTexts.{undrawn}
 
 module _ (g : Setting) where
-  abbrev pub invariance_parts : Phrase ScriptFault (PlainGoal × PlainRule) undrawn ending
+  abbrev pub invariance_parts : Phrase Breach (PlainGoal × PlainRule) undrawn ending
   invariance_parts =
       then_phrase undrawn calm (among (marks.By ∷ marks.Using ∷ marks.Semicolon ∷ [])) ending by_or_ending_calm (truth_phrase g) (λ p.
       map_phrase (among (marks.By ∷ marks.Using ∷ marks.Semicolon ∷ [])) ending (λ f. (invariant p, invariance_rule f)) (optional_phrase marks.By undrawn calm ending unlike_by ending_calm (truth_phrase g)))
@@ -33,7 +33,7 @@ module _ (g : Setting) where
   from_invariance ts x (by_itself a p l) = subst (λ (us : List Lexeme). invariance_parts.language us (invariant p, basic)) (append-nil a) (behind_it a [] p (invariant p, basic) l (made [] None left_out))
   from_invariance ts x (by_stronger a b p f l (after_mark t us q e m)) = behind_it a (t ∷ us) p (invariant p, stronger q) l (made (t ∷ us) (Some q) (put_in t us q e m))
 
-  abbrev pub invariance_as : Phrase ScriptFault (PlainGoal × PlainRule) undrawn ending
+  abbrev pub invariance_as : Phrase Breach (PlainGoal × PlainRule) undrawn ending
   invariance_as = as_phrase undrawn ending invariance_parts (IsInvariance g) to_invariance from_invariance
 
   pub invariance_sound : Sound (invariance_of g) (IsInvariance g)

@@ -1,5 +1,6 @@
 -- The items of a drawing, each over what is drawn before it: read exactly where they are spelled.
 use Rattle.std.proofs.Common.{List, Some, [], ap, is_some, length, refl, ℕ, ◌∷◌, ◌≡◌}
+use Rattle.st_reading.specs.Breaches.{Breach}
 use Rattle.st_tokens.specs.Stream.{Lexeme}
 use Rattle.st_reading.proofs.ListCompleteness.{Complete}
 use Rattle.st_reading.proofs.ListSoundness.{Given, given}
@@ -10,7 +11,6 @@ use Rattle.st_reading.specs.Steady.{anything}
 use Rattle.temporal_goals.specs.declared.diagrams.DiagramKind.{DiagramKind}
 use Rattle.diagram_reader.specs.Drawing.{item_in, item_of, items_of}
 use Rattle.diagram_reader.specs.Drawn.{Drawing, with_edge, with_node, with_terminal}
-use Rattle.diagram_reader.specs.declared.fault.DiagramFault.{DiagramFault}
 use Rattle.diagram_reader.specs.declared.item.Item.{Item}
 use Rattle.diagram_reader.specs.declared.item.Item.TheVariants as items
 use Rattle.proof_script.specs.Listing.{Setting}
@@ -29,13 +29,13 @@ module _ (g : Setting) (kind : DiagramKind) (highest : ℕ) where
   Itemed items.Node d = Made (λ n. with_node n d) (RoomyNode g kind highest d.nodes)
   Itemed items.Edge d = Made (λ e. with_edge e d) (IsEdge g kind highest d.nodes)
 
-  abbrev pub terminal_item_phrase : ℕ → Drawing → Phrase DiagramFault Drawing anything anything
+  abbrev pub terminal_item_phrase : ℕ → Drawing → Phrase Breach Drawing anything anything
   terminal_item_phrase place d = map_phrase anything anything (λ f. with_terminal f d) (terminal_phrase g kind highest place d.terminal)
 
-  abbrev pub node_item_phrase : ℕ → Drawing → Phrase DiagramFault Drawing anything anything
+  abbrev pub node_item_phrase : ℕ → Drawing → Phrase Breach Drawing anything anything
   node_item_phrase place d = map_phrase anything anything (λ n. with_node n d) (node_phrase g kind highest place d.nodes)
 
-  abbrev pub edge_item_phrase : ℕ → Drawing → Phrase DiagramFault Drawing anything anything
+  abbrev pub edge_item_phrase : ℕ → Drawing → Phrase Breach Drawing anything anything
   edge_item_phrase place d = map_phrase anything anything (λ e. with_edge e d) (edge_phrase g kind highest place d.nodes)
 
   pub item_sound : (item : Item) (place : ℕ) (d : Drawing) → Sound (item_of (drawing_setting g kind highest) item place d) (Itemed item d)
@@ -50,13 +50,13 @@ module _ (g : Setting) (kind : DiagramKind) (highest : ℕ) where
   item_complete items.Node place d ts x l after h = (node_item_phrase place d).complete ts x l after h
   item_complete items.Edge place d ts x l after h = (edge_item_phrase place d).complete ts x l after h
 
-  abbrev pub item_phrase : Item → ℕ → Drawing → Phrase DiagramFault Drawing anything anything
+  abbrev pub item_phrase : Item → ℕ → Drawing → Phrase Breach Drawing anything anything
   item_phrase item place d = record { reader = item_of (drawing_setting g kind highest) item place d; language = Itemed item d; sound = item_sound item place d; complete = item_complete item place d; begins = λ ts x l after h. refl }
 
-  abbrev pub item_turn : Item → ℕ → Drawing → Phrase DiagramFault (Turn Drawing Drawing) anything anything
+  abbrev pub item_turn : Item → ℕ → Drawing → Phrase Breach (Turn Drawing Drawing) anything anything
   item_turn item place d = map_phrase anything anything (λ x. goes x) (item_phrase item place d)
 
-  abbrev pub item_links : Drawing → Phrase DiagramFault Drawing anything brace
+  abbrev pub item_links : Drawing → Phrase Breach Drawing anything brace
   item_links = chain_phrase anything brace anything brace item_in no_item_at_end no_item (λ g h. refl) (λ g o e. refl) (λ g h. refl) item_turn (λ d. the_value brace d)
 
   to_item : (item : Item) (d e : Drawing) (t : Lexeme) (ts : List Lexeme) → item_in (sign_of t) ≡ Some item → Itemed item d ts e → IsItem g kind highest d (t ∷ ts) e
@@ -78,7 +78,7 @@ module _ (g : Setting) (kind : DiagramKind) (highest : ℕ) where
   from_drawn d ts z (a_further_item x y w a b (edge_item t us n e l) rest) =
       linked x (with_edge n x) t items.Edge us b w (item_found (sign_of t) items.Edge e) (made us (with_edge n x) (made us n l)) (from_drawn (with_edge n x) b w rest)
 
-  abbrev pub items_as : Drawing → Phrase DiagramFault Drawing anything brace
+  abbrev pub items_as : Drawing → Phrase Breach Drawing anything brace
   items_as d = as_phrase anything brace (item_links d) (AreItems g kind highest d) (to_drawn d) (from_drawn d)
 
   pub items_sound : (d : Drawing) → Sound (items_of (drawing_setting g kind highest) d) (AreItems g kind highest d)
@@ -89,5 +89,5 @@ module _ (g : Setting) (kind : DiagramKind) (highest : ℕ) where
   unfolding items_of
   items_complete d = (items_as d).complete
 
-  abbrev pub items_phrase : Drawing → Phrase DiagramFault Drawing anything brace
+  abbrev pub items_phrase : Drawing → Phrase Breach Drawing anything brace
   items_phrase d = record { reader = items_of (drawing_setting g kind highest) d; language = AreItems g kind highest d; sound = items_sound d; complete = items_complete d; begins = λ ts x l after h. refl }

@@ -1,5 +1,6 @@
 -- The levels of a node of a nested net, at most four, each a group with its base and top: read exactly where they are spelled.
 use Rattle.std.proofs.Common.{Bool, List, Ok, [], ap, append-nil, append_assoc, arith, cond, false, length, refl, subst, suc, sym, true, zero, ℕ, ◌++◌, ◌∙◌, ◌∷◌, ◌≡◌, ◌≤◌}
+use Rattle.st_reading.specs.Breaches.{Breach}
 use Rattle.st_tokens.specs.Stream.{Lexeme, Stream, behind, breaks, ends, more, ◌++>◌}
 use Rattle.st_reading.proofs.ListCompleteness.{Complete}
 use Rattle.st_reading.proofs.Soundness.{split, values}
@@ -17,7 +18,6 @@ use Rattle.temporal_goals.specs.Texts.{PlainLevel}
 use Rattle.expression_parser.specs.Calm.{calm}
 use Rattle.proof_script.specs.Listing.{Setting}
 use Rattle.proof_script.specs.Rules.{group_level_of, group_levels_of, weight_of}
-use Rattle.proof_script.specs.declared.fault.ScriptFault.{ScriptFault}
 use Rattle.st_reading.specs.Phrases.{After, Many, after_mark, none_more, one_more}
 use Rattle.proof_grammar.specs.Rules.{IsLevel, a_level}
 use Rattle.proof_grammar.specs.Units.{IsGroup, IsNumber}
@@ -58,7 +58,7 @@ module _ (g : Setting) where
     inner_level : (a b c : List Lexeme) (base top : Linear) (group : ℕ) → IsNumber g a base → After marks.Top (IsNumber g) b top → After marks.Group (IsGroup g) c group
         → IsInnerLevel (a ++ (b ++ c)) (record { base = base; top = top; group = group })
 
-  abbrev pub level_parts : Phrase ScriptFault PlainLevel anything no_dot
+  abbrev pub level_parts : Phrase Breach PlainLevel anything no_dot
   level_parts =
       then_phrase anything calm (only_mark marks.Top) no_dot before_top (number_phrase g) (λ b.
       then_phrase (only_mark marks.Top) calm (only_mark marks.Group) no_dot before_group (weight_phrase g marks.Top) (λ t.
@@ -70,7 +70,7 @@ module _ (g : Setting) where
   pub from_level : (ts : List Lexeme) (x : PlainLevel) → IsInnerLevel ts x → level_parts.language ts x
   from_level ts x (inner_level a b c base top group l m k) = behind_it a (b ++ c) base _ l (behind_it b c top _ m (made c group k))
 
-  abbrev pub level_as : Phrase ScriptFault PlainLevel anything no_dot
+  abbrev pub level_as : Phrase Breach PlainLevel anything no_dot
   level_as = as_phrase anything no_dot level_parts IsInnerLevel to_level from_level
 
   level_sound : Sound (group_level_of g) IsInnerLevel
@@ -103,14 +103,14 @@ module _ (g : Setting) where
   levels_sound : (room : ℕ) (ls : List PlainLevel) → Sound (group_levels_of g room ls) (MoreLevels room ls)
   unfolding group_levels_of
   levels_sound zero ls s zs rest h =
-      let v = values {X = ScriptFault} (gives ls s) ls zs s rest refl h in
+      let v = values {X = Breach} (gives ls s) ls zs s rest refl h in
       record { text = []; is = v.1; spells = record { others = []; joined = sym v.0 ∙ sym (append-nil ls); spells = none_more; limited = omega arith } }
   levels_sound (suc k) ls s zs rest h = at_base (λ l m r e. levels_sound k (ls ++ l ∷ []) m zs r e) s (is (ahead s) marks.Base) refl h
     where
       at_base : ((l : PlainLevel) (m r : Stream) → group_levels_of g k (ls ++ l ∷ []) m ≡ Ok (zs, r) → Cut (MoreLevels k (ls ++ l ∷ [])) m zs r) → (s : Stream) (b : Bool) → b ≡ is (ahead s) marks.Base
           → cond b (then_reads (group_level_of g) (λ l. group_levels_of g k (ls ++ l ∷ [])) (behind s)) (Ok (ls, s)) ≡ Ok (zs, rest) → Cut (MoreLevels (suc k) ls) s zs rest
       at_base again s false e h =
-          let v = values {X = ScriptFault} (gives ls s) ls zs s rest refl h in
+          let v = values {X = Breach} (gives ls s) ls zs s rest refl h in
           record { text = []; is = v.1; spells = record { others = []; joined = sym v.0 ∙ sym (append-nil ls); spells = none_more; limited = omega arith } }
       at_base again (ends place) true e h = absurd cc
       at_base again (breaks f) true e h = absurd cc
@@ -173,5 +173,5 @@ module _ (g : Setting) where
   pub four_begin : (ts : List Lexeme) (ls : List PlainLevel) → FewLevels ts ls → (after : Stream) → only_mark marks.Delay (ahead after) ≡ true → level_or_delay (ahead (ts ++> after)) ≡ true
   four_begin ts ls (few_levels l le) after h = levels_follow ts ls l after h
 
-  abbrev pub levels_phrase : Phrase ScriptFault (List PlainLevel) level_or_delay (only_mark marks.Delay)
+  abbrev pub levels_phrase : Phrase Breach (List PlainLevel) level_or_delay (only_mark marks.Delay)
   levels_phrase = record { reader = group_levels_of g 4 []; language = FewLevels; sound = four_sound; complete = four_complete; begins = four_begin }

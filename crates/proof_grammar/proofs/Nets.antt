@@ -1,5 +1,6 @@
 -- The lists of items of a response's rule: read exactly where they are spelled.
 use Rattle.std.proofs.Common.{List, Option, [], arith, refl, true, ℕ, ◌++◌, ◌∷◌, ◌≡◌}
+use Rattle.st_reading.specs.Breaches.{Breach}
 use Rattle.st_tokens.specs.Stream.{Lexeme, Stream, ◌++>◌}
 use Rattle.st_reading.proofs.ListCompleteness.{Complete}
 use Rattle.st_reading.specs.Mark.{number}
@@ -12,7 +13,6 @@ use Rattle.temporal_goals.specs.Texts.{PlainNode}
 use Rattle.response_rules.specs.Forms.{chain_nodes, fair_nodes, ranked_nodes}
 use Rattle.proof_script.specs.Listing.{Setting}
 use Rattle.proof_script.specs.Rules.{chain_nodes_of, completed_of, fair_nodes_of, fair_of, group_of, helped_of, helper_of, just_nodes_of, node_of, nodes_of, ranked_nodes_of, ranked_of, wanted_helper_of, weight_of}
-use Rattle.proof_script.specs.declared.fault.ScriptFault.{ScriptFault}
 use Rattle.st_reading.specs.Phrases.{Bracketed}
 use Rattle.proof_grammar.specs.Rules.{IsFairItem, IsHelped, IsNode, IsRanked}
 use Rattle.proof_grammar.specs.Units.{IsGroup}
@@ -27,26 +27,26 @@ use Rattle.proof_grammar.proofs.TypedTexts.{undrawn}
 
 module _ (g : Setting) where
   -- THE LISTS, behind the token that says the manner
-  abbrev pub just_list : Phrase ScriptFault (List PlainNode) undrawn no_dot
+  abbrev pub just_list : Phrase Breach (List PlainNode) undrawn no_dot
   just_list = map_phrase undrawn no_dot (λ x. chain_nodes (x ∷ [])) (helped_phrase g 0)
 
-  abbrev pub chain_list : Phrase ScriptFault (List PlainNode) (only_mark marks.OpenBlock) anything
+  abbrev pub chain_list : Phrase Breach (List PlainNode) (only_mark marks.OpenBlock) anything
   chain_list = map_phrase (only_mark marks.OpenBlock) anything (λ xs. chain_nodes xs) (bracketed_phrase (IsHelped g) undrawn (listed_helped g) (to_helped g) (from_helped g))
 
-  abbrev pub ranked_list : Phrase ScriptFault (List PlainNode) (only_mark marks.OpenBlock) anything
+  abbrev pub ranked_list : Phrase Breach (List PlainNode) (only_mark marks.OpenBlock) anything
   ranked_list = map_phrase (only_mark marks.OpenBlock) anything (λ xs. ranked_nodes xs) (bracketed_phrase (IsRanked g) undrawn (ranked_item g) (to_ranked g) (from_ranked g))
 
-  abbrev pub fair_list : ℕ → Phrase ScriptFault (List PlainNode) (only_mark marks.OpenBlock) anything
+  abbrev pub fair_list : ℕ → Phrase Breach (List PlainNode) (only_mark marks.OpenBlock) anything
   fair_list c = map_phrase (only_mark marks.OpenBlock) anything (λ xs. fair_nodes c xs) (bracketed_phrase (IsFairItem g) undrawn (fair_parts g) (to_fair g) (from_fair g))
 
   pub block_undotted : Within (only_mark marks.OpenBlock) no_dot
   unfolding number
   block_undotted = marks_within no_dot (marks.OpenBlock ∷ []) refl
 
-  abbrev pub compassion_list : Phrase ScriptFault (List PlainNode) is_name anything
+  abbrev pub compassion_list : Phrase Breach (List PlainNode) is_name anything
   compassion_list = then_phrase is_name no_dot (only_mark marks.OpenBlock) anything block_undotted (group_phrase g) fair_list
 
-  abbrev pub node_list : Phrase ScriptFault (List PlainNode) (only_mark marks.OpenBlock) anything
+  abbrev pub node_list : Phrase Breach (List PlainNode) (only_mark marks.OpenBlock) anything
   node_list = bracketed_phrase (IsNode g) undrawn (node_placed g) (λ n ts x l. l) (λ n ts x l. l)
 
   -- what stands behind each
@@ -68,10 +68,10 @@ module _ (g : Setting) where
   pub from_fair_list : (ts : List Lexeme) (ns : List PlainNode) → IsFairList ts ns → compassion_list.language ts ns
   from_fair_list ts ns (fair_items a b c xs l k) = behind_it a b c (fair_nodes c xs) l (made b xs k)
 
-  abbrev pub just_as : Phrase ScriptFault (List PlainNode) undrawn no_dot
+  abbrev pub just_as : Phrase Breach (List PlainNode) undrawn no_dot
   just_as = as_phrase undrawn no_dot just_list IsJustList to_just from_just
 
-  abbrev pub fair_as : Phrase ScriptFault (List PlainNode) is_name anything
+  abbrev pub fair_as : Phrase Breach (List PlainNode) is_name anything
   fair_as = as_phrase is_name anything compassion_list IsFairList to_fair_list from_fair_list
 
   -- THE READERS

@@ -1,5 +1,6 @@
 -- The rank and the helper of a drawing's node, by the drawing's kind: read exactly where they are spelled.
 use Rattle.std.proofs.Common.{Bool, List, None, Option, Some, [], false, is_none, refl, true, ℕ, ◌&&◌, ◌∷◌, ◌≡◌}
+use Rattle.st_reading.specs.Breaches.{Breach}
 use Rattle.st_tokens.specs.Stream.{Lexeme}
 use Rattle.st_reading.proofs.ListCompleteness.{Complete}
 use Rattle.st_reading.proofs.ListSoundness.{one_mark}
@@ -15,7 +16,6 @@ use Rattle.expression_parser.specs.Calm.{calm}
 use Rattle.diagram_reader.specs.Drawing.{helper_of, rank_of}
 use Rattle.diagram_reader.specs.Drawn.{has_helpers, has_ranks}
 use Rattle.diagram_reader.specs.Drawn as diagrams
-use Rattle.diagram_reader.specs.declared.fault.DiagramFault.{DiagramFault}
 use Rattle.proof_script.specs.Listing.{Setting}
 use Rattle.proof_grammar.specs.Drawings.{IsNodeHelper, IsNodeRank, node_helper, node_rank, unhelped, unranked}
 use Rattle.st_reading.specs.Phrases.{Optional, after_mark, left_out, put_in}
@@ -74,10 +74,10 @@ module _ (g : Setting) (kind : DiagramKind) (highest : ℕ) where
   drawn_setting = drawing_setting g kind highest
 
   -- RANKS
-  abbrev pub rank_parts : Phrase DiagramFault (Option Linear) (among (marks.Rank ∷ [])) calm
+  abbrev pub rank_parts : Phrase Breach (Option Linear) (among (marks.Rank ∷ [])) calm
   rank_parts = then_phrase (among (marks.Rank ∷ [])) anything anything calm (λ g h. h) (the_mark marks.Rank) (λ m. map_phrase anything calm (λ e. Some e) (drawn_number_phrase g kind highest))
 
-  abbrev pub rank_where : Phrase DiagramFault (Option Linear) rank_or_closing helper_or_closing
+  abbrev pub rank_where : Phrase Breach (Option Linear) rank_or_closing helper_or_closing
   rank_where = where_phrase rank_or_closing helper_or_closing (has_ranks kind) None helper_or (within_phrase (among (marks.Rank ∷ [])) calm rank_or_closing helper_or_closing rank_or helper_closing_calm rank_parts)
 
   pub to_rank : (ts : List Lexeme) (r : Option Linear) → rank_where.language ts r → IsNodeRank g kind highest ts r
@@ -88,7 +88,7 @@ module _ (g : Setting) (kind : DiagramKind) (highest : ℕ) where
   from_rank ts r (unranked e) = where_not e
   from_rank ts r (node_rank us x e (after_mark t c y f l)) = where_so (t ∷ c) (Some y) e (behind_it (t ∷ []) c t.start (Some y) (one_mark t f) (made c y l))
 
-  abbrev pub rank_as : Phrase DiagramFault (Option Linear) rank_or_closing helper_or_closing
+  abbrev pub rank_as : Phrase Breach (Option Linear) rank_or_closing helper_or_closing
   rank_as = as_phrase rank_or_closing helper_or_closing rank_where (IsNodeRank g kind highest) to_rank from_rank
 
   pub rank_sound : Sound (rank_of drawn_setting) (IsNodeRank g kind highest)
@@ -99,14 +99,14 @@ module _ (g : Setting) (kind : DiagramKind) (highest : ℕ) where
   unfolding rank_of
   rank_complete = rank_as.complete
 
-  abbrev pub rank_phrase : Phrase DiagramFault (Option Linear) rank_or_closing helper_or_closing
+  abbrev pub rank_phrase : Phrase Breach (Option Linear) rank_or_closing helper_or_closing
   rank_phrase = record { reader = rank_of drawn_setting; language = IsNodeRank g kind highest; sound = rank_sound; complete = rank_complete; begins = rank_as.begins }
 
   -- HELPERS, which chain and rank diagrams want
   abbrev pub MayHelp : List Lexeme → Option ℕ → Type 0
   MayHelp = Where (has_helpers kind) (Optional marks.Helper (IsHelper g)) None
 
-  abbrev pub helper_allowed : Phrase DiagramFault (Option ℕ) helper_or_closing closing
+  abbrev pub helper_allowed : Phrase Breach (Option ℕ) helper_or_closing closing
   helper_allowed = allowed_phrase (has_helpers kind) marks.Helper is_name no_dot closing closing_unhelped closing_undotted (drawn_helper_phrase g kind highest)
 
   pub allowed_helper_sound : Sound (helper_of drawn_setting) MayHelp
@@ -117,7 +117,7 @@ module _ (g : Setting) (kind : DiagramKind) (highest : ℕ) where
   unfolding helper_of
   allowed_helper_complete = helper_allowed.complete
 
-  abbrev pub allowed_helper : Phrase DiagramFault (Option ℕ) helper_or_closing closing
+  abbrev pub allowed_helper : Phrase Breach (Option ℕ) helper_or_closing closing
   allowed_helper = record { reader = helper_of drawn_setting; language = MayHelp; sound = allowed_helper_sound; complete = allowed_helper_complete; begins = helper_allowed.begins }
 
   pub wanted : (ts : List Lexeme) (h : Option ℕ) → MayHelp ts h → (has_helpers kind && is_none h) ≡ false → IsNodeHelper g kind highest ts h

@@ -1,5 +1,6 @@
 -- Responses with their rules: read exactly where they are spelled.
 use Rattle.std.proofs.Common.{List, ◌++◌}
+use Rattle.st_reading.specs.Breaches.{Breach}
 use Rattle.st_tokens.specs.Stream.{Lexeme}
 use Rattle.st_reading.proofs.ListCompleteness.{Complete}
 use Rattle.st_reading.specs.Spelling.{Sound, behind_it}
@@ -9,7 +10,6 @@ use Rattle.temporal_goals.specs.Texts.{PlainGoal, PlainRule, response}
 use Rattle.expression_parser.specs.Calm.{calm}
 use Rattle.proof_script.specs.Listing.{Setting}
 use Rattle.proof_script.specs.Steps.{response_of}
-use Rattle.proof_script.specs.declared.fault.ScriptFault.{ScriptFault}
 use Rattle.proof_grammar.specs.Grammar.{IsResponse, responds}
 use Rattle.proof_grammar.proofs.Formulas.{number_phrase, truth_phrase}
 use Rattle.proof_grammar.proofs.GoalEnds.{before_by, before_leads, before_within}
@@ -19,7 +19,7 @@ use Rattle.proof_grammar.proofs.Rules.{ending, rule_phrase}
 use Rattle.proof_grammar.proofs.TypedTexts.{undrawn}
 
 module _ (g : Setting) where
-  abbrev pub response_parts : Phrase ScriptFault (PlainGoal × PlainRule) undrawn ending
+  abbrev pub response_parts : Phrase Breach (PlainGoal × PlainRule) undrawn ending
   response_parts =
       then_phrase undrawn calm (only_mark marks.Leads) ending before_leads (truth_phrase g) (λ p.
       then_phrase (only_mark marks.Leads) calm (only_mark marks.Within) ending before_within (after_phrase marks.Leads undrawn calm (truth_phrase g)) (λ q.
@@ -32,7 +32,7 @@ module _ (g : Setting) where
   pub from_response : (ts : List Lexeme) (x : PlainGoal × PlainRule) → IsResponse g ts x → response_parts.language ts x
   from_response ts x (responds a b c d p q e r l1 l2 l3 l4) = behind_it a (b ++ (c ++ d)) p _ l1 (behind_it b (c ++ d) q _ l2 (behind_it c d e _ l3 (made d r l4)))
 
-  abbrev pub response_as : Phrase ScriptFault (PlainGoal × PlainRule) undrawn ending
+  abbrev pub response_as : Phrase Breach (PlainGoal × PlainRule) undrawn ending
   response_as = as_phrase undrawn ending response_parts (IsResponse g) to_response from_response
 
   pub response_sound : Sound (response_of g) (IsResponse g)

@@ -1,5 +1,6 @@
 -- The rules of a response, by the token behind "by": read exactly where they are spelled.
 use Rattle.std.proofs.Common.{Bool, List, [], refl, ◌++◌, ◌∷◌}
+use Rattle.st_reading.specs.Breaches.{Breach}
 use Rattle.st_tokens.specs.Stream.{Lexeme, Stream}
 use Rattle.st_reading.proofs.ListCompleteness.{Complete}
 use Rattle.st_reading.specs.Mark.{number}
@@ -15,7 +16,6 @@ use Rattle.temporal_goals.specs.declared.diagrams.DiagramKind.TheVariants as kin
 use Rattle.response_rules.specs.Forms.{chain_nodes, fair_nodes, ranked_nodes}
 use Rattle.proof_script.specs.Listing.{Setting}
 use Rattle.proof_script.specs.Rules.{chain_nodes_of, fair_nodes_of, just_nodes_of, kind_in, manner_in, nested_nodes_of, net_rule_of, nodes_of, ranked_nodes_of, response_diagram_of, rule_of, ruled_of}
-use Rattle.proof_script.specs.declared.fault.ScriptFault.{ScriptFault}
 use Rattle.proof_script.specs.declared.rules.Manner.{Manner}
 use Rattle.proof_script.specs.declared.rules.Manner.TheVariants as manners
 use Rattle.proof_grammar.specs.Drawings.{IsDrawing}
@@ -45,24 +45,24 @@ block_ungrouped = marks_within (but marks.Group) (marks.OpenBlock ∷ []) refl
 
 module _ (g : Setting) where
   -- behind "net"
-  abbrev pub plain_net_phrase : Phrase ScriptFault PlainRule (only_mark marks.OpenBlock) anything
+  abbrev pub plain_net_phrase : Phrase Breach PlainRule (only_mark marks.OpenBlock) anything
   plain_net_phrase =
       map_phrase (only_mark marks.OpenBlock) anything (λ ns. net ns) (record { reader = nodes_of g; language = Bracketed (IsNode g); sound = nodes_sound g; complete = nodes_complete g; begins = nodes_begin g })
 
-  abbrev pub nested_net_phrase : Phrase ScriptFault PlainRule anything anything
+  abbrev pub nested_net_phrase : Phrase Breach PlainRule anything anything
   nested_net_phrase = map_phrase anything anything (λ ns. nested ns) (record { reader = nested_nodes_of g; language = Bracketed (IsNestedNode g); sound = nested_sound g; complete = nested_complete g; begins = λ ts x l after h. refl })
 
-  abbrev pub net_phrase : Phrase ScriptFault PlainRule (either_front marks.Group anything (only_mark marks.OpenBlock) anything block_ungrouped nested_net_phrase plain_net_phrase) anything
+  abbrev pub net_phrase : Phrase Breach PlainRule (either_front marks.Group anything (only_mark marks.OpenBlock) anything block_ungrouped nested_net_phrase plain_net_phrase) anything
   net_phrase = either_phrase marks.Group anything (only_mark marks.OpenBlock) anything block_ungrouped nested_net_phrase plain_net_phrase
 
   -- behind "diagram"
-  abbrev pub drawn_rule : DiagramKind → Phrase ScriptFault PlainRule anything anything
+  abbrev pub drawn_rule : DiagramKind → Phrase Breach PlainRule anything anything
   drawn_rule k = rule_drawing g k 0
 
   abbrev pub Drawn : DiagramKind → List Lexeme → PlainRule → Type 0
   Drawn k = Made (λ d. diagram d) (IsDrawing g k 0)
 
-  abbrev pub drawn_choice : Phrase ScriptFault PlainRule anything anything
+  abbrev pub drawn_choice : Phrase Breach PlainRule anything anything
   drawn_choice = choice_phrase kind_in refl anything (λ k. (drawn_rule k).reader) Drawn (λ k. (drawn_rule k).sound) (λ k. (drawn_rule k).complete)
 
   -- behind each token
@@ -74,7 +74,7 @@ module _ (g : Setting) where
   Ruled manners.Net = Either marks.Group (Made (λ ns. nested ns) (Bracketed (IsNestedNode g))) (Made (λ ns. net ns) (Bracketed (IsNode g)))
   Ruled manners.Diagram = Chosen kind_in Drawn
 
-  abbrev pub by_list : (r : Stream → Read ScriptFault (List PlainNode)) (L : List Lexeme → List PlainNode → Type 0) → Sound r L → Complete no_dot r L → Phrase ScriptFault PlainRule anything no_dot
+  abbrev pub by_list : (r : Stream → Read Breach (List PlainNode)) (L : List Lexeme → List PlainNode → Type 0) → Sound r L → Complete no_dot r L → Phrase Breach PlainRule anything no_dot
   by_list r L sound complete = map_phrase anything no_dot (λ ns. net ns) (record { reader = r; language = L; sound = sound; complete = complete; begins = λ ts x l after h. refl })
 
   pub ruled_sound : (m : Manner) → Sound (ruled_of g m) (Ruled m)
@@ -95,7 +95,7 @@ module _ (g : Setting) where
   ruled_complete manners.Net ts x l after h = net_phrase.complete ts x l after refl
   ruled_complete manners.Diagram ts x l after h = drawn_choice.complete ts x l after refl
 
-  abbrev pub rule_choice : Phrase ScriptFault PlainRule anything ending
+  abbrev pub rule_choice : Phrase Breach PlainRule anything ending
   rule_choice = choice_phrase manner_in refl ending (ruled_of g) Ruled ruled_sound ruled_complete
 
   pub to_rule : (ts : List Lexeme) (x : PlainRule) → rule_choice.language ts x → IsRule g ts x
@@ -119,7 +119,7 @@ module _ (g : Setting) where
   from_rule ts x (by_chain_diagram t u us d e f l) = chosen manners.Diagram t (u ∷ us) (diagram d) (manner_found (sign_of t) manners.Diagram e) (chosen kinds.Chain u us (diagram d) (kind_found (sign_of u) kinds.Chain f) (made us d l))
   from_rule ts x (by_rank_diagram t u us d e f l) = chosen manners.Diagram t (u ∷ us) (diagram d) (manner_found (sign_of t) manners.Diagram e) (chosen kinds.Rank u us (diagram d) (kind_found (sign_of u) kinds.Rank f) (made us d l))
 
-  abbrev pub rule_as : Phrase ScriptFault PlainRule anything ending
+  abbrev pub rule_as : Phrase Breach PlainRule anything ending
   rule_as = as_phrase anything ending rule_choice (IsRule g) to_rule from_rule
 
   pub rule_sound : Sound (rule_of g) (IsRule g)
@@ -130,5 +130,5 @@ module _ (g : Setting) where
   unfolding rule_of
   rule_complete = rule_as.complete
 
-  abbrev pub rule_phrase : Phrase ScriptFault PlainRule anything ending
+  abbrev pub rule_phrase : Phrase Breach PlainRule anything ending
   rule_phrase = record { reader = rule_of g; language = IsRule g; sound = rule_sound; complete = rule_complete; begins = λ ts x l after h. refl }

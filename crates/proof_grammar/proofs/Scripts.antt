@@ -1,21 +1,21 @@
 -- Steps behind one another, up to the text's end, and the laws of scripts.
-use Rattle.std.proofs.Common.{Err, List, None, Ok, Option, Some, [], ap, refl, suc, sym, zero, ℕ, ◌++◌, ◌∙◌, ◌∷◌, ◌≡◌}
+use Rattle.std.proofs.Common.{List, None, Ok, Option, Some, [], ap, refl, suc, sym, zero, ℕ, ◌++◌, ◌∙◌, ◌∷◌, ◌≡◌}
+use Rattle.st_reading.specs.Breaches.{Breach, alone}
 use Rattle.st_tokens.specs.Stream.{Lexeme, Stream, behind, breaks, ends, more, text_stream, ◌++>◌}
 use Rattle.st_reading.proofs.Chains.{chain_none, chain_of, chain_step}
 use Rattle.st_reading.proofs.ListSoundness.{Given, given}
 use Rattle.st_reading.proofs.Soundness.{Shrinks, chain_sound, sound_shrinks, split, taken, values}
 use Rattle.st_reading.proofs.Steadiness.{bind_ok}
 use Rattle.st_reading.proofs.Streams.{append_stream}
-use Rattle.st_reading.specs.Reading.{Read, Turn, ahead, at_end, chain, gives, goes, leaves, on_operator, place_of, size, then_reads, turned, ◌>>=◌}
+use Rattle.st_reading.specs.Reading.{Turn, ahead, at_end, chain, gives, goes, leaves, on_operator, place_of, size, then_reads, turned, ◌>>=◌}
 use Rattle.st_reading.specs.Sign.{sign_of}
 use Rattle.st_reading.specs.Spelling.{Links, Sound, ended as last_link, left, linked}
 use Rattle.st_reading.specs.Steady.{anything}
 use Rattle.st_program.specs.Names.{AreApart}
 use Rattle.temporal_goals.specs.Texts.{PlainStep}
 use Rattle.proof_script.specs.Listing.{Setting}
-use Rattle.proof_script.specs.Script.{alone, ended, script_spelled, step_turn, steps_of}
+use Rattle.proof_script.specs.Script.{ended, script_spelled, step_turn, steps_of}
 use Rattle.proof_script.specs.Steps.{Earlier, claim_in, earlier_of, step_of}
-use Rattle.proof_script.specs.declared.fault.ScriptFault.{ScriptFault}
 use Rattle.proof_script.specs.declared.steps.Claim.{Claim}
 use Rattle.proof_script.specs.declared.steps.Claim.TheVariants as claims
 use Rattle.proof_grammar.specs.Grammar.{IsInvariance, IsResponse, IsScript, IsWaiting, a_further_step, invariance_step, no_further_step, response_step, waiting_step}
@@ -26,10 +26,10 @@ use Rattle.proof_grammar.proofs.Steps.{Claimed, Claims, IsRead, claim_found, fro
 use Rattle.proof_script.proofs.Scripts.{alone_read}
 
 module _ (g : Setting) where
-  abbrev pub one_step : Claim → Earlier → Phrase ScriptFault PlainStep anything anything
+  abbrev pub one_step : Claim → Earlier → Phrase Breach PlainStep anything anything
   one_step claim earlier = record { reader = step_of g claim earlier; language = IsRead (Claimed g claim) earlier; sound = step_sound g claim earlier; complete = step_complete g claim earlier; begins = λ ts x l after h. refl }
 
-  abbrev pub turn : Claim → ℕ → List PlainStep → Phrase ScriptFault (Turn (List PlainStep) (List PlainStep)) anything anything
+  abbrev pub turn : Claim → ℕ → List PlainStep → Phrase Breach (Turn (List PlainStep) (List PlainStep)) anything anything
   turn claim place steps = map_phrase anything anything (λ x. goes (steps ++ x ∷ [])) (one_step claim (earlier_of steps))
 
   shrinks : (claim : Claim) (place : ℕ) (steps : List PlainStep) → Shrinks (step_turn g claim place steps)
@@ -37,7 +37,7 @@ module _ (g : Setting) where
 
   pub ended_sound : (steps : List PlainStep) → Sound (ended steps) (Given steps)
   unfolding at_end
-  ended_sound steps (ends q) zs rest h = taken {X = ScriptFault} (Given steps) [] (gives steps (ends q)) steps zs (ends q) rest refl h given
+  ended_sound steps (ends q) zs rest h = taken {X = Breach} (Given steps) [] (gives steps (ends q)) steps zs (ends q) rest refl h given
   ended_sound steps (breaks f) zs rest h = absurd cc
   ended_sound steps (more t s) zs rest h = absurd cc
 
@@ -85,7 +85,7 @@ module _ (g : Setting) where
   -- what is left is the text's end
   ended_ends : (steps zs : List PlainStep) (s rest : Stream) → ended steps s ≡ Ok (zs, rest) → (q : ℕ) × (rest ≡ ends q)
   unfolding at_end
-  ended_ends steps zs (ends q) rest h = let v = values {X = ScriptFault} (gives steps (ends q)) steps zs (ends q) rest refl h in (q, sym v.1)
+  ended_ends steps zs (ends q) rest h = let v = values {X = Breach} (gives steps (ends q)) steps zs (ends q) rest refl h in (q, sym v.1)
   ended_ends steps zs (breaks f) rest h = absurd cc
   ended_ends steps zs (more t s) rest h = absurd cc
 
@@ -118,6 +118,7 @@ module _ (g : Setting) where
   unfolding steps_of
   script_ends before zs s rest h = chain_ends (size s) before zs s rest h
 
+-- THE LAWS
 pub spelled_scripts_are_read : SpelledScriptsAreRead
 unfolding script_spelled
 spelled_scripts_are_read g text steps l =

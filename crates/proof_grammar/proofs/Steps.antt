@@ -1,5 +1,6 @@
 -- Steps: read exactly where they are spelled.
 use Rattle.std.proofs.Common.{List, None, Some, [], cond, refl, true, ℕ, ◌++◌, ◌∷◌, ◌≡◌}
+use Rattle.st_reading.specs.Breaches.{Breach}
 use Rattle.st_tokens.specs.Stream.{Lexeme}
 use Rattle.st_reading.proofs.ListCompleteness.{Complete}
 use Rattle.st_reading.proofs.ListSoundness.{one_mark}
@@ -15,7 +16,6 @@ use Rattle.st_program.specs.Names.{AreApart, IsNew}
 use Rattle.temporal_goals.specs.Texts.{PlainGoal, PlainRule, PlainStep}
 use Rattle.proof_script.specs.Listing.{Setting}
 use Rattle.proof_script.specs.Steps.{Earlier, claim_in, claimed_of, earlier_of, step_of}
-use Rattle.proof_script.specs.declared.fault.ScriptFault.{ScriptFault}
 use Rattle.proof_script.specs.declared.steps.Claim.{Claim}
 use Rattle.proof_script.specs.declared.steps.Claim.TheVariants as claims
 use Rattle.proof_grammar.specs.Grammar.{IsInvariance, IsNamed, IsResponse, IsStep, IsUsing, IsWaiting, invariance_step, named_step, no_using, response_step, using_names, waiting_step}
@@ -120,11 +120,11 @@ module _ (g : Setting) where
   claimed_complete claims.Waiting ts x l after h = waiting_complete g ts x l after h
   claimed_complete claims.Response ts x l after h = response_complete g ts x l after h
 
-  abbrev pub claimed_phrase : Claim → Phrase ScriptFault (PlainGoal × PlainRule) anything ending
+  abbrev pub claimed_phrase : Claim → Phrase Breach (PlainGoal × PlainRule) anything ending
   claimed_phrase c = record { reader = claimed_of g c; language = Claimed c; sound = claimed_sound c; complete = claimed_complete c; begins = λ ts x l after h. refl }
 
   -- STEPS, behind the token that says what is claimed
-  abbrev pub step_parts : Claim → Earlier → Phrase ScriptFault PlainStep is_name anything
+  abbrev pub step_parts : Claim → Earlier → Phrase Breach PlainStep is_name anything
   step_parts c earlier =
       then_phrase is_name anything (only_mark marks.Colon) anything (λ g h. refl) (new_name_phrase earlier) (λ name.
       then_phrase (only_mark marks.Colon) ending ending anything (λ g h. h) (after_phrase marks.Colon anything ending (claimed_phrase c)) (λ x.
@@ -137,7 +137,7 @@ module _ (g : Setting) where
   pub from_step : (c : Claim) (earlier : Earlier) (ts : List Lexeme) (x : PlainStep) → IsRead (Claimed c) earlier ts x → (step_parts c earlier).language ts x
   from_step c earlier ts s (read_step a b d v name x cited l k u f) = behind_it a (b ++ (d ++ v ∷ [])) name _ l (behind_it b (d ++ v ∷ []) x _ k (behind_it d (v ∷ []) cited _ u (made (v ∷ []) v.start (one_mark v f))))
 
-  abbrev pub step_as : Claim → Earlier → Phrase ScriptFault PlainStep is_name anything
+  abbrev pub step_as : Claim → Earlier → Phrase Breach PlainStep is_name anything
   step_as c earlier = as_phrase is_name anything (step_parts c earlier) (IsRead (Claimed c) earlier) (to_step c earlier) (from_step c earlier)
 
   pub step_sound : (c : Claim) (earlier : Earlier) → Sound (step_of g c earlier) (IsRead (Claimed c) earlier)

@@ -1,6 +1,7 @@
 -- Texts that are typed as a whole, and tokens with which no formula begins.
 use Rattle.std.proofs.Common.{Bool, Err, List, Ok, Result, ap, arith, refl, sym, true, ◌∙◌, ◌≡◌}
 use Rattle.std.proofs.lemmas.Bool.Decides.{nat_tests}
+use Rattle.st_reading.specs.Breaches.{Breach}
 use Rattle.st_tokens.specs.Stream.{Lexeme, Stream, ◌++>◌}
 use Rattle.st_reading.proofs.ListCompleteness.{Complete}
 use Rattle.st_reading.proofs.Numbers.{is_marked}
@@ -18,19 +19,19 @@ use Rattle.expression_parser.specs.Reading.{Down, atom_at, atom_of, chained, com
 use Rattle.expression_parser.specs.Signs.{front, product_sign, sum_sign}
 use Rattle.expression_parser.specs.declared.sign.Front.TheVariants as fronts
 use Rattle.expression_typer.specs.declared.fault.TypeFault.{TypeFault}
-use Rattle.assertions.specs.Reading.{Answer, before, typed_behind}
+use Rattle.assertions.specs.Reading.{before, typed_behind}
 use Rattle.proof_grammar.specs.Phrases.{Typed}
 use Rattle.st_reading.proofs.Tokens.{but}
 
 -- WHAT IS TYPED AS A WHOLE
-abbrev pub read_to : {A : Type 0} → A → Stream → Answer A
+abbrev pub read_to : {A : Type 0} → A → Stream → Read Breach A
 read_to x s = Ok (x, s)
 
 same_read : {A : Type 0} (x y : A) (s t : Stream) → read_to x s ≡ Ok (y, t) → (x ≡ y) × (s ≡ t)
 same_read {A} x y s t h = let e : (x, s) ≡ (y, t) = cc in (ap (λ (p : A × Stream). p.0) e, ap (λ (p : A × Stream). p.1) e)
 
 module _ {A : Type 0} (r : Stream → Read Passed Expr) (L : List Lexeme → Expr → Type 0) (typing : Expr → Result A TypeFault) where
-  abbrev pub answer : Stream → Answer A
+  abbrev pub answer : Stream → Read Breach A
   answer s = typed_behind typing (r s)
 
   module _ (sound : Sound r L) where

@@ -1,5 +1,6 @@
 -- Goals of nested waiting-for: read exactly where they are spelled.
 use Rattle.std.proofs.Common.{List, [], arith, length, refl, subst, sym, ℕ, ◌++◌, ◌<◌, ◌∷◌, ◌≤◌}
+use Rattle.st_reading.specs.Breaches.{Breach}
 use Rattle.st_tokens.specs.Stream.{Lexeme}
 use Rattle.st_reading.proofs.ListCompleteness.{Complete}
 use Rattle.st_reading.specs.Spelling.{Sound, behind_it}
@@ -9,7 +10,6 @@ use Rattle.st_form.specs.Formula.{Formula}
 use Rattle.expression_parser.specs.Calm.{calm}
 use Rattle.proof_script.specs.Listing.{Setting}
 use Rattle.proof_script.specs.Steps.{waiting_goal_of}
-use Rattle.proof_script.specs.declared.fault.ScriptFault.{ScriptFault}
 use Rattle.proof_grammar.specs.Grammar.{IsWaitingGoal, waiting_goal}
 use Rattle.st_reading.specs.Phrases.{After, after_mark}
 use Rattle.proof_grammar.specs.Units.{IsFormula}
@@ -27,7 +27,7 @@ module _ (g : Setting) where
   pub from_few : (m : Mark) (before : ℕ) (ts : List Lexeme) (x : Formula) → After m (Few before (IsFormula g)) ts x → After m (IsFormula g) ts x
   from_few m before ts x (after_mark t us y e l) = after_mark t us y e l.1
 
-  abbrev pub goal_parts : Phrase ScriptFault (Formula × List Formula) undrawn (only_mark marks.By)
+  abbrev pub goal_parts : Phrase Breach (Formula × List Formula) undrawn (only_mark marks.By)
   goal_parts =
       then_phrase undrawn calm (only_mark marks.Unless) (only_mark marks.By) before_unless (truth_phrase g) (λ p.
       then_phrase (only_mark marks.Unless) calm (only_mark marks.Wait) (only_mark marks.By) before_wait (after_phrase marks.Unless undrawn calm (listed_truth g 0)) (λ q.
@@ -43,7 +43,7 @@ module _ (g : Setting) where
   from_goal ts w (waiting_goal a b c d p q r qs l1 l2 l3 items le) =
       behind_it a (b ++ (c ++ d)) p _ l1 (behind_it b (c ++ d) q _ (to_few marks.Unless 0 (omega arith) b q l2) (behind_it c d r _ (to_few marks.Wait 1 (omega arith) c r l3) (made d (q ∷ r ∷ qs) (record { others = qs; joined = refl; spells = items; limited = le }))))
 
-  abbrev pub goal_as : Phrase ScriptFault (Formula × List Formula) undrawn (only_mark marks.By)
+  abbrev pub goal_as : Phrase Breach (Formula × List Formula) undrawn (only_mark marks.By)
   goal_as = as_phrase undrawn (only_mark marks.By) goal_parts (IsWaitingGoal g) to_goal from_goal
 
   pub goal_sound : Sound (waiting_goal_of g) (IsWaitingGoal g)
@@ -54,5 +54,5 @@ module _ (g : Setting) where
   unfolding waiting_goal_of
   goal_complete = goal_as.complete
 
-  abbrev pub goal_phrase : Phrase ScriptFault (Formula × List Formula) undrawn (only_mark marks.By)
+  abbrev pub goal_phrase : Phrase Breach (Formula × List Formula) undrawn (only_mark marks.By)
   goal_phrase = record { reader = waiting_goal_of g; language = IsWaitingGoal g; sound = goal_sound; complete = goal_complete; begins = goal_as.begins }

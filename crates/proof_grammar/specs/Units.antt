@@ -15,7 +15,8 @@ use Rattle.expression_parser.specs.Grammar.{Inside, IsSum, SpellsWithin}
 use Rattle.expression_typer.specs.Naming.{is_text, names_of}
 use Rattle.assertions.specs.Reading.{number_of, truth_of}
 use Rattle.rule_fits.specs.Fitting.{fairness_of}
-use Rattle.diagram_reader.specs.Transitions.{part_named, transition_named}
+use Rattle.assertions.specs.Labels.{part_named}
+use Rattle.diagram_reader.specs.Transitions.{transition_named}
 use Rattle.proof_script.specs.Listing.{Setting}
 use Rattle.proof_grammar.specs.Phrases.{Typed}
 

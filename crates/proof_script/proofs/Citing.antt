@@ -5,6 +5,7 @@ use Rattle.std.specs.Str.{bytes_eq}
 use Rattle.std.proofs.lemmas.Option.{slice_get-map}
 use Rattle.std.proofs.lemmas.List.Elements.{All-nil, All-push}
 use Rattle.st_tokens.specs.Stream.{Stream, behind}
+use Rattle.st_reading.proofs.Judged.{both, given, allowed, there}
 use Rattle.st_reading.specs.declared.mark.Mark.TheVariants as marks
 use Rattle.st_reading.specs.Sign.{is}
 use Rattle.st_reading.specs.Reading.{ahead, expected, named, then_reads, further}
@@ -14,15 +15,14 @@ use Rattle.expression_typer.specs.Naming.{is_text}
 use Rattle.expression_typer.specs.Naming.{variable_at}
 use Rattle.transition_system.specs.Systems.{System}
 use Rattle.temporal_goals.specs.Texts.{PlainGoal, invariant, waiting, response, PlainStep}
-use Rattle.diagram_reader.proofs.Inverses.{both}
+use Rattle.st_reading.specs.Rule as rules
+use Rattle.st_reading.specs.Breaches.{Breach, broke, present}
 use Rattle.proof_script.specs.declared.steps.Claim.{Claim}
-use Rattle.proof_script.specs.declared.fault.ScriptKind.TheVariants as kinds
-use Rattle.proof_script.specs.declared.fault.ScriptFault.{ScriptFault}
-use Rattle.proof_script.specs.Listing.{Setting, present, behind_mark}
+use Rattle.proof_script.specs.Listing.{Setting, behind_mark}
 use Rattle.proof_script.specs.Steps.{Earlier, is_invariance, earlier_of, step_named, new_name_of, cited_of, citations_of, claimed_of, step_of}
 use Rattle.proof_script.specs.Script.{script_spelled}
 use Rattle.rule_fits.specs.Obeying.{IsLemma, CiteLemmas}
-use Rattle.proof_script.proofs.Inverses.{given, allowed, there, further_all}
+use Rattle.proof_script.proofs.Inverses.{further_all}
 use Rattle.proof_script.proofs.Scripts.{setting_for, script_keeps}
 use Rattle.basic_laws.proofs.Truths.{not_false}
 
@@ -34,11 +34,11 @@ pair_or d (Some p) = p
 cited_known : (earlier : Earlier) (n : ℕ) (s rest : Stream) → cited_of earlier s ≡ Ok (n, rest) → (name : List ℕ) × (step_named earlier name ≡ Some (n, true))
 unfolding cited_of
 cited_known earlier n s rest h =
-    let a = both (named {X = ScriptFault} s) _ (n, rest) h in
+    let a = both (named {X = Breach} s) _ (n, rest) h in
     let o = step_named earlier a.value.0.text in
-    let b = both (present kinds.UnknownLemma a.value.0.place o a.value.1) _ (n, rest) a.second in
-    let c = allowed (not b.value.0.1) kinds.NotInvariant a.value.0.place b.value.0.0 n b.value.1 rest b.second in
-    let f = there kinds.UnknownLemma a.value.0.place o b.value.0 a.value.1 b.value.1 b.first in
+    let b = both (present (broke rules.UnknownLemma a.value.0.place) o a.value.1) _ (n, rest) a.second in
+    let c = allowed (not b.value.0.1) (broke rules.NotInvariant a.value.0.place) b.value.0.0 n b.value.1 rest b.second in
+    let f = there (broke rules.UnknownLemma a.value.0.place) o b.value.0 a.value.1 b.value.1 b.first in
     (a.value.0.text, f ∙ ap (λ t. Some (b.value.0.0, t)) (not_false b.value.0.1 c.0) ∙ ap (λ k. Some (k, true)) c.1)
 
 module _ (earlier : Earlier) (n : ℕ) where
@@ -100,7 +100,7 @@ module _ (g : Setting) where
       let a = both (new_name_of (earlier_of steps) s) _ (x, rest) h in
       let b = both (behind_mark marks.Colon (claimed_of g claim) a.value.1) _ (x, rest) a.second in
       let c = both (citations_of (earlier_of steps) b.value.1) _ (x, rest) b.second in
-      let d = both (expected {X = ScriptFault} marks.Semicolon c.value.1) _ (x, rest) c.second in
+      let d = both (expected {X = Breach} marks.Semicolon c.value.1) _ (x, rest) c.second in
       let made : PlainStep = record { name = a.value.0; goal = b.value.0.0; rule = b.value.0.1; cited = c.value.0 } in
       subst (λ (y : PlainStep). All (IsLemma steps) y.cited) {x = made} (given made x d.value.1 rest d.second) (citations_are steps c.value.0 b.value.1 c.value.1 c.first)
 

@@ -6,15 +6,15 @@ use Rattle.st_reading.specs.Sign.{is}
 use Rattle.st_reading.specs.Reading.{Stop, Read, IsStop, ahead, size, gives, goes, only}
 use Rattle.st_reading.proofs.Chains.{Running, running_next, running_ends, running_fails}
 use Rattle.st_reading.proofs.Loops.{mapped, map_fails, only_some, only_none}
-use Rattle.proof_script.specs.declared.fault.ScriptFault.{ScriptFault}
-use Rattle.proof_script.specs.Listing.{Reader, counted}
+use Rattle.st_reading.specs.Breaches.{Breach, Reader}
+use Rattle.proof_script.specs.Listing.{counted}
 
-module _ {A : Type 0} (mark : Mark) (r : ℕ → Reader A) (start : Stream) (whole : Read ScriptFault (List A)) where
+module _ {A : Type 0} (mark : Mark) (r : ℕ → Reader A) (start : Stream) (whole : Read Breach (List A)) where
   -- so far these items were read, and that is left
   abbrev pub Listing_on : List A → Stream → Type 0
   Listing_on ys after = Running (only mark) (counted r) gives ys after start whole
 
-module _ {A : Type 0} (mark : Mark) (r : ℕ → Reader A) (xs : List A) (s start : Stream) (whole : Read ScriptFault (List A)) where
+module _ {A : Type 0} (mark : Mark) (r : ℕ → Reader A) (xs : List A) (s start : Stream) (whole : Read Breach (List A)) where
   abbrev Reading_on : List A → Stream → Type 0
   Reading_on = Listing_on mark r start whole
 
@@ -27,7 +27,7 @@ module _ {A : Type 0} (mark : Mark) (r : ℕ → Reader A) (xs : List A) (s star
   pub counted_ends : Reading_on xs s → false ≡ is (ahead s) mark → whole ≡ Ok (xs, s)
   counted_ends g h = running_ends (only mark) (counted r) gives refl xs s start whole g (only_none (ahead s) mark h)
 
-  pub counted_fails : (n : ℕ) (e : Option (Stop ScriptFault)) (next : Stream) → Reading_on xs s → true ≡ is (ahead s) mark → next ≡ behind s → n ≡ length xs → IsStop e (r n next) → IsStop e whole
+  pub counted_fails : (n : ℕ) (e : Option (Stop Breach)) (next : Stream) → Reading_on xs s → true ≡ is (ahead s) mark → next ≡ behind s → n ≡ length xs → IsStop e (r n next) → IsStop e whole
   counted_fails n e next g h is_next count fails =
       running_fails (only mark) (counted r) gives refl xs s start whole g tt e next (only_some (ahead s) mark h) is_next
       (map_fails (λ y. goes (xs ++ y ∷ [])) (r (length xs)) next e (rw (← count) fails))

@@ -4,6 +4,7 @@ use Rattle.std.proofs.lemmas.Bool.Decides.{nat_tests}
 use Rattle.std.proofs.lemmas.List.{length-map}
 use Rattle.std.proofs.lemmas.List.Elements.{All-nil, All-push, All-weaker}
 use Rattle.st_tokens.specs.Stream.{Stream, behind}
+use Rattle.st_reading.proofs.Judged.{both, given, allowed}
 use Rattle.st_reading.specs.declared.mark.Mark.TheVariants as marks
 use Rattle.st_reading.specs.Sign.{is}
 use Rattle.st_reading.specs.Reading.{Read, ahead, refusal, expected, gives, then_reads}
@@ -17,30 +18,28 @@ use Rattle.rule_fits.specs.Fitting.{NodesFit, LevelsExist}
 use Rattle.ranked_net.proofs.Faultless.{nodes-fit}
 use Rattle.nested_net.proofs.Faultless.{nodes-fit as nested-fit}
 use Rattle.response_rules.specs.Forms.{by_rank, chain_nodes, ranked_nodes, fair_nodes, fair_under}
-use Rattle.diagram_reader.specs.declared.fault.DiagramFault.{DiagramFault}
 use Rattle.diagram_reader.specs.Drawing.{diagram_of}
-use Rattle.diagram_reader.proofs.Inverses.{both}
 use Rattle.diagram_reader.proofs.Obeying.{diagram_obeys}
 use Rattle.diagram_reader.proofs.Speaking.{levels_exist, response_fits}
+use Rattle.st_reading.specs.Rule as rules
+use Rattle.st_reading.specs.Breaches.{Breach, broke, Reader, unless}
 use Rattle.proof_script.specs.declared.steps.Claim.{Claim}
 use Rattle.proof_script.specs.declared.steps.Claim.TheVariants as claims
 use Rattle.proof_script.specs.declared.rules.Manner.{Manner}
 use Rattle.proof_script.specs.declared.rules.Manner.TheVariants as manners
-use Rattle.proof_script.specs.declared.fault.ScriptKind.TheVariants as kinds
-use Rattle.proof_script.specs.declared.fault.ScriptFault.{ScriptFault}
 use Rattle.proof_script.specs.Faults.{drawn}
-use Rattle.proof_script.specs.Listing.{Setting, Reader, unless, optional, behind_mark, listed, bracketed, formula_of, sum_of, listed_formula_of, further_counted, compassionate_of}
+use Rattle.proof_script.specs.Listing.{Setting, optional, behind_mark, listed, bracketed, formula_of, sum_of, listed_formula_of, further_counted, compassionate_of}
 use Rattle.proof_script.specs.Rules.{helped_of, ranked_of, fair_of, manner_in, kind_in, just_nodes_of, chain_nodes_of, ranked_nodes_of, fair_nodes_of, nodes_of, nested_nodes_of, net_rule_of, response_diagram_of, as_net, ruled_of, rule_of}
 use Rattle.proof_script.specs.Steps.{invariance_rule, ends_rule, earlier_of, new_name_of, citations_of, matched_of, invariance_of, waiting_goal_of, levels_of, wait_diagram_of, waiting_by_of, waiting_of, response_of, claimed_of, step_of}
 use Rattle.proof_script.specs.Script.{script_spelled}
 use Rattle.rule_fits.specs.Obeying.{FitsInvariance, FitsWaiting, FitsResponse, RuleFits}
 use Rattle.proof_script.specs.Obeying.{HasFewGroups}
-use Rattle.proof_script.proofs.Inverses.{given, allowed, behind_it, operated, listed_few, listed_fits, further_some}
+use Rattle.proof_script.proofs.Inverses.{behind_it, operated, listed_few, listed_fits, further_some}
 use Rattle.proof_script.proofs.Unbroken.{helped_sound, chain_sound, ranked_sound, fair_sound, written_sound}
 use Rattle.proof_script.proofs.Grouping.{nested_sound, few_groups}
 use Rattle.proof_script.proofs.Scripts.{setting_for, script_keeps}
 
-pub drawn_is : {A : Type 0} (r : Read DiagramFault A) (x : A) (rest : Stream) → drawn r ≡ Ok (x, rest) → r ≡ Ok (x, rest)
+pub drawn_is : {A : Type 0} (r : Read Breach A) (x : A) (rest : Stream) → drawn r ≡ Ok (x, rest) → r ≡ Ok (x, rest)
 drawn_is (Ok y) x rest h = cc
 drawn_is (Err f) x rest h = absurd cc
 
@@ -69,9 +68,9 @@ matched_read : (place count : ℕ) (ls : List Formula) (rule : PlainRule) (s res
 unfolding matched_of
 matched_read place count ls rule s rest h = at_test (ends_rule (ahead s)) h
   where
-    at_test : (b : Bool) → cond b (unless (not (nat_eq (length ls) count)) kinds.WrongCount place (levels ls) s) (Err (refusal s)) ≡ Ok (rule, rest) → (length ls ≡ count) × (levels ls ≡ rule)
+    at_test : (b : Bool) → cond b (unless (not (nat_eq (length ls) count)) (broke rules.WrongCount place) (levels ls) s) (Err (refusal s)) ≡ Ok (rule, rest) → (length ls ≡ count) × (levels ls ≡ rule)
     at_test true h =
-        let a = allowed (not (nat_eq (length ls) count)) kinds.WrongCount place (levels ls) rule s rest h in
+        let a = allowed (not (nat_eq (length ls) count)) (broke rules.WrongCount place) (levels ls) rule s rest h in
         (equal (length ls) count a.0, a.1)
     at_test false h = absurd cc
 
@@ -137,7 +136,7 @@ module _ (g : Setting) where
   waiting_fits c s rest h =
       let a = both (waiting_goal_of g s) _ (c, rest) h in
       let b = both (then_reads (expected marks.By) (waiting_by_of g (length a.value.0.1)) a.value.1) _ (c, rest) a.second in
-      let d = both (expected {X = ScriptFault} marks.By a.value.1) _ b.value b.first in
+      let d = both (expected {X = Breach} marks.By a.value.1) _ b.value b.first in
       let made : PlainGoal × PlainRule = (waiting a.value.0.0 a.value.0.1, b.value.0) in
       subst (λ (x : PlainGoal × PlainRule). Rules g.system x.0 x.1) {x = made} (given made c b.value.1 rest b.second)
       (waiting_by_fits (length a.value.0.1) d.value.0 (waiting_some a.value.0 s a.value.1 a.first) b.value.0 d.value.1 b.value.1 d.second)
@@ -251,7 +250,7 @@ module _ (g : Setting) where
       let a = both (new_name_of (earlier_of steps) s) _ (x, rest) h in
       let b = both (behind_mark marks.Colon (claimed_of g claim) a.value.1) _ (x, rest) a.second in
       let c = both (citations_of (earlier_of steps) b.value.1) _ (x, rest) b.second in
-      let d = both (expected {X = ScriptFault} marks.Semicolon c.value.1) _ (x, rest) c.second in
+      let d = both (expected {X = Breach} marks.Semicolon c.value.1) _ (x, rest) c.second in
       let k = behind_it marks.Colon (claimed_of g claim) b.value.0 a.value.1 b.value.1 b.first in
       let made : PlainStep = record { name = a.value.0; goal = b.value.0.0; rule = b.value.0.1; cited = c.value.0 } in
       subst (λ (y : PlainStep). Rules g.system y.goal y.rule) {x = made} (given made x d.value.1 rest d.second) (claimed_fits claim b.value.0 k.0 b.value.1 k.1)

@@ -5,6 +5,7 @@ use Rattle.std.specs.Result.{ForErr}
 use Rattle.std.proofs.lemmas.Option.{none-some}
 use Rattle.std.proofs.lemmas.List.Elements.{All-nil, All-push, All-head, All-tail, All-weaker}
 use Rattle.st_tokens.specs.Stream.{Stream, behind}
+use Rattle.st_reading.proofs.Judged.{both, given, allowed}
 use Rattle.st_reading.specs.declared.mark.Mark.TheVariants as marks
 use Rattle.st_reading.specs.Sign.{is}
 use Rattle.st_reading.specs.Reading.{Stop, IsStop, ahead, place_of, refusal, then_reads}
@@ -16,12 +17,11 @@ use Rattle.ranked_net.specs.Making.{is_unfair, is_uncompassionate}
 use Rattle.nested_net.specs.declared.faults.NestedFault.{NestedFault}
 use Rattle.nested_net.specs.declared.faults.NestedFault.TheVariants as faults
 use Rattle.nested_net.specs.Making.{some_uncompassionate, unless_helped, first_fault, MakesNested}
-use Rattle.diagram_reader.proofs.Inverses.{both}
-use Rattle.proof_script.specs.declared.fault.ScriptKind.TheVariants as kinds
-use Rattle.proof_script.specs.declared.fault.ScriptFault.{ScriptFault}
-use Rattle.proof_script.specs.Listing.{Setting, unless, bracketed, behind_mark, sum_of, compassionate_of, listed_formula_of}
+use Rattle.st_reading.specs.Rule as rules
+use Rattle.st_reading.specs.Breaches.{Breach, broke, unless}
+use Rattle.proof_script.specs.Listing.{Setting, bracketed, behind_mark, sum_of, compassionate_of, listed_formula_of}
 use Rattle.proof_script.specs.Rules.{helper_of, weight_of, ends_item, nested_completed_of, group_level_of, group_levels_of, nested_node_of}
-use Rattle.proof_script.proofs.Inverses.{given, allowed, behind_it, listed_few, bracketed_fits}
+use Rattle.proof_script.proofs.Inverses.{behind_it, listed_few, bracketed_fits}
 use Rattle.proof_script.proofs.Unbroken.{compassionate_fits, helper_fits}
 
 -- the loop over the groups
@@ -40,7 +40,7 @@ module _ (g : Setting) (ls : List PlainLevel) (s : Stream) where
   unfolding group_levels_of
   groups_full n none = rw none refl
 
-  pub groups_fail : (n m : ℕ) (e : Option (Stop ScriptFault)) (next : Stream) → n ≡ suc m → true ≡ is (ahead s) marks.Base → next ≡ behind s → IsStop e (group_level_of g next) → IsStop e (group_levels_of g n ls s)
+  pub groups_fail : (n m : ℕ) (e : Option (Stop Breach)) (next : Stream) → n ≡ suc m → true ≡ is (ahead s) marks.Base → next ≡ behind s → IsStop e (group_level_of g next) → IsStop e (group_levels_of g n ls s)
   unfolding group_levels_of
   groups_fail n m e next more base is_next fails = rw (more, ← base, ← is_next) (stop_as e (group_level_of g next) (then_reads (group_level_of g) (λ l. group_levels_of g m (ls ++ l ∷ [])) next) (λ f h. rw h refl) fails)
 
@@ -88,8 +88,8 @@ pub nested_completed_fits : (place : ℕ) (n m : PlainNestedNode) (s rest : Stre
 unfolding nested_completed_of
 nested_completed_fits place n m s rest h = at_test (ends_item (ahead s)) h
   where
-    at_test : (b : Bool) → cond b (unless (nat_eq (length n.levels) 0 && is_none n.helper) kinds.NoHelper place n s) (Err (refusal s)) ≡ Ok (m, rest) → ((nat_eq (length n.levels) 0 && is_none n.helper) ≡ false) × (n ≡ m)
-    at_test true h = allowed (nat_eq (length n.levels) 0 && is_none n.helper) kinds.NoHelper place n m s rest h
+    at_test : (b : Bool) → cond b (unless (nat_eq (length n.levels) 0 && is_none n.helper) (broke rules.NoHelper place) n s) (Err (refusal s)) ≡ Ok (m, rest) → ((nat_eq (length n.levels) 0 && is_none n.helper) ≡ false) × (n ≡ m)
+    at_test true h = allowed (nat_eq (length n.levels) 0 && is_none n.helper) (broke rules.NoHelper place) n m s rest h
     at_test false h = absurd cc
 
 module _ (g : Setting) where

@@ -1,41 +1,29 @@
 -- What was read by readers that went through, part by part.
-use Rattle.std.proofs.Common.{◌≡◌, ℕ, ◌<◌, ◌≤◌, Bool, true, false, cond, nat_lt, All, List, [], ◌∷◌, ◌++◌, length, length-append, Option, Some, None, Ok, Err, refl, ap, subst, arith}
-use Rattle.std.proofs.lemmas.Bool.Decides.{nat_tests}
+use Rattle.std.proofs.Common.{◌≡◌, ℕ, ◌<◌, ◌≤◌, Bool, true, false, cond, nat_lt, All, List, [], ◌∷◌, ◌++◌, length, length-append, Option, Some, None, Ok, Err, refl, subst, arith}
 use Rattle.std.proofs.lemmas.List.Elements.{All-nil, All-push}
 use Rattle.st_tokens.specs.Stream.{Stream, behind}
+use Rattle.st_reading.proofs.Judged.{both, given}
 use Rattle.st_reading.specs.declared.mark.Mark.{Mark}
 use Rattle.st_reading.specs.declared.mark.Mark.TheVariants as marks
 use Rattle.st_reading.specs.Sign.{is}
 use Rattle.st_reading.specs.Reading.{Stop, Read, ahead, place_of, expected, gives, then_reads, on_operator, leaves, goes, only, listing, further, size}
 use Rattle.st_form.specs.Formula.{Formula}
 use Rattle.expression_typer.specs.Naming.{names_of}
-use Rattle.assertions.specs.Reading.{Answer, form_of}
-use Rattle.diagram_reader.proofs.Inverses.{both, going, chain_keeps}
-use Rattle.proof_script.specs.declared.fault.ScriptKind.{ScriptKind}
-use Rattle.proof_script.specs.declared.fault.ScriptFault.{ScriptFault}
+use Rattle.assertions.specs.Reading.{form_of}
+use Rattle.diagram_reader.proofs.Inverses.{going, chain_keeps}
+use Rattle.st_reading.specs.Breaches.{Breach, Reader}
 use Rattle.proof_script.specs.Faults.{one_too_many}
-use Rattle.proof_script.specs.Listing.{Setting, Reader, unless, present, optional, behind_mark, counted, further_counted, listed, bracketed, formula_of, listed_formula_of}
+use Rattle.proof_script.specs.Listing.{Setting, optional, behind_mark, counted, further_counted, listed, bracketed, formula_of, listed_formula_of}
 use Rattle.basic_laws.proofs.Numbers.{less}
 
-pub given : {A : Type 0} (x y : A) (s rest : Stream) → gives {X = ScriptFault} x s ≡ Ok (y, rest) → x ≡ y
-given {A} x y s rest h = let e : (x, s) ≡ (y, rest) = cc in ap (λ (p : A × Stream). p.0) e
-
 module _ {A : Type 0} where
-  pub allowed : (broken : Bool) (kind : ScriptKind) (place : ℕ) (x y : A) (s rest : Stream) → unless broken kind place x s ≡ Ok (y, rest) → (broken ≡ false) × (x ≡ y)
-  allowed true kind place x y s rest h = absurd cc
-  allowed false kind place x y s rest h = (refl, given x y s rest h)
-
-  pub there : (kind : ScriptKind) (place : ℕ) (o : Option A) (y : A) (s rest : Stream) → present kind place o s ≡ Ok (y, rest) → o ≡ Some y
-  there kind place None y s rest h = absurd cc
-  there kind place (Some x) y s rest h = ap Some (given x y s rest h)
-
-  never : (place : ℕ) (r : Answer A) (y : A) (rest : Stream) → one_too_many place r ≡ Ok (y, rest) → ⊥
+  never : (place : ℕ) (r : Read Breach A) (y : A) (rest : Stream) → one_too_many place r ≡ Ok (y, rest) → ⊥
   never place (Ok x) y rest h = cc
   never place (Err f) y rest h = cc
 
   -- what stands behind a mark
   pub behind_it : (mark : Mark) (r : Reader A) (y : A) (s rest : Stream) → behind_mark mark r s ≡ Ok (y, rest) → (m : Stream) × (r m ≡ Ok (y, rest))
-  behind_it mark r y s rest h = let a = both (expected {X = ScriptFault} mark s) _ (y, rest) h in (a.value.1, a.second)
+  behind_it mark r y s rest h = let a = both (expected {X = Breach} mark s) _ (y, rest) h in (a.value.1, a.second)
 
   -- what holds of nothing, and of whatever may stand behind a mark
   pub optionally : (mark : Mark) (r : Reader A) (P : Option A → Type 0) → P None → ((x : A) (m rest : Stream) → r m ≡ Ok (x, rest) → P (Some x)) → (o : Option A) (s rest : Stream) → optional mark r s ≡ Ok (o, rest) → P o
@@ -46,7 +34,7 @@ module _ {A : Type 0} where
       at_test false h = subst P (given None o s rest h) none
 
 -- the operator that stood ahead
-pub operated : {A O : Type 0} (o : Option O) (f : Stop ScriptFault) (go : O → Read ScriptFault A) (y : A × Stream) → on_operator o (Err f) go ≡ Ok y → (x : O) × (o ≡ Some x) × (go x ≡ Ok y)
+pub operated : {A O : Type 0} (o : Option O) (f : Stop Breach) (go : O → Read Breach A) (y : A × Stream) → on_operator o (Err f) go ≡ Ok y → (x : O) × (o ≡ Some x) × (go x ≡ Ok y)
 operated None f go y h = absurd cc
 operated (Some x) f go y h = (x, refl, h)
 
@@ -75,7 +63,7 @@ module _ {A : Type 0} (mark : Mark) (r : ℕ → Reader A) (P : A → Type 0) (e
 
   pushed : (o : Unit {0}) (place : ℕ) (xs ys : List A) (s rest : Stream) → Fitting xs → counted {B = List A} r o place xs s ≡ Ok (goes ys, rest) → Fitting ys
   pushed o place xs ys s rest p h =
-      let b = both (r (length xs) s) (λ x. gives {X = ScriptFault} (going {B = List A} (xs ++ x.0 ∷ [])) x.1) (goes ys, rest) h in
+      let b = both (r (length xs) s) (λ x. gives {X = Breach} (going {B = List A} (xs ++ x.0 ∷ [])) x.1) (goes ys, rest) h in
       let e : going {B = List A} (xs ++ b.value.0 ∷ []) ≡ goes ys = given (going {B = List A} (xs ++ b.value.0 ∷ [])) (goes ys) b.value.1 rest b.second in
       let i : xs ++ b.value.0 ∷ [] ≡ ys = cc in
       let f = each (length xs) b.value.0 s b.value.1 b.first in
@@ -85,16 +73,16 @@ module _ {A : Type 0} (mark : Mark) (r : ℕ → Reader A) (P : A → Type 0) (e
 
   leaves_never : (o : Unit {0}) (place : ℕ) (xs ys : List A) (s rest : Stream) → Fitting xs → counted {B = List A} r o place xs s ≡ Ok (leaves ys, rest) → Fitting ys
   leaves_never o place xs ys s rest p h =
-      let b = both (r (length xs) s) (λ x. gives {X = ScriptFault} (going {B = List A} (xs ++ x.0 ∷ [])) x.1) (leaves ys, rest) h in
+      let b = both (r (length xs) s) (λ x. gives {X = Breach} (going {B = List A} (xs ++ x.0 ∷ [])) x.1) (leaves ys, rest) h in
       let e : going {B = List A} (xs ++ b.value.0 ∷ []) ≡ leaves ys = given (going {B = List A} (xs ++ b.value.0 ∷ [])) (leaves ys) b.value.1 rest b.second in
       absurd cc
 
-  ended : (xs ys : List A) (s rest : Stream) → Fitting xs → gives {X = ScriptFault} xs s ≡ Ok (ys, rest) → Fitting ys
+  ended : (xs ys : List A) (s rest : Stream) → Fitting xs → gives {X = Breach} xs s ≡ Ok (ys, rest) → Fitting ys
   ended xs ys s rest p h = subst Fitting (given xs ys s rest h) p
 
   pushed_some : (o : Unit {0}) (place : ℕ) (xs ys : List A) (s rest : Stream) → 0 < length xs → counted {B = List A} r o place xs s ≡ Ok (goes ys, rest) → 0 < length ys
   pushed_some o place xs ys s rest p h =
-      let b = both (r (length xs) s) (λ x. gives {X = ScriptFault} (going {B = List A} (xs ++ x.0 ∷ [])) x.1) (goes ys, rest) h in
+      let b = both (r (length xs) s) (λ x. gives {X = Breach} (going {B = List A} (xs ++ x.0 ∷ [])) x.1) (goes ys, rest) h in
       let e : going {B = List A} (xs ++ b.value.0 ∷ []) ≡ goes ys = given (going {B = List A} (xs ++ b.value.0 ∷ [])) (goes ys) b.value.1 rest b.second in
       let i : xs ++ b.value.0 ∷ [] ≡ ys = cc in
       let long = length-append xs (b.value.0 ∷ []) in
@@ -102,11 +90,11 @@ module _ {A : Type 0} (mark : Mark) (r : ℕ → Reader A) (P : A → Type 0) (e
 
   leaves_some : (o : Unit {0}) (place : ℕ) (xs ys : List A) (s rest : Stream) → 0 < length xs → counted {B = List A} r o place xs s ≡ Ok (leaves ys, rest) → 0 < length ys
   leaves_some o place xs ys s rest p h =
-      let b = both (r (length xs) s) (λ x. gives {X = ScriptFault} (going {B = List A} (xs ++ x.0 ∷ [])) x.1) (leaves ys, rest) h in
+      let b = both (r (length xs) s) (λ x. gives {X = Breach} (going {B = List A} (xs ++ x.0 ∷ [])) x.1) (leaves ys, rest) h in
       let e : going {B = List A} (xs ++ b.value.0 ∷ []) ≡ leaves ys = given (going {B = List A} (xs ++ b.value.0 ∷ [])) (leaves ys) b.value.1 rest b.second in
       absurd cc
 
-  ended_some : (xs ys : List A) (s rest : Stream) → 0 < length xs → gives {X = ScriptFault} xs s ≡ Ok (ys, rest) → 0 < length ys
+  ended_some : (xs ys : List A) (s rest : Stream) → 0 < length xs → gives {X = Breach} xs s ≡ Ok (ys, rest) → 0 < length ys
   ended_some xs ys s rest p h = subst (λ (zs : List A). 0 < length zs) (given xs ys s rest h) p
 
   pub further_fits : (xs ys : List A) (s rest : Stream) → Fitting xs → further_counted mark r xs s ≡ Ok (ys, rest) → Fitting ys
@@ -124,9 +112,9 @@ module _ {A : Type 0} (mark : Mark) (r : ℕ → Reader A) (P : A → Type 0) (e
 module _ {A : Type 0} (r : ℕ → Reader A) (P : A → Type 0) (each : (before : ℕ) (x : A) (s rest : Stream) → r before s ≡ Ok (x, rest) → (before < 64) × P x) where
   pub bracketed_fits : (ys : List A) (s rest : Stream) → bracketed r s ≡ Ok (ys, rest) → (length ys ≤ 64) × All P ys
   bracketed_fits ys s rest h =
-      let a = both (expected {X = ScriptFault} marks.OpenBlock s) _ (ys, rest) h in
+      let a = both (expected {X = Breach} marks.OpenBlock s) _ (ys, rest) h in
       let b = both (listed marks.Semicolon r a.value.1) _ (ys, rest) a.second in
-      let c = both (expected {X = ScriptFault} marks.CloseBlock b.value.1) _ (ys, rest) b.second in
+      let c = both (expected {X = Breach} marks.CloseBlock b.value.1) _ (ys, rest) b.second in
       let e : b.value.0 ≡ ys = given b.value.0 ys c.value.1 rest c.second in
       subst (λ (xs : List A). (length xs ≤ 64) × All P xs) e (listed_fits marks.Semicolon r P each b.value.0 a.value.1 b.value.1 b.first)
 
@@ -134,14 +122,14 @@ module _ {A : Type 0} (r : ℕ → Reader A) (P : A → Type 0) (each : (before 
 module _ {A : Type 0} (mark : Mark) (r : Reader A) (P : A → Type 0) (each : (x : A) (s rest : Stream) → r s ≡ Ok (x, rest) → P x) where
   pushed_all : (o : Unit {0}) (place : ℕ) (xs ys : List A) (s rest : Stream) → All P xs → listing {B = List A} r o place xs s ≡ Ok (goes ys, rest) → All P ys
   pushed_all o place xs ys s rest p h =
-      let b = both (r s) (λ x. gives {X = ScriptFault} (going {B = List A} (xs ++ x.0 ∷ [])) x.1) (goes ys, rest) h in
+      let b = both (r s) (λ x. gives {X = Breach} (going {B = List A} (xs ++ x.0 ∷ [])) x.1) (goes ys, rest) h in
       let e : going {B = List A} (xs ++ b.value.0 ∷ []) ≡ goes ys = given (going {B = List A} (xs ++ b.value.0 ∷ [])) (goes ys) b.value.1 rest b.second in
       let i : xs ++ b.value.0 ∷ [] ≡ ys = cc in
       subst (All P) i (All-push P xs b.value.0 p (each b.value.0 s b.value.1 b.first))
 
   leaves_none : (o : Unit {0}) (place : ℕ) (xs ys : List A) (s rest : Stream) → All P xs → listing {B = List A} r o place xs s ≡ Ok (leaves ys, rest) → All P ys
   leaves_none o place xs ys s rest p h =
-      let b = both (r s) (λ x. gives {X = ScriptFault} (going {B = List A} (xs ++ x.0 ∷ [])) x.1) (leaves ys, rest) h in
+      let b = both (r s) (λ x. gives {X = Breach} (going {B = List A} (xs ++ x.0 ∷ [])) x.1) (leaves ys, rest) h in
       let e : going {B = List A} (xs ++ b.value.0 ∷ []) ≡ leaves ys = given (going {B = List A} (xs ++ b.value.0 ∷ [])) (leaves ys) b.value.1 rest b.second in
       absurd cc
 

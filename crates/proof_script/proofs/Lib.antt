@@ -1,4 +1,4 @@
-pub mod Refusals
+pub mod Drawings
 pub mod Counting
 pub mod Inverses
 pub mod Unbroken
@@ -10,8 +10,6 @@ pub mod Scripts
 pub mod Citing
 pub mod Fitting
 pub mod Speech
-pub mod Named
-pub mod FormsNamed
-pub mod FaultsNamed
 pub mod Sizes
 pub mod Lookups
+pub mod Responding

@@ -9,16 +9,14 @@ use Rattle.std.specs.declared.string.String.{String}
 use Rattle.std.proofs.lemmas.List.{map-append}
 use Rattle.std.proofs.lemmas.Option.{slice_get-map}
 use Rattle.st_tokens.specs.Stream.{Stream}
-use Rattle.st_reading.specs.Reading.{Read, ◌>>=◌, named as named_ahead, Label}
+use Rattle.st_reading.specs.Reading.{other, Read, ◌>>=◌, named as named_ahead, Label}
 use Rattle.indexmap.specs.IndexMap.{insert_entry}
 use Rattle.st_program.specs.Names.{as_bytes, named}
 use Rattle.st_program.proofs.Lookups.{position-is, lookup-named}
 use Rattle.expression_typer.specs.Naming.{is_text}
 use Rattle.expression_typer.specs.Naming.{text_of, variable_at, variable_named}
-use Rattle.proof_script.specs.declared.fault.ScriptKind.TheVariants as kinds
-use Rattle.proof_script.specs.declared.fault.ScriptFault.{ScriptFault}
-use Rattle.proof_script.specs.Faults.{stop_at}
-use Rattle.proof_script.specs.Listing.{unless}
+use Rattle.st_reading.specs.Rule as rules
+use Rattle.st_reading.specs.Breaches.{Breach, broke, unless}
 use Rattle.proof_script.specs.Steps.{step_named, is_taken, new_name_of}
 
 module _ {Z : Type 0} (es : List (String Z × Bool)) (name : List ℕ) where
@@ -53,15 +51,15 @@ module _ {Z : Type 0} (es : List (String Z × Bool)) (name : List ℕ) where
           ∙ sym (number_at (Some n) is)
 
 -- a new step's name, and one that an earlier step has
-module _ {Z : Type 0} (es : List (String Z × Bool)) (l : Label) (s rest : Stream) (read : named_ahead {X = ScriptFault} s ≡ Ok (l, rest)) (text : List ℕ) (told : Some text ≡ text_of l.text) where
-  judged : (b : Bool) → b ≡ is_some (lookup (λ k. bytes_eq text (string_bytes k)) es) → new_name_of (as_bytes es) s ≡ unless b kinds.Twice l.place l.text rest
+module _ {Z : Type 0} (es : List (String Z × Bool)) (l : Label) (s rest : Stream) (read : named_ahead {X = Breach} s ≡ Ok (l, rest)) (text : List ℕ) (told : Some text ≡ text_of l.text) where
+  judged : (b : Bool) → b ≡ is_some (lookup (λ k. bytes_eq text (string_bytes k)) es) → new_name_of (as_bytes es) s ≡ unless b (broke rules.Twice l.place) l.text rest
   unfolding new_name_of
   judged b is =
       let t = as_text es l.text text told in
       let taken : is_taken (as_bytes es) l.text ≡ b = ap is_some (sym (lookup-named l.text es)) ∙ ap (λ n. is_some (lookup (λ k. bytes_eq n (string_bytes k)) es)) (sym t.0) ∙ sym is in
-      ap (λ (r : Read ScriptFault Label). r >>= λ n. unless (is_taken (as_bytes es) n.0.text) kinds.Twice n.0.place n.0.text n.1) read ∙ ap (λ b. unless b kinds.Twice l.place l.text rest) taken
+      ap (λ (r : Read Breach Label). r >>= λ n. unless (is_taken (as_bytes es) n.0.text) (broke rules.Twice n.0.place) n.0.text n.1) read ∙ ap (λ b. unless b (broke rules.Twice l.place) l.text rest) taken
 
-  pub name_taken : true ≡ is_some (lookup (λ k. bytes_eq text (string_bytes k)) es) → new_name_of (as_bytes es) s ≡ Err (stop_at kinds.Twice l.place)
+  pub name_taken : true ≡ is_some (lookup (λ k. bytes_eq text (string_bytes k)) es) → new_name_of (as_bytes es) s ≡ Err (other (broke rules.Twice l.place))
   name_taken is = judged true is
 
   pub name_free : (name : List ℕ) → false ≡ is_some (lookup (λ k. bytes_eq text (string_bytes k)) es) → name ≡ text → new_name_of (as_bytes es) s ≡ Ok (name, rest)

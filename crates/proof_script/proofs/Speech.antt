@@ -1,7 +1,8 @@
 -- A script speaks of what the names stand for.
-use Rattle.std.proofs.Common.{◌≡◌, ℕ, ◌-◌, ◌<◌, ◌≤◌, Bool, true, false, cond, pos, All, List, [], ◌∷◌, length, Option, Ok, Err, subst, arith}
+use Rattle.std.proofs.Common.{◌≡◌, ℕ, ◌-◌, ◌<◌, ◌≤◌, Bool, true, false, cond, pos, All, List, [], ◌∷◌, length, Option, Ok, subst, arith}
 use Rattle.std.proofs.lemmas.List.Elements.{All-nil, All-cons, All-push, All-head, All-tail}
 use Rattle.st_tokens.specs.Stream.{Stream, behind}
+use Rattle.st_reading.proofs.Judged.{both, given}
 use Rattle.st_reading.specs.declared.mark.Mark.{Mark}
 use Rattle.st_reading.specs.declared.mark.Mark.TheVariants as marks
 use Rattle.st_reading.specs.Sign.{is}
@@ -17,33 +18,27 @@ use Rattle.temporal_goals.specs.declared.diagrams.DiagramKind.TheVariants.{Wait}
 use Rattle.response_rules.specs.Forms.{chain_nodes, ranked_nodes, fair_nodes, fair_under}
 use Rattle.expression_typer.specs.Naming.{names_of, NamesOver}
 use Rattle.assertions.specs.Over.{FormulaOver}
-use Rattle.assertions.specs.Reading.{Answer, form_of, linear_of}
+use Rattle.assertions.specs.Reading.{form_of, linear_of}
 use Rattle.assertions.proofs.Over.{form_over, linear_over}
 use Rattle.diagram_reader.specs.Drawn.{Setting as DrawingSetting}
 use Rattle.diagram_reader.specs.Drawing.{diagram_of}
-use Rattle.diagram_reader.proofs.Inverses.{both}
+use Rattle.st_reading.specs.Breaches.{Breach, Reader}
 use Rattle.proof_script.specs.declared.steps.Claim.{Claim}
 use Rattle.proof_script.specs.declared.steps.Claim.TheVariants as claims
 use Rattle.proof_script.specs.declared.rules.Manner.{Manner}
 use Rattle.proof_script.specs.declared.rules.Manner.TheVariants as manners
-use Rattle.proof_script.specs.declared.fault.ScriptFault.{ScriptFault}
-use Rattle.proof_script.specs.Faults.{unit_of, drawn}
-use Rattle.proof_script.specs.Listing.{Setting, Reader, optional, behind_mark, listed, bracketed, formula_of, sum_of, listed_formula_of, further_counted, compassionate_of}
+use Rattle.proof_script.specs.Faults.{drawn}
+use Rattle.proof_script.specs.Listing.{Setting, optional, behind_mark, listed, bracketed, formula_of, sum_of, listed_formula_of, further_counted, compassionate_of}
 use Rattle.proof_script.specs.Rules.{wanted_helper_of, helper_of, group_of, weight_of, helped_of, ranked_of, fair_of, node_of, group_level_of, group_levels_of, nested_node_of, manner_in, kind_in, just_nodes_of, chain_nodes_of, ranked_nodes_of, fair_nodes_of, nodes_of, nested_nodes_of, net_rule_of, as_net, response_diagram_of, ruled_of, rule_of}
 use Rattle.proof_script.specs.Steps.{invariance_rule, earlier_of, new_name_of, citations_of, invariance_of, waiting_goal_of, levels_of, wait_diagram_of, waiting_by_of, waiting_of, response_of, claimed_of, step_of}
 use Rattle.proof_script.specs.Script.{script_spelled}
 use Rattle.script_speech.specs.Over.{SmallOver, GoalOver, NetNodeOver, LevelOver, NestedOver, RuleOver, StepOver}
-use Rattle.proof_script.proofs.Inverses.{given, behind_it, optionally, operated, listed_few, few_listed, listed_fits, further_fits, bracketed_fits}
+use Rattle.proof_script.proofs.Inverses.{behind_it, optionally, operated, listed_few, few_listed, listed_fits, further_fits, bracketed_fits}
 use Rattle.proof_script.proofs.Unbroken.{completed_fits}
 use Rattle.proof_script.proofs.Grouping.{groups_keep, nested_completed_fits}
 use Rattle.proof_script.proofs.Drawn.{drawn_over}
 use Rattle.proof_script.proofs.Fitting.{drawn_is, matched_is}
 use Rattle.proof_script.proofs.Scripts.{setting_for, script_keeps}
-
--- what is read of a formula or sum alone is what is read
-unit_is : {A : Type 0} (a : Answer A) (x : A) (rest : Stream) → unit_of a ≡ Ok (x, rest) → a ≡ Ok (x, rest)
-unit_is (Ok y) x rest h = cc
-unit_is (Err f) x rest h = absurd cc
 
 module _ (vs : List Variable) (locations : ℕ) where
   small : (k : ℕ) → k ≤ 64 → SmallOver vs locations (number (pos k))
@@ -80,11 +75,11 @@ module _ (vs : List Variable) (locations : ℕ) where
   module _ (g : Setting) (over : NamesOver vs locations (names_of g.names)) where
     formula_over : (s : Stream) (f : Formula) (rest : Stream) → formula_of g s ≡ Ok (f, rest) → FormulaOver vs locations f
     unfolding formula_of form_of
-    formula_over s f rest h = form_over vs locations (names_of g.names) over (expression_of true (below true 32) s) f rest (unit_is _ f rest h)
+    formula_over s f rest h = form_over vs locations (names_of g.names) over (expression_of true (below true 32) s) f rest h
 
     sum_over : (s : Stream) (f : Linear) (rest : Stream) → sum_of g s ≡ Ok (f, rest) → SmallOver vs locations f
     unfolding sum_of linear_of
-    sum_over s f rest h = linear_over vs locations (names_of g.names) over (plain_sum_of true (below true 32) s) f rest (unit_is _ f rest h)
+    sum_over s f rest h = linear_over vs locations (names_of g.names) over (plain_sum_of true (below true 32) s) f rest h
 
     -- a formula that is listed, and how many are before it
     listed_over : (before : ℕ) (f : Formula) (s rest : Stream) → listed_formula_of g before s ≡ Ok (f, rest) → (before < 64) × FormulaOver vs locations f
@@ -296,7 +291,7 @@ module _ (vs : List Variable) (locations : ℕ) where
     waiting_over c s rest h =
         let a = both (waiting_goal_of g s) _ (c, rest) h in
         let b = both (then_reads (expected marks.By) (waiting_by_of g (length a.value.0.1)) a.value.1) _ (c, rest) a.second in
-        let d = both (expected {X = ScriptFault} marks.By a.value.1) _ b.value b.first in
+        let d = both (expected {X = Breach} marks.By a.value.1) _ b.value b.first in
         let made : PlainGoal × PlainRule = (waiting a.value.0.0 a.value.0.1, b.value.0) in
         subst Claimed {x = made} (given made c b.value.1 rest b.second) (waiting_goal_over a.value.0 s a.value.1 a.first, waiting_by_over (length a.value.0.1) d.value.0 b.value.0 d.value.1 b.value.1 d.second)
 
@@ -326,7 +321,7 @@ module _ (vs : List Variable) (locations : ℕ) where
         let a = both (new_name_of (earlier_of steps) s) _ (x, rest) h in
         let b = both (behind_mark marks.Colon (claimed_of g claim) a.value.1) _ (x, rest) a.second in
         let c = both (citations_of (earlier_of steps) b.value.1) _ (x, rest) b.second in
-        let d = both (expected {X = ScriptFault} marks.Semicolon c.value.1) _ (x, rest) c.second in
+        let d = both (expected {X = Breach} marks.Semicolon c.value.1) _ (x, rest) c.second in
         let k = behind_it marks.Colon (claimed_of g claim) b.value.0 a.value.1 b.value.1 b.first in
         let made : PlainStep = record { name = a.value.0; goal = b.value.0.0; rule = b.value.0.1; cited = c.value.0 } in
         subst (StepOver vs locations) {x = made} (given made x d.value.1 rest d.second) (claimed_over claim b.value.0 k.0 b.value.1 k.1)

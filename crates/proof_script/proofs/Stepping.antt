@@ -5,6 +5,7 @@ use Rattle.std.specs.declared.string.String.{String}
 use Rattle.std.proofs.lemmas.List.{length-map, length-append}
 use Rattle.std.proofs.lemmas.List.Elements.{All-nil, All-push}
 use Rattle.st_tokens.specs.Stream.{Stream, ends, breaks, more, behind}
+use Rattle.st_reading.proofs.Judged.{both, given, allowed}
 use Rattle.st_reading.specs.declared.mark.Mark.TheVariants as marks
 use Rattle.st_reading.specs.Reading.{Stop, Read, IsStop, ahead, expected, named, goes, size}
 use Rattle.st_reading.proofs.Chains.{Running, running_next, running_ends, running_fails}
@@ -12,20 +13,19 @@ use Rattle.st_reading.proofs.Loops.{mapped, map_fails}
 use Rattle.st_form.specs.Formula.{Formula}
 use Rattle.st_program.specs.Names.{as_bytes}
 use Rattle.temporal_goals.specs.Texts.{PlainStep}
-use Rattle.diagram_reader.proofs.Inverses.{both}
+use Rattle.st_reading.specs.Rule as rules
+use Rattle.st_reading.specs.Breaches.{Breach, broke}
 use Rattle.proof_script.specs.declared.steps.Claim.{Claim}
-use Rattle.proof_script.specs.declared.fault.ScriptKind.TheVariants as kinds
-use Rattle.proof_script.specs.declared.fault.ScriptFault.{ScriptFault}
 use Rattle.proof_script.specs.Listing.{Setting, behind_mark, formula_of, listed_formula_of, further_counted}
 use Rattle.proof_script.specs.Steps.{Earlier, earlier_of, is_taken, claim_in, new_name_of, citations_of, claimed_of, waiting_goal_of, step_of}
 use Rattle.proof_script.specs.Script.{step_turn, ended}
-use Rattle.proof_script.proofs.Inverses.{given, allowed, listed_few, further_fits}
+use Rattle.proof_script.proofs.Inverses.{listed_few, further_fits}
 
 name_new : (earlier : Earlier) (n : List ℕ) (s rest : Stream) → new_name_of earlier s ≡ Ok (n, rest) → is_taken earlier n ≡ false
 unfolding new_name_of
 name_new earlier n s rest h =
-    let a = both (named {X = ScriptFault} s) _ (n, rest) h in
-    let c = allowed (is_taken earlier a.value.0.text) kinds.Twice a.value.0.place a.value.0.text n a.value.1 rest a.second in
+    let a = both (named {X = Breach} s) _ (n, rest) h in
+    let c = allowed (is_taken earlier a.value.0.text) (broke rules.Twice a.value.0.place) a.value.0.text n a.value.1 rest a.second in
     subst (λ m. is_taken earlier m ≡ false) c.1 c.0
 
 -- one token fewer is left behind the first token of a step
@@ -59,7 +59,7 @@ module _ (g : Setting) where
       let a = both (new_name_of earlier s) _ (x, rest) h in
       let b = both (behind_mark marks.Colon (claimed_of g claim) a.value.1) _ (x, rest) a.second in
       let c = both (citations_of earlier b.value.1) _ (x, rest) b.second in
-      let d = both (expected {X = ScriptFault} marks.Semicolon c.value.1) _ (x, rest) c.second in
+      let d = both (expected {X = Breach} marks.Semicolon c.value.1) _ (x, rest) c.second in
       let made : PlainStep = record { name = a.value.0; goal = b.value.0.0; rule = b.value.0.1; cited = c.value.0 } in
       subst (λ (y : PlainStep). is_taken earlier y.name ≡ false) {x = made} (given made x d.value.1 rest d.second) (name_new earlier a.value.0 s a.value.1 a.first)
 
@@ -78,10 +78,10 @@ module _ (g : Setting) where
       subst (λ (v : Formula × List Formula). length v.1 ≤ 64) {x = made} (given made w d.value.1 rest d.second) few
 
   -- so far these steps were read, and that is left
-  abbrev pub Script_on : Stream → Read ScriptFault (List PlainStep) → List PlainStep → Stream → Type 0
+  abbrev pub Script_on : Stream → Read Breach (List PlainStep) → List PlainStep → Stream → Type 0
   Script_on start whole ys after = Running claim_in (step_turn g) ended ys after start whole
 
-  module _ (xs : List PlainStep) (s start : Stream) (whole : Read ScriptFault (List PlainStep)) where
+  module _ (xs : List PlainStep) (s start : Stream) (whole : Read Breach (List PlainStep)) where
     pub step_next : (claim : Claim) (earlier : Earlier) (x : PlainStep) (next after : Stream) (ys : List PlainStep) → Script_on start whole xs s → Some claim ≡ claim_in (ahead s) → next ≡ behind s → earlier ≡ earlier_of xs → step_of g claim earlier next ≡ Ok (x, after) → size after ≤ size next
         → ys ≡ xs ++ x ∷ [] → Script_on start whole ys after
     step_next claim earlier x next after ys h begins is_next known reads le made =
@@ -91,7 +91,7 @@ module _ (g : Setting) where
     pub steps_end : Script_on start whole xs s → None ≡ claim_in (ahead s) → whole ≡ ended xs s
     steps_end h ends_here = running_ends claim_in (step_turn g) ended refl xs s start whole h ends_here
 
-    pub step_fails : (claim : Claim) (earlier : Earlier) (e : Option (Stop ScriptFault)) (next : Stream) → Script_on start whole xs s → Some claim ≡ claim_in (ahead s) → next ≡ behind s → earlier ≡ earlier_of xs → IsStop e (step_of g claim earlier next) → IsStop e whole
+    pub step_fails : (claim : Claim) (earlier : Earlier) (e : Option (Stop Breach)) (next : Stream) → Script_on start whole xs s → Some claim ≡ claim_in (ahead s) → next ≡ behind s → earlier ≡ earlier_of xs → IsStop e (step_of g claim earlier next) → IsStop e whole
     step_fails claim earlier e next h begins is_next known fails =
         running_fails claim_in (step_turn g) ended refl xs s start whole h claim e next begins is_next
         (map_fails (λ y. goes (xs ++ y ∷ [])) (step_of g claim (earlier_of xs)) next e (rw (← known) fails))

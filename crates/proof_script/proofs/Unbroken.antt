@@ -6,6 +6,7 @@ use Rattle.std.proofs.lemmas.Option.{none-some}
 use Rattle.std.proofs.lemmas.List.{length-map}
 use Rattle.std.proofs.lemmas.List.Elements.{All-nil, All-cons, All-head, All-tail}
 use Rattle.st_tokens.specs.Stream.{Stream}
+use Rattle.st_reading.proofs.Judged.{both, given, allowed}
 use Rattle.st_reading.specs.declared.mark.Mark.TheVariants as marks
 use Rattle.st_reading.specs.Reading.{ahead, place_of, refusal}
 use Rattle.st_linear.specs.Linear.{Linear}
@@ -17,11 +18,11 @@ use Rattle.ranked_net.specs.declared.faults.NetFault.{NetFault}
 use Rattle.ranked_net.specs.declared.faults.NetFault.TheVariants as faults
 use Rattle.ranked_net.specs.Making.{is_unfair, is_uncompassionate, node_fault, first_fault, MakesNet}
 use Rattle.response_rules.specs.Forms.{chain_nodes, ranked_nodes, fair_nodes, fair_under, Refuses, GivesNet}
-use Rattle.diagram_reader.proofs.Inverses.{both}
-use Rattle.proof_script.specs.declared.fault.ScriptKind.TheVariants as kinds
-use Rattle.proof_script.specs.Listing.{Setting, unless, bracketed, transition_of, just_of, compassionate_of, listed_formula_of}
+use Rattle.st_reading.specs.Rule as rules
+use Rattle.st_reading.specs.Breaches.{broke, unless}
+use Rattle.proof_script.specs.Listing.{Setting, bracketed, transition_of, just_of, compassionate_of, listed_formula_of}
 use Rattle.proof_script.specs.Rules.{wanted_helper_of, helper_of, group_of, weight_of, helped_of, ranked_of, fair_of, ends_item, completed_of, node_of}
-use Rattle.proof_script.proofs.Inverses.{given, allowed, behind_it, optionally, listed_few, bracketed_fits}
+use Rattle.proof_script.proofs.Inverses.{behind_it, optionally, listed_few, bracketed_fits}
 
 -- the node breaks no rule
 abbrev pub Unbroken : System → PlainNode → Type 0
@@ -66,14 +67,14 @@ module _ (g : Setting) where
   unfolding just_of
   just_fits s h rest e =
       let a = both (transition_of g s) _ (h, rest) e in
-      let b = allowed (is_unfair g.system (Some a.value.0.0)) kinds.UnfairHelper a.value.0.1 a.value.0.0 h a.value.1 rest a.second in
+      let b = allowed (is_unfair g.system (Some a.value.0.0)) (broke rules.UnfairHelper a.value.0.1) a.value.0.0 h a.value.1 rest a.second in
       subst (λ n. is_unfair g.system (Some n) ≡ false) b.1 b.0
 
   pub compassionate_fits : (s : Stream) (h : ℕ) (rest : Stream) → compassionate_of g s ≡ Ok (h, rest) → is_uncompassionate g.system (Some h) ≡ false
   unfolding compassionate_of
   compassionate_fits s h rest e =
       let a = both (transition_of g s) _ (h, rest) e in
-      let b = allowed (is_uncompassionate g.system (Some a.value.0.0)) kinds.NotCompassionate a.value.0.1 a.value.0.0 h a.value.1 rest a.second in
+      let b = allowed (is_uncompassionate g.system (Some a.value.0.0)) (broke rules.NotCompassionate a.value.0.1) a.value.0.0 h a.value.1 rest a.second in
       subst (λ n. is_uncompassionate g.system (Some n) ≡ false) b.1 b.0
 
   wanted_fits : (s : Stream) (h : ℕ) (rest : Stream) → wanted_helper_of g s ≡ Ok (h, rest) → is_unfair g.system (Some h) ≡ false
@@ -117,8 +118,8 @@ module _ (g : Setting) where
   unfolding completed_of
   completed_fits place n m s rest h = at_test (ends_item (ahead s)) h
     where
-      at_test : (b : Bool) → cond b (unless (is_none n.group && is_none n.helper) kinds.NoHelper place n s) (Err (refusal s)) ≡ Ok (m, rest) → ((is_none n.group && is_none n.helper) ≡ false) × (n ≡ m)
-      at_test true h = allowed (is_none n.group && is_none n.helper) kinds.NoHelper place n m s rest h
+      at_test : (b : Bool) → cond b (unless (is_none n.group && is_none n.helper) (broke rules.NoHelper place) n s) (Err (refusal s)) ≡ Ok (m, rest) → ((is_none n.group && is_none n.helper) ≡ false) × (n ≡ m)
+      at_test true h = allowed (is_none n.group && is_none n.helper) (broke rules.NoHelper place) n m s rest h
       at_test false h = absurd cc
 
   node_fits : (before : ℕ) (n : PlainNode) (s rest : Stream) → node_of g before s ≡ Ok (n, rest) → (before < 64) × Unbroken g.system n

@@ -1,10 +1,12 @@
 -- What a script is read for, and lists whose items know how many stand before them.
-use Rattle.std.specs.Prelude.{ℕ, Bool, cond, nat_lt, List, [], ◌∷◌, ◌++◌, length, Option, Some, None, Ok, Err}
-use Rattle.st_tokens.specs.Stream.{Stream, behind}
+use Rattle.std.specs.Prelude.{ℕ, cond, nat_lt, List, [], ◌∷◌, ◌++◌, length, Option, Some, None, Ok}
+use Rattle.st_tokens.specs.Stream.{behind}
 use Rattle.st_reading.specs.declared.mark.Mark.{Mark}
 use Rattle.st_reading.specs.declared.mark.Mark.TheVariants as marks
 use Rattle.st_reading.specs.Sign.{is}
-use Rattle.st_reading.specs.Reading.{Read, ahead, place_of, expected, gives, then_reads, goes, chain, only, size, Turn}
+use Rattle.st_reading.specs.Reading.{ahead, place_of, expected, gives, then_reads, goes, chain, only, size, Turn}
+use Rattle.st_reading.specs.Rule as rules
+use Rattle.st_reading.specs.Breaches.{broke, Reader, unless}
 use Rattle.st_linear.specs.Linear.{Linear}
 use Rattle.st_form.specs.Formula.{Formula}
 use Rattle.st_program.specs.Names.{Names}
@@ -15,10 +17,7 @@ use Rattle.assertions.specs.Reading.{form_of, linear_of}
 use Rattle.ranked_net.specs.Making.{is_unfair, is_uncompassionate}
 use Rattle.diagram_reader.specs.Transitions as diagrams
 use Rattle.proof_script.specs.declared.setting.Setting as code
-use Rattle.proof_script.specs.declared.fault.ScriptKind.{ScriptKind}
-use Rattle.proof_script.specs.declared.fault.ScriptKind.TheVariants as kinds
-use Rattle.proof_script.specs.declared.fault.ScriptFault.{ScriptFault}
-use Rattle.proof_script.specs.Faults.{stop_at, unit_of, drawn, one_too_many}
+use Rattle.proof_script.specs.Faults.{drawn, one_too_many}
 
 -- the names of the program, and its transitions
 pub record Setting : Type 0 where
@@ -27,18 +26,6 @@ pub record Setting : Type 0 where
 
 abbrev pub setting_view : code.Setting → Setting
 setting_view g = record { names = g.names.now; system = plain_system g.fts.now }
-
-abbrev pub Reader : Type 0 → Type 0
-Reader A = Stream → Read ScriptFault A
-
--- the value, unless it breaks a rule
-abbrev pub unless : {A : Type 0} → Bool → ScriptKind → ℕ → A → Reader A
-unless broken kind place x s = cond broken (Err (stop_at kind place)) (Ok (x, s))
-
--- a value that has to be there
-abbrev pub present : {A : Type 0} → ScriptKind → ℕ → Option A → Reader A
-present kind place None s = Err (stop_at kind place)
-present kind place (Some x) s = Ok (x, s)
 
 -- what may stand behind a mark
 abbrev pub optional : {A : Type 0} → Mark → Reader A → Reader (Option A)
@@ -66,10 +53,10 @@ bracketed r = behind_mark marks.OpenBlock (then_reads (listed marks.Semicolon r)
 module _ (g : Setting) where
   -- a formula, and an integer expression, over the program's names
   unfoldable pub formula_of : Reader Formula
-  formula_of s = unit_of (form_of (names_of g.names) s)
+  formula_of s = form_of (names_of g.names) s
 
   unfoldable pub sum_of : Reader Linear
-  sum_of s = unit_of (linear_of (names_of g.names) s)
+  sum_of s = linear_of (names_of g.names) s
 
   -- a formula that is listed, or with which what is listed begins, behind so many others; there are at most 64
   unfoldable pub listed_formula_of : ℕ → Reader Formula
@@ -81,7 +68,7 @@ module _ (g : Setting) where
 
   -- a just transition, and a compassionate one
   unfoldable pub just_of : Reader ℕ
-  just_of = then_reads transition_of (λ t. unless (is_unfair g.system (Some t.0)) kinds.UnfairHelper t.1 t.0)
+  just_of = then_reads transition_of (λ t. unless (is_unfair g.system (Some t.0)) (broke rules.UnfairHelper t.1) t.0)
 
   unfoldable pub compassionate_of : Reader ℕ
-  compassionate_of = then_reads transition_of (λ t. unless (is_uncompassionate g.system (Some t.0)) kinds.NotCompassionate t.1 t.0)
+  compassionate_of = then_reads transition_of (λ t. unless (is_uncompassionate g.system (Some t.0)) (broke rules.NotCompassionate t.1) t.0)

@@ -1,10 +1,9 @@
 -- What every script that is read obeys: it is a proof, and the nodes of its nested nets stand in few groups.
-use Rattle.std.specs.Prelude.{◌≡◌, ℕ, ◌≤◌, List, [], length, All, Ok, Err, ⊤}
+use Rattle.std.specs.Prelude.{◌≡◌, ℕ, ◌≤◌, List, [], length, All, Ok, ⊤}
 use Rattle.st_program.specs.Names.{Names}
 use Rattle.transition_system.specs.Systems.{System}
 use Rattle.temporal_goals.specs.Texts.{PlainRule, basic, stronger, levels, net, diagram, nested, PlainStep}
 use Rattle.rule_fits.specs.Obeying.{CiteLemmas, RuleFits, IsProof}
-use Rattle.proof_script.specs.declared.fault.ScriptFault.TheVariants.{Memory}
 use Rattle.proof_script.specs.Script.{script_spelled}
 
 -- each step cites invariances among those before it
@@ -31,7 +30,3 @@ HasFewGroups (nested ns) = All (λ n. length n.levels ≤ 4) ns
 
 abbrev pub GroupsAreFew : Type 0
 GroupsAreFew = (names : Names) (system : System) (text : List ℕ) (steps : List PlainStep) → script_spelled names system text ≡ Ok steps → All (λ s. HasFewGroups s.rule) steps
-
--- no text is refused for want of memory
-abbrev pub FaultsAreNamed : Type 0
-FaultsAreNamed = (names : Names) (system : System) (text : List ℕ) → script_spelled names system text ≡ Err Memory → ⊥

@@ -7,6 +7,8 @@ use Rattle.st_reading.specs.declared.mark.Mark.TheVariants as marks
 use Rattle.st_reading.specs.declared.sign.Sign.{Sign}
 use Rattle.st_reading.specs.Sign.{is}
 use Rattle.st_reading.specs.Reading.{ahead, place_of, refusal, gives, then_reads, on_operator}
+use Rattle.st_reading.specs.Rule as rules
+use Rattle.st_reading.specs.Breaches.{broke, Reader, unless}
 use Rattle.st_linear.specs.Linear.{Linear}
 use Rattle.st_form.specs.Formula.{Formula}
 use Rattle.temporal_goals.specs.Texts.{PlainNode, PlainLevel, PlainNestedNode, PlainRule, net, diagram, nested}
@@ -16,9 +18,8 @@ use Rattle.diagram_reader.specs.Drawing.{diagram_of}
 use Rattle.response_rules.specs.Forms.{chain_nodes, ranked_nodes, fair_nodes}
 use Rattle.proof_script.specs.declared.rules.Manner.{Manner}
 use Rattle.proof_script.specs.declared.rules.Manner.TheVariants as manners
-use Rattle.proof_script.specs.declared.fault.ScriptKind.TheVariants as kinds
 use Rattle.proof_script.specs.Faults.{drawn}
-use Rattle.proof_script.specs.Listing.{Setting, Reader, unless, optional, behind_mark, bracketed, sum_of, listed_formula_of, just_of, compassionate_of}
+use Rattle.proof_script.specs.Listing.{Setting, optional, behind_mark, bracketed, sum_of, listed_formula_of, just_of, compassionate_of}
 
 -- how a response is proved, by the token behind "by"
 abbrev pub manner_in : Sign → Option Manner
@@ -36,11 +37,11 @@ ends_item g = is g marks.Semicolon || is g marks.CloseBlock
 
 -- A node that begins at the place has a group or a helper; that it has neither is found at its end.
 unfoldable pub completed_of : ℕ → PlainNode → Reader PlainNode
-completed_of place n s = cond (ends_item (ahead s)) (unless (is_none n.group && is_none n.helper) kinds.NoHelper place n s) (Err (refusal s))
+completed_of place n s = cond (ends_item (ahead s)) (unless (is_none n.group && is_none n.helper) (broke rules.NoHelper place) n s) (Err (refusal s))
 
 -- The same of a node of a nested net.
 unfoldable pub nested_completed_of : ℕ → PlainNestedNode → Reader PlainNestedNode
-nested_completed_of place n s = cond (ends_item (ahead s)) (unless (nat_eq (length n.levels) 0 && is_none n.helper) kinds.NoHelper place n s) (Err (refusal s))
+nested_completed_of place n s = cond (ends_item (ahead s)) (unless (nat_eq (length n.levels) 0 && is_none n.helper) (broke rules.NoHelper place) n s) (Err (refusal s))
 
 abbrev pub as_net : Reader (List PlainNode) → Reader PlainRule
 as_net r = then_reads r (λ ns. gives (net ns))

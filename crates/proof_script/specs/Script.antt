@@ -1,17 +1,13 @@
 -- The script that a text spells: steps up to the text's end, or the first fault.
-use Rattle.std.specs.Prelude.{◌≡◌, ℕ, List, [], ◌∷◌, ◌++◌, Result, Ok, Err, ⊤}
+use Rattle.std.specs.Prelude.{ℕ, List, [], ◌∷◌, ◌++◌, Result}
 use Rattle.st_tokens.specs.Stream.{text_stream}
-use Rattle.st_reading.specs.Reading.{Read, gives, then_reads, at_end, goes, chain, size, Turn}
+use Rattle.st_reading.specs.Reading.{Stop, gives, then_reads, at_end, goes, chain, size, Turn}
+use Rattle.st_reading.specs.Breaches.{Breach, Reader, alone}
 use Rattle.st_program.specs.Names.{Names}
 use Rattle.transition_system.specs.Systems.{System}
 use Rattle.temporal_goals.specs.Texts.{PlainStep}
-use Rattle.temporal_goals.specs.Plain.{plain_script}
-use Rattle.temporal_goals.specs.declared.scripts.Script.{Script}
 use Rattle.proof_script.specs.declared.steps.Claim.{Claim}
-use Rattle.proof_script.specs.declared.fault.ScriptFault.{ScriptFault}
-use Rattle.proof_script.specs.declared.fault.ScriptFault.TheVariants.{At, Memory}
-use Rattle.proof_script.specs.Faults.{fault_of}
-use Rattle.proof_script.specs.Listing.{Setting, Reader}
+use Rattle.proof_script.specs.Listing.{Setting}
 use Rattle.proof_script.specs.Steps.{claim_in, earlier_of, step_of}
 
 abbrev pub ended : List PlainStep → Reader (List PlainStep)
@@ -26,21 +22,6 @@ module _ (g : Setting) where
   unfoldable pub steps_of : List PlainStep → Reader (List PlainStep)
   steps_of steps s = chain claim_in step_turn ended (size s) steps s
 
--- the script, or the fault that is named where reading stops
-abbrev pub alone : {A : Type 0} → Read ScriptFault A → Result A ScriptFault
-alone (Ok x) = Ok x.0
-alone (Err f) = Err (fault_of f)
-
 -- the script that a text spells, over the names and the transitions of a program, or the first fault
-unfoldable pub script_spelled : Names → System → List ℕ → Result (List PlainStep) ScriptFault
+unfoldable pub script_spelled : Names → System → List ℕ → Result (List PlainStep) (Stop Breach)
 script_spelled names system text = alone (steps_of (record { names = names; system = system }) [] (text_stream text))
-
--- want of memory is free; any other fault is that of the text
-abbrev pub Fails : ScriptFault → Result (List PlainStep) ScriptFault → Type 0
-Fails Memory spelled = ⊤
-Fails (At kind place) spelled = spelled ≡ Err (At kind place)
-
--- what a call answers: exactly that script or that fault
-abbrev pub GivesScript : Result Script ScriptFault → Result (List PlainStep) ScriptFault → Type 0
-GivesScript (Ok script) spelled = spelled ≡ Ok (plain_script script)
-GivesScript (Err fault) spelled = Fails fault spelled

@@ -5,6 +5,8 @@ use Rattle.st_reading.specs.declared.mark.Mark.TheVariants as marks
 use Rattle.st_reading.specs.declared.sign.Sign.{Sign}
 use Rattle.st_reading.specs.Sign.{is}
 use Rattle.st_reading.specs.Reading.{ahead, refusal, expected, named, gives, then_reads, further}
+use Rattle.st_reading.specs.Rule as rules
+use Rattle.st_reading.specs.Breaches.{broke, Reader, unless, present}
 use Rattle.st_form.specs.Formula.{Formula}
 use Rattle.st_program.specs.Names as tables
 use Rattle.expression_typer.specs.Naming.{is_text}
@@ -14,9 +16,8 @@ use Rattle.temporal_goals.specs.declared.diagrams.DiagramKind.TheVariants.{Wait}
 use Rattle.diagram_reader.specs.Drawing.{diagram_of}
 use Rattle.proof_script.specs.declared.steps.Claim.{Claim}
 use Rattle.proof_script.specs.declared.steps.Claim.TheVariants as claims
-use Rattle.proof_script.specs.declared.fault.ScriptKind.TheVariants as kinds
 use Rattle.proof_script.specs.Faults.{drawn}
-use Rattle.proof_script.specs.Listing.{Setting, Reader, unless, present, optional, behind_mark, listed, further_counted, formula_of, sum_of, listed_formula_of}
+use Rattle.proof_script.specs.Listing.{Setting, optional, behind_mark, listed, further_counted, formula_of, sum_of, listed_formula_of}
 use Rattle.proof_script.specs.Rules.{rule_of}
 
 -- the names of the earlier steps in their order, each with whether it is an invariance
@@ -54,11 +55,11 @@ is_taken earlier name = is_some (tables.named name earlier)
 
 -- the name of a step, which no earlier one has
 unfoldable pub new_name_of : Earlier → Reader (List ℕ)
-new_name_of earlier = then_reads named (λ n. unless (is_taken earlier n.text) kinds.Twice n.place n.text)
+new_name_of earlier = then_reads named (λ n. unless (is_taken earlier n.text) (broke rules.Twice n.place) n.text)
 
 -- an earlier invariance, by its name
 unfoldable pub cited_of : Earlier → Reader ℕ
-cited_of earlier = then_reads named (λ n. then_reads (present kinds.UnknownLemma n.place (step_named earlier n.text)) (λ e. unless (not e.1) kinds.NotInvariant n.place e.0))
+cited_of earlier = then_reads named (λ n. then_reads (present (broke rules.UnknownLemma n.place) (step_named earlier n.text)) (λ e. unless (not e.1) (broke rules.NotInvariant n.place) e.0))
 
 -- [ "using" name { "," name } ]
 unfoldable pub citations_of : Earlier → Reader (List ℕ)
@@ -67,7 +68,7 @@ citations_of earlier s =
 
 -- As many levels as the goal has formulas behind "==>". Another number is found at the token behind the levels.
 unfoldable pub matched_of : ℕ → ℕ → List Formula → Reader PlainRule
-matched_of place count ls s = cond (ends_rule (ahead s)) (unless (not (nat_eq (length ls) count)) kinds.WrongCount place (levels ls) s) (Err (refusal s))
+matched_of place count ls s = cond (ends_rule (ahead s)) (unless (not (nat_eq (length ls) count)) (broke rules.WrongCount place) (levels ls) s) (Err (refusal s))
 
 module _ (g : Setting) where
   -- expr [ "by" expr ]

@@ -9,11 +9,10 @@ ghost use Rattle.proof_script.specs.Listing.{setting_view};
 ghost use Rattle.proof_script.specs.Steps.{invariance_of, response_of};
 
 use crate::fault::ScriptFault;
-use crate::marks::expect;
 use crate::rules::rule;
 use crate::setting::Setting;
 use crate::units::{formula, sum};
-use st_reading::{Mark, advance, ahead, is};
+use st_reading::{Mark, advance, ahead, expect, is};
 use st_tokens::Tokens;
 use std::alloc::Global;
 use temporal_goals::{Goal, RuleText};

@@ -64,10 +64,11 @@ pub enum ScriptFault {
 }
 
 impl From<TokenFault> for ScriptFault {
-    ghost use Rattle.std.specs.Prelude.{◌≡◌};
-    ghost use Rattle.proof_script.specs.Faults.{of_token};
+    ghost use Rattle.std.specs.Prelude.{◌≡◌, Some};
+    ghost use Rattle.st_reading.specs.Reading.{broken};
+    ghost use Rattle.proof_script.specs.Faults.{see};
 
-    ghost from_gives = { λ e fault. fault ≡ of_token e };
+    ghost from_gives = { λ e fault. see fault ≡ Some (broken e) };
 
     fn from(fault: TokenFault) -> Self {
         match fault {
@@ -78,10 +79,10 @@ impl From<TokenFault> for ScriptFault {
 }
 
 impl From<ParseFault> for ScriptFault {
-    ghost use Rattle.std.specs.Prelude.{◌≡◌};
-    ghost use Rattle.proof_script.specs.Faults.{of_parsing};
+    ghost use Rattle.st_reading.specs.Breaches.{Takes};
+    ghost use Rattle.proof_script.specs.Faults.{see};
 
-    ghost from_gives = { λ e fault. fault ≡ of_parsing e };
+    ghost from_gives = { λ e fault. Takes e (see fault) };
 
     fn from(fault: ParseFault) -> Self {
         match fault {
@@ -94,10 +95,9 @@ impl From<ParseFault> for ScriptFault {
 }
 
 impl From<FormFault> for ScriptFault {
-    ghost use Rattle.std.specs.Prelude.{◌≡◌};
-    ghost use Rattle.proof_script.specs.Faults.{of_forming};
+    ghost use Rattle.proof_script.specs.Faults.{IsForming};
 
-    ghost from_gives = { λ e fault. fault ≡ of_forming e };
+    ghost from_gives = { IsForming };
 
     fn from(fault: FormFault) -> Self {
         let (kind, place) = match fault {
@@ -115,10 +115,9 @@ impl From<FormFault> for ScriptFault {
 }
 
 impl From<DiagramFault> for ScriptFault {
-    ghost use Rattle.std.specs.Prelude.{◌≡◌};
-    ghost use Rattle.proof_script.specs.Faults.{of_drawing};
+    ghost use Rattle.proof_script.specs.Faults.{IsDrawing};
 
-    ghost from_gives = { λ e fault. fault ≡ of_drawing e };
+    ghost from_gives = { IsDrawing };
 
     fn from(fault: DiagramFault) -> Self {
         let (kind, place) = match fault {

@@ -10,12 +10,11 @@ ghost use Rattle.proof_script.specs.Rules.{helped_of, ranked_of, fair_of, ends_i
 
 use crate::fault::{ScriptFault, ScriptKind};
 use crate::lists::Item;
-use crate::marks::refusal;
 use crate::parts::{group, helper, wanted_helper, weight};
 use crate::setting::Setting;
 use crate::units::listed_formula;
 use st_form::{Form, Lin};
-use st_reading::{Mark, Sign, ahead, is, place_of};
+use st_reading::{Mark, Sign, ahead, is, place_of, refusal};
 use st_tokens::Tokens;
 use std::alloc::Global;
 use temporal_goals::Node;
@@ -127,7 +126,7 @@ fn completed(place: u64, node: Node, tokens: &Tokens<'_>) -> Result<Node, Script
     ensures { Reads see plain_node result (stream tokens.now) (completed_of place (plain_node node) (stream tokens.now)) }
 {
     if !ends_item(ahead(tokens)) {
-        return Err(refusal(tokens));
+        return Err(ScriptFault::from(refusal(tokens)));
     }
     if node.group.is_none() && node.helper.is_none() {
         return Err(ScriptFault::At(ScriptKind::NoHelper, place));

@@ -1,6 +1,6 @@
 //! Laws of the reading of scripts. Each is a function that does nothing; its contract is the law.
 
-ghost use Rattle.proof_script.specs.Obeying.{ScriptsCiteInvariances, RulesFitGoals, ScriptsAreProofs, GroupsAreFew, FaultsAreNamed};
+ghost use Rattle.proof_script.specs.Obeying.{ScriptsCiteInvariances, RulesFitGoals, ScriptsAreProofs, GroupsAreFew};
 ghost use Rattle.proof_script.specs.Speaking.{ScriptsAreOver};
 
 /// Each step of a script that was read cites only steps that stand before it and are invariances.
@@ -31,9 +31,4 @@ pub fn groups_are_few()
 /// numbers.
 pub fn scripts_are_over()
     ensures { ScriptsAreOver }
-{}
-
-/// Each fault of a script has a kind and a place: no text gives want of memory.
-pub fn faults_are_named()
-    ensures { FaultsAreNamed }
 {}

@@ -8,7 +8,6 @@ mod fault;
 mod items;
 pub mod laws;
 mod lists;
-mod marks;
 mod naming;
 mod nested;
 mod nets;

@@ -7,9 +7,8 @@ ghost use Rattle.proof_script.specs.Faults.{see};
 ghost use Rattle.proof_script.specs.Listing.{setting_view, further_counted, listed, bracketed};
 
 use crate::fault::ScriptFault;
-use crate::marks::expect;
 use crate::setting::Setting;
-use st_reading::{Mark, advance, ahead, is};
+use st_reading::{Mark, advance, ahead, expect, is};
 use st_tokens::Tokens;
 use std::alloc::Global;
 
@@ -19,7 +18,8 @@ pub trait Item: Drop + Sized {
     ghost use Rattle.st_tokens.specs.Stream.{stream};
     ghost use Rattle.st_reading.specs.Reading.{Reads, size};
     ghost use Rattle.proof_script.specs.Faults.{see};
-    ghost use Rattle.proof_script.specs.Listing.{Setting, Reader, setting_view};
+    ghost use Rattle.st_reading.specs.Breaches.{Reader};
+    ghost use Rattle.proof_script.specs.Listing.{Setting, setting_view};
 
     ghost Plain: { Type 0 };
 

@@ -10,10 +10,9 @@ ghost use Rattle.proof_script.specs.Faults.{see};
 ghost use Rattle.proof_script.specs.Steps.{step_named, new_name_of, cited_of, citations_of};
 
 use crate::fault::{ScriptFault, ScriptKind};
-use crate::marks::name;
 use assertions::text_of;
 use indexmap::IndexMap;
-use st_reading::{Mark, advance, ahead, is};
+use st_reading::{Mark, advance, ahead, is, name};
 use st_tokens::Tokens;
 use std::alloc::Global;
 

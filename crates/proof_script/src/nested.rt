@@ -11,11 +11,10 @@ ghost use Rattle.proof_script.specs.Rules.{nested_completed_of, group_level_of, 
 use crate::fault::{ScriptFault, ScriptKind};
 use crate::items::ends_item;
 use crate::lists::Item;
-use crate::marks::{expect, refusal};
 use crate::parts::{helper, weight};
 use crate::setting::Setting;
 use crate::units::{compassionate, listed_formula, sum};
-use st_reading::{Mark, advance, ahead, is, place_of};
+use st_reading::{Mark, advance, ahead, expect, is, place_of, refusal};
 use st_tokens::Tokens;
 use std::alloc::Global;
 use temporal_goals::{Level, NestedNode};
@@ -73,7 +72,7 @@ fn nested_completed(
     ensures { Reads see plain_nested_node result (stream tokens.now) (nested_completed_of place (plain_nested_node node) (stream tokens.now)) }
 {
     if !ends_item(ahead(tokens)) {
-        return Err(refusal(tokens));
+        return Err(ScriptFault::from(refusal(tokens)));
     }
     if node.levels.is_empty() && node.helper.is_none() {
         return Err(ScriptFault::At(ScriptKind::NoHelper, place));

@@ -8,11 +8,10 @@ ghost use Rattle.proof_script.specs.Listing.{setting_view};
 ghost use Rattle.proof_script.specs.Rules.{wanted_helper_of, helper_of, group_of, weight_of};
 
 use crate::fault::ScriptFault;
-use crate::marks::expect;
 use crate::setting::Setting;
 use crate::units::{compassionate, just, sum};
 use st_form::Lin;
-use st_reading::{Mark, advance, ahead, is};
+use st_reading::{Mark, advance, ahead, expect, is};
 use st_tokens::Tokens;
 use std::alloc::Global;
 

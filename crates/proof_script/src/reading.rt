@@ -5,23 +5,23 @@
 
 ghost use Rattle.std.specs.Prelude.{◌≡◌, ◌<◌, ◌^◌, ◌++◌, ◌∷◌, [], false, IfOk, length, map};
 ghost use Rattle.st_tokens.specs.Stream.{stream};
+ghost use Rattle.st_reading.specs.Breaches.{Gives};
 ghost use Rattle.st_reading.specs.Reading.{Reads, size};
 ghost use Rattle.st_program.specs.Names.{as_bytes};
 ghost use Rattle.transition_system.specs.Plain.{plain_system};
-ghost use Rattle.temporal_goals.specs.Plain.{plain_goal, plain_step};
+ghost use Rattle.temporal_goals.specs.Plain.{plain_goal, plain_step, plain_script};
 ghost use Rattle.proof_script.specs.Faults.{see};
 ghost use Rattle.proof_script.specs.Listing.{setting_view};
 ghost use Rattle.proof_script.specs.Steps.{is_invariance, is_taken, earlier_of};
-ghost use Rattle.proof_script.specs.Script.{steps_of, script_spelled, GivesScript};
+ghost use Rattle.proof_script.specs.Script.{steps_of, script_spelled};
 
 use crate::fault::ScriptFault;
-use crate::marks::at_end;
 use crate::setting::Setting;
 use crate::steps::{claim_in, step};
 use indexmap::IndexMap;
 use st_memory::Memory;
 use st_program::NameTable;
-use st_reading::{advance, ahead};
+use st_reading::{advance, ahead, at_end};
 use st_tokens::Tokens;
 use std::alloc::Global;
 use temporal_goals::{Goal, Script, Step};
@@ -73,7 +73,7 @@ pub fn read_script(
     fts: &Fts,
 ) -> Result<Script, ScriptFault>
     requires { length text.now < 2 ^ 32 }
-    ensures { GivesScript result (script_spelled names.now (plain_system fts.now) text.now) }
+    ensures { Gives see plain_script result (script_spelled names.now (plain_system fts.now) text.now) }
 {
     let setting = Setting { names, fts };
     let mut tokens = Tokens::new(text);

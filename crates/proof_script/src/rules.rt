@@ -9,11 +9,10 @@ ghost use Rattle.proof_script.specs.Listing.{setting_view};
 ghost use Rattle.proof_script.specs.Rules.{manner_in, kind_in, net_rule_of, response_diagram_of, ruled_of, rule_of};
 
 use crate::fault::ScriptFault;
-use crate::marks::refusal;
 use crate::nets::{chain_net, fair_net, just_net, nested_net, ranked_net, written_net};
 use crate::setting::Setting;
 use diagram_reader::read_diagram;
-use st_reading::{Mark, Sign, advance, ahead, is};
+use st_reading::{Mark, Sign, advance, ahead, is, refusal};
 use st_tokens::Tokens;
 use std::alloc::Global;
 use temporal_goals::{DiagramKind, RuleText};
@@ -91,7 +90,7 @@ fn response_diagram(
     ensures shrinks { IfOk result (λ _. size (stream tokens.new) ≤ size (stream tokens.old)) }
 {
     let Some(kind) = kind_in(ahead(tokens)) else {
-        return Err(refusal(tokens));
+        return Err(ScriptFault::from(refusal(tokens)));
     };
     advance(tokens);
     let diagram = read_diagram(alloc, tokens, kind, 0, setting.names, setting.fts)?;
@@ -130,7 +129,7 @@ pub fn rule(
     ensures shrinks { IfOk result (λ _. size (stream tokens.new) ≤ size (stream tokens.old)) }
 {
     let Some(manner) = manner_in(ahead(tokens)) else {
-        return Err(refusal(tokens));
+        return Err(ScriptFault::from(refusal(tokens)));
     };
     advance(tokens);
     ruled(alloc, setting, manner, tokens)

@@ -11,12 +11,11 @@ ghost use Rattle.proof_script.specs.Steps.{claim_in, claimed_of, step_of};
 
 use crate::claims::{invariance, response};
 use crate::fault::ScriptFault;
-use crate::marks::expect;
 use crate::naming::{citations, new_name};
 use crate::setting::Setting;
 use crate::waits::waiting;
 use indexmap::IndexMap;
-use st_reading::{Mark, Sign, is};
+use st_reading::{Mark, Sign, expect, is};
 use st_tokens::Tokens;
 use std::alloc::Global;
 use temporal_goals::{Goal, RuleText, Step};

@@ -4,7 +4,9 @@ ghost use Rattle.std.specs.Prelude.{◌≡◌, ◌≤◌, IfOk};
 ghost use Rattle.st_tokens.specs.Stream.{stream};
 ghost use Rattle.st_reading.specs.Reading.{Reads, size};
 ghost use Rattle.st_form.specs.Plain.{plain};
-ghost use Rattle.proof_script.specs.Faults.{see, of_past};
+ghost use Rattle.std.specs.Option.{option_map};
+ghost use Rattle.assertions.specs.Faults as forms;
+ghost use Rattle.proof_script.specs.Faults.{see, past};
 ghost use Rattle.proof_script.specs.Listing.{setting_view, formula_of, sum_of, listed_formula_of, transition_of, just_of, compassionate_of};
 
 use crate::fault::{ScriptFault, ScriptKind};
@@ -48,7 +50,7 @@ pub fn sum(
 
 /// The fault of a formula at the place, behind as many as may be listed: one of the grammar comes before the limit.
 fn past(place: u64, fault: FormFault) -> ScriptFault
-    ensures { result ≡ of_past place fault }
+    ensures { see result ≡ option_map (past place) (forms.see fault) }
 {
     match fault {
         FormFault::Syntax(_) | FormFault::Token(_) | FormFault::Nesting(_) | FormFault::Memory => {

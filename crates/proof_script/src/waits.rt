@@ -11,12 +11,11 @@ ghost use Rattle.proof_script.specs.Steps.{ends_rule, waiting_goal_of, matched_o
 
 use crate::fault::{ScriptFault, ScriptKind};
 use crate::lists::{further, listed};
-use crate::marks::{expect, refusal};
 use crate::setting::Setting;
 use crate::units::{formula, listed_formula};
 use diagram_reader::read_diagram;
 use st_form::Form;
-use st_reading::{Mark, Sign, advance, ahead, is};
+use st_reading::{Mark, Sign, advance, ahead, expect, is, refusal};
 use st_tokens::Tokens;
 use std::alloc::Global;
 use temporal_goals::{DiagramKind, Goal, RuleText};
@@ -61,7 +60,7 @@ fn matched(
     ensures { Reads see plain_rule result (stream tokens.now) (matched_of place count (map plain levels.items) (stream tokens.now)) }
 {
     if !ends_rule(ahead(tokens)) {
-        return Err(refusal(tokens));
+        return Err(ScriptFault::from(refusal(tokens)));
     }
     if levels.len() != count {
         return Err(ScriptFault::At(ScriptKind::WrongCount, place));

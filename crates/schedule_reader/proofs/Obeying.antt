@@ -1,20 +1,15 @@
 -- A schedule that was read obeys its rules, part by part.
-use Rattle.std.proofs.Common.{◌≡◌, ℕ, zero, suc, ◌<◌, ◌≤◌, ◌^◌, Bool, true, false, cond, List, [], ◌∷◌, ◌++◌, length, length-append, map, pos, Option, Some, None, Result, Ok, Err, refl, sym, ap, subst, ◌∙◌, arith}
-use Rattle.std.specs.Prelude.{⊤, ◌==◌, ◌&&◌, not, nat_lt, unsigned_abs, neg_ℤ, slice_get, slice_set, replicate, if◌then◌else◌}
+use Rattle.std.proofs.Common.{◌≡◌, ℕ, zero, suc, ◌<◌, ◌≤◌, ◌^◌, Bool, true, false, cond, List, [], ◌∷◌, ◌++◌, length, length-append, map, pos, Option, Some, None, Ok, Err, refl, sym, ap, subst, ◌∙◌, arith}
+use Rattle.std.specs.Prelude.{⊤, not, nat_lt, unsigned_abs, neg_ℤ, slice_get, slice_set, replicate, if◌then◌else◌}
 use Rattle.std.specs.Option.{option_map, option_and_then}
 use Rattle.std.specs.List.{All}
 use Rattle.std.proofs.lemmas.Bool.Decides.{nat_tests}
 use Rattle.std.proofs.lemmas.List.Elements.{All-push}
 use Rattle.st_linear.proofs.Dividing.{unsigned_abs-neg}
-use Rattle.st_tokens.specs.Stream.{Stream, ends, breaks, more, behind, text_stream}
-use Rattle.st_tokens.specs.declared.kind.TokenKind.{TokenKind}
-use Rattle.st_tokens.specs.declared.kind.TokenKind.TheVariants as kinds
-use Rattle.st_tokens.specs.Text.{value_of as number_of}
-use Rattle.st_reading.specs.declared.mark.Mark.{Mark}
+use Rattle.st_tokens.specs.Stream.{Stream, behind, text_stream}
 use Rattle.st_reading.specs.declared.mark.Mark.TheVariants as marks
 use Rattle.st_reading.specs.declared.sign.Sign.{Sign}
-use Rattle.st_reading.specs.declared.sign.Sign.TheVariants as signs
-use Rattle.st_reading.specs.Sign.{is, single_sign, pair_sign, symbol_sign, word_mark, marked, kind_sign}
+use Rattle.st_reading.specs.Sign.{is}
 use Rattle.st_reading.specs.Reading.{Stop, other, Read, ◌>>=◌, Label, ahead, place_of, name_of, refusal, expected, at_end, gives, then_reads, on_operator, size}
 use Rattle.st_form.specs.declared.conditions.Part.{Part}
 use Rattle.st_form.specs.declared.conditions.TransName.{TransName}
@@ -25,8 +20,10 @@ use Rattle.st_program.specs.Names.{Names}
 use Rattle.st_program.specs.Tree.{Statement, Processes, action}
 use Rattle.st_program.specs.Spots.{statement_at}
 use Rattle.expression_typer.specs.Naming.{is_text, variable_at, variable_named, names_of}
+use Rattle.st_reading.proofs.Judged.{both, given, allowed, there}
+use Rattle.st_reading.proofs.Numerals.{numeral_small, numeral_within}
 use Rattle.st_reading.specs.Rule as rules
-use Rattle.st_reading.specs.Breaches.{Breach, broke, Reader, present, unless, numeral_in, numeral_of, alone}
+use Rattle.st_reading.specs.Breaches.{Breach, broke, Reader, unless, numeral_in, numeral_of, alone}
 use Rattle.schedule_reader.specs.declared.moving.Opening.{Opening}
 use Rattle.schedule_reader.specs.declared.moving.Opening.TheVariants.{Idling, Label as By, Number as Numbered}
 use Rattle.schedule_reader.specs.Items.{items_from}
@@ -37,29 +34,7 @@ use Rattle.schedule_reader.specs.Schedules.{PlainSchedule, all_set, only_name, s
 use Rattle.schedule_reader.specs.Obeying.{IsName, Obeys}
 use Rattle.basic_laws.proofs.Truths.{not_false}
 
-module _ {E A B : Type 0} where
-  -- both parts went through
-  pub record Both (r : Result A E) (q : A → Result B E) (y : B) : Type 0 where
-    pub value : A
-    pub first : r ≡ Ok value
-    pub second : q value ≡ Ok y
-
-  both : (r : Result A E) (q : A → Result B E) (y : B) → (r >>= q) ≡ Ok y → Both r q y
-  both (Ok x) q y h = record { value = x; first = refl; second = h }
-  both (Err e) q y h = absurd cc
-
 module _ {A : Type 0} where
-  given : (x y : A) (s rest : Stream) → gives {X = Breach} x s ≡ Ok (y, rest) → x ≡ y
-  given x y s rest h = let e : (x, s) ≡ (y, rest) = cc in ap (λ (p : A × Stream). p.0) e
-
-  allowed : (broken : Bool) (fault : Breach) (x y : A) (s rest : Stream) → unless broken fault x s ≡ Ok (y, rest) → (broken ≡ false) × (x ≡ y)
-  allowed true fault x y s rest h = absurd cc
-  allowed false fault x y s rest h = (refl, given x y s rest h)
-
-  there_is : (fault : Breach) (o : Option A) (y : A) (s rest : Stream) → present fault o s ≡ Ok (y, rest) → o ≡ Some y
-  there_is fault None y s rest h = absurd cc
-  there_is fault (Some x) y s rest h = ap Some (given x y s rest h)
-
   abbrev taken : Option A → Stop Breach → Stream → Read Breach A
   taken o stop s = on_operator o (Err stop) (λ x. Ok (x, behind s))
 
@@ -82,67 +57,11 @@ module _ {O S : Type 0} (begins : Sign → Option O) (item : O → Label → S �
   kept zero x y s rest h e = subst P (given x y s rest e) h
   kept (suc k) x y s rest h e = at_start (λ z m. items_from begins item k z m) (λ x y s rest h e. kept k x y s rest h e) (begins (ahead s)) x y s rest h e
 
--- a numeral's sign has a number within the limit of texts
-record IsNoNumeral (g : Sign) : Type 0 where
-  none : numeral_in g ≡ None
-
-mark_none : (m : Mark) → IsNoNumeral (signs.Marked m)
-mark_none m = record { none = refl }
-
-other_none : IsNoNumeral signs.Other
-other_none = record { none = refl }
-
-no_if : (b : Bool) (x y : Sign) → IsNoNumeral x → IsNoNumeral y → IsNoNumeral (if b then x else y)
-no_if true x y h k = h
-no_if false x y h k = k
-
-single_none : (b : ℕ) → IsNoNumeral (single_sign b)
-single_none b = no_if (b == 40) _ _ (mark_none _) (no_if (b == 41) _ _ (mark_none _) (no_if (b == 91) _ _ (mark_none _) (no_if (b == 93) _ _ (mark_none _) (no_if (b == 123) _ _ (mark_none _) (no_if (b == 125) _ _ (mark_none _) (no_if (b == 58) _ _ (mark_none _) (no_if (b == 59) _ _ (mark_none _) (no_if (b == 44) _ _ (mark_none _) (no_if (b == 46) _ _ (mark_none _) (no_if (b == 126) _ _ (mark_none _) (no_if (b == 61) _ _ (mark_none _) (no_if (b == 60) _ _ (mark_none _) (no_if (b == 62) _ _ (mark_none _) (no_if (b == 43) _ _ (mark_none _) (no_if (b == 45) _ _ (mark_none _) (no_if (b == 42) _ _ (mark_none _) other_none))))))))))))))))
-
-pair_none : (b c : ℕ) → IsNoNumeral (pair_sign b c)
-pair_none b c = no_if (b == 60 && c == 60) _ _ (mark_none _) (no_if (b == 62 && c == 62) _ _ (mark_none _) (no_if (b == 58 && c == 58) _ _ (mark_none _) (no_if (b == 58 && c == 61) _ _ (mark_none _) (no_if (b == 124 && c == 124) _ _ (mark_none _) (no_if (b == 47 && c == 92) _ _ (mark_none _) (no_if (b == 92 && c == 47) _ _ (mark_none _) (no_if (b == 45 && c == 62) _ _ (mark_none _) (no_if (b == 33 && c == 61) _ _ (mark_none _) (no_if (b == 60 && c == 61) _ _ (mark_none _) (no_if (b == 62 && c == 61) _ _ (mark_none _) other_none))))))))))
-
-symbol_none : (s : List ℕ) → IsNoNumeral (symbol_sign s)
-symbol_none [] = other_none
-symbol_none (b ∷ []) = single_none b
-symbol_none (b ∷ c ∷ []) = pair_none b c
-symbol_none (b ∷ c ∷ d ∷ []) = no_if (b == 61 && c == 61 && d == 62) _ _ (mark_none _) other_none
-symbol_none (b ∷ c ∷ d ∷ e ∷ bs) = other_none
-
-marked_none : (o : Option Mark) → numeral_in (marked o) ≡ None
-marked_none None = refl
-marked_none (Some m) = refl
-
-kind_small : (kind : TokenKind) (text : List ℕ) (n : ℕ) → numeral_in (kind_sign kind text) ≡ Some n → n ≤ 2 ^ 30
-kind_small kinds.Name text n h = cc
-kind_small kinds.Keyword text n h = let none = marked_none (word_mark text) in cc
-kind_small kinds.Symbol text n h = let none = (symbol_none text).none in cc
-kind_small kinds.Numeral text n h = at_test (nat_lt (2 ^ 30) (number_of text)) refl h
-  where
-    at_test : (b : Bool) → nat_lt (2 ^ 30) (number_of text) ≡ b → numeral_in (if b then signs.Other else signs.Numeral (number_of text)) ≡ Some n → n ≤ 2 ^ 30
-    at_test true q h = cc
-    at_test false q h = let e : number_of text ≡ n = cc in grind (arith, nat_tests)
-
-small : (s : Stream) (n : ℕ) → numeral_in (ahead s) ≡ Some n → n ≤ 2 ^ 30
-small (ends place) n h = cc
-small (breaks f) n h = cc
-small (more t s) n h = kind_small t.kind t.text n h
-
-numeral_small : (s : Stream) (n : ℕ × ℕ) (rest : Stream) → numeral_of s ≡ Ok (n, rest) → n.0 ≤ 2 ^ 30
-unfolding numeral_of
-numeral_small s n rest h = by_number (numeral_in (ahead s)) refl h
-  where
-    by_number : (o : Option ℕ) → numeral_in (ahead s) ≡ o → on_operator {A = Read Breach (ℕ × ℕ)} o (Err (refusal s)) (λ k. Ok ((k, place_of s), behind s)) ≡ Ok (n, rest) → n.0 ≤ 2 ^ 30
-    by_number None q h = absurd cc
-    by_number (Some k) q h =
-        let e : (k, place_of s) ≡ n = given (k, place_of s) n (behind s) rest h in
-        subst (λ (m : ℕ × ℕ). m.0 ≤ 2 ^ 30) e (small s k q)
-
 -- values
 module _ (s : Stream) (d : Datum) where
   number_written : (o : Option ℕ) → numeral_in (ahead s) ≡ o → option_map (λ n. Number (pos n)) o ≡ Some d → IsWritten d
   number_written None q h = cc
-  number_written (Some n) q h = let e : Number (pos n) ≡ d = cc in subst IsWritten e (small s n q)
+  number_written (Some n) q h = let e : Number (pos n) ≡ d = cc in subst IsWritten e (numeral_within s n q)
 
   token_written : value_in (ahead s) ≡ Some d → IsWritten d
   token_written h = at_true (is (ahead s) marks.True) h
@@ -275,7 +194,7 @@ store_valued names ds s rest h =
     let a = both (items_from only_name (λ o. setting_of names) (size s) start s) _ (ds, rest) h in
     let b = both (expected marks.Colons a.value.1) _ (ds, rest) a.second in
     let m = kept only_name (λ o. setting_of names) (Meets names.variables) (λ o l x y s rest m h. setting_meets names l x y s rest m h) (size s) start a.value.0 s a.value.1 (meets_none names.variables) a.first in
-    all_valued names.variables a.value.0 ds m (there_is (broke rules.Unset b.value.0) (all_set a.value.0) ds b.value.1 rest b.second)
+    all_valued names.variables a.value.0 ds m (there (broke rules.Unset b.value.0) (all_set a.value.0) ds b.value.1 rest b.second)
 
 -- moves
 module _ (names : Names) (p : Processes) where
@@ -300,10 +219,10 @@ module _ (names : Names) (p : Processes) where
   move_named Idling l m s rest h = subst (IsName p) (given Idle m s rest h) tt
   move_named By l m s rest h =
       let a = both (part_of s) _ (m, rest) h in
-      named_is (statement_of names By l) a.value.0 m (there_is (broke rules.UnknownTransition l.place) (named_by names p By l a.value.0) m a.value.1 rest a.second)
+      named_is (statement_of names By l) a.value.0 m (there (broke rules.UnknownTransition l.place) (named_by names p By l a.value.0) m a.value.1 rest a.second)
   move_named (Numbered n) l m s rest h =
       let a = both (part_of s) _ (m, rest) h in
-      named_is (statement_of names (Numbered n) l) a.value.0 m (there_is (broke rules.UnknownTransition l.place) (named_by names p (Numbered n) l a.value.0) m a.value.1 rest a.second)
+      named_is (statement_of names (Numbered n) l) a.value.0 m (there (broke rules.UnknownTransition l.place) (named_by names p (Numbered n) l a.value.0) m a.value.1 rest a.second)
 
   abbrev Few : List TransName → Type 0
   Few moves = (length moves ≤ 1000) × All (IsName p) moves

@@ -1,7 +1,6 @@
 -- Moves: each names a transition of the program, by the label or the number of a statement.
-use Rattle.std.specs.Prelude.{ℕ, zero, suc, Bool, true, false, not, cond, nat_lt, if◌then◌else◌, List, [], ◌∷◌, ◌++◌, codes, length, Option, Some, None, Ok, Err}
+use Rattle.std.specs.Prelude.{ℕ, zero, suc, Bool, true, false, not, cond, nat_lt, if◌then◌else◌, List, [], ◌∷◌, ◌++◌, length, Option, Some, None, Ok, Err}
 use Rattle.std.specs.Option.{option_map, option_and_then}
-use Rattle.std.specs.Str.{bytes_eq}
 use Rattle.st_tokens.specs.Stream.{behind}
 use Rattle.st_reading.specs.declared.mark.Mark.TheVariants as marks
 use Rattle.st_reading.specs.declared.sign.Sign.{Sign}
@@ -14,19 +13,15 @@ use Rattle.st_form.specs.declared.conditions.Part.TheVariants.{Whole, Entry, Exi
 use Rattle.st_form.specs.declared.conditions.TransName.{TransName}
 use Rattle.st_form.specs.declared.conditions.TransName.TheVariants.{Idle, Step}
 use Rattle.st_program.specs.Names.{Names}
-use Rattle.st_program.specs.Names as tables
 use Rattle.st_program.specs.Tree.{Action, skip, block, select, cooperate, Processes, action}
 use Rattle.st_program.specs.Spots.{statement_at}
-use Rattle.expression_typer.specs.Naming.{is_text}
+use Rattle.assertions.specs.Labels.{labelled, part_named}
 use Rattle.schedule_reader.specs.declared.moving.Opening.{Opening}
 use Rattle.schedule_reader.specs.declared.moving.Opening.TheVariants.{Idling, Label as By, Number}
 
 -- what a move begins with
 abbrev pub opening_in : Sign → Option Opening
 opening_in g = cond (is g marks.Minus) (Some Idling) (cond (is_name g) (Some By) (option_map Number (numeral_in g)))
-
-unfoldable pub part_named : List ℕ → Option Part
-part_named text = if bytes_eq text (codes "entry") then Some Entry else (if bytes_eq text (codes "exit") then Some Exit else None)
 
 -- [ "." name ]: the part, if the name is that of one
 unfoldable pub part_of : Reader (Option Part)
@@ -49,10 +44,6 @@ has_part _ part = is_whole part
 -- the transition that is this part of the statement with this occurrence
 abbrev pub step_of : Processes → ℕ → Part → Option TransName
 step_of p o part = option_and_then (λ s. if has_part (action s) part then Some (Step o part) else None) (statement_at p o)
-
--- the statement with this label
-abbrev pub labelled : Names → List ℕ → Option ℕ
-labelled names label = if is_text label then option_and_then (λ l. l.1) (tables.named label names.labels) else None
 
 -- numbers count from 1
 abbrev pub less_one : ℕ → Option ℕ

@@ -6,10 +6,10 @@ ghost use Rattle.st_program.specs.Plain.{plain_kind, plain_children};
 ghost use Rattle.st_reading.specs.Reading.{Reads, size};
 ghost use Rattle.st_reading.specs.Faults.{name_view};
 ghost use Rattle.schedule_reader.specs.Faults.{see};
-ghost use Rattle.schedule_reader.specs.Moves.{opening_in, part_named, part_of, has_part, step_of, labelled, statement_of, named_by, move_of, next_move_of};
+ghost use Rattle.schedule_reader.specs.Moves.{opening_in, part_of, has_part, step_of, statement_of, named_by, move_of, next_move_of};
 
 use crate::fault::ScheduleFault;
-use assertions::text_of;
+use assertions::{labelled, part_named};
 use st_form::{Part, TransName};
 use st_program::{Kind, NameTable, Program};
 use st_reading::{Mark, RawName, Sign, advance, ahead, expect, is, is_name, name, numeral_in};
@@ -42,19 +42,6 @@ pub fn opening_in(sign: Sign) -> Option<Opening>
     match numeral_in(sign) {
         Some(number) => Some(Opening::Number(number)),
         None => None,
-    }
-}
-
-#[tactic(auto, unfolding(crate::specs::Moves::part_named))]
-fn part_named(text: &[u8]) -> Option<Part>
-    ensures { result ≡ part_named text.now }
-{
-    if text == b"entry".as_slice() {
-        Some(Part::Entry)
-    } else if text == b"exit".as_slice() {
-        Some(Part::Exit)
-    } else {
-        None
     }
 }
 
@@ -97,13 +84,6 @@ fn step(program: &Program, occ: u32, part: Part) -> Option<TransName>
     } else {
         None
     }
-}
-
-/// The statement with this label.
-fn labelled(names: &NameTable, label: &[u8]) -> Option<u32>
-    ensures { result ≡ labelled names.now label.now }
-{
-    names.labelled(text_of(label)?)
 }
 
 /// The occurrence of the statement that is named, if it is one.

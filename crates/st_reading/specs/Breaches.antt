@@ -10,11 +10,13 @@ use Rattle.st_reading.specs.declared.sign.Sign.TheVariants as signs
 use Rattle.st_reading.specs.Reading.{Stop, syntax, broken, other, Read, IsStop, ahead, place_of, refusal, on_operator}
 use Rattle.st_reading.specs.Rule.{Rule}
 
--- a rule that is broken, or a limit that is passed, with the place; the moves of a schedule have a limit of their own
+-- a rule that is broken, or a limit that is passed, with the place; the moves of a schedule have a limit of their own, and a
+-- diagram tells that no formula goes on so from that it doesn't itself
 pub data Breach : Type 0 where
   broke : Rule → ℕ → Breach
   limited : LimitKind → ℕ → Breach
   crowded : ℕ → Breach
+  unformed : ℕ → Breach
 
 abbrev pub Reader : Type 0 → Type 0
 Reader A = Stream → Read Breach A

@@ -25,7 +25,8 @@ use Rattle.script_obligations.specs.Laws.{AreThese}
 use Rattle.spl_translation.specs.Translation.{translation}
 use Rattle.spl_translation.proofs.Systemic.{translation_is_system}
 use Rattle.spl_typer.specs.Programs.{Typed}
-use Rattle.proof_script.specs.declared.fault.ScriptFault.{ScriptFault}
+use Rattle.st_reading.specs.Reading.{Stop}
+use Rattle.st_reading.specs.Breaches.{Breach}
 use Rattle.proof_grammar.proofs.Growing.{lines_stand, scripts_go_on}
 use Rattle.step_run.specs.Source.{IsSpelled}
 use Rattle.step_run.specs.Conditions.{system_of, setting_of, words_over, steps_spelled, drafts, conditions_of, passes_limit}
@@ -155,7 +156,7 @@ module _ (p : Typed) (text s : List ℕ) (count : ℕ) (a : IsAccepted p text co
     }
 
 -- a text that spells no script
-pub no-script : (p : Typed) (text : List ℕ) (fault : ScriptFault) → steps_spelled p text ≡ Err fault → accepts p text ≡ false
+pub no-script : (p : Typed) (text : List ℕ) (fault : Stop Breach) → steps_spelled p text ≡ Err fault → accepts p text ≡ false
 unfolding accepts
 no-script p text fault is = ap (accepts_steps p) is
 

@@ -6,20 +6,24 @@ use Rattle.st_certificate.specs.Tree.{Tree}
 use Rattle.cert_text.specs.Blank.{first_place, past_blanks}
 use Rattle.block_laws.specs.Checked.{Checked, all_valid, refused, whole_text, checked_from}
 use Rattle.step_report.specs.Goals.{certificates_text}
-use Rattle.step_plan.specs.declared.status.Status.TheVariants.{Proved}
+use Rattle.step_plan.specs.declared.status.Status.{Status}
+use Rattle.step_plan.specs.declared.status.Status.TheVariants.{Proved, ScheduleRefused}
 use Rattle.step_plan.specs.Limits.{limited}
 use Rattle.step_plan.specs.Outcome.{Outcome, IsDecided}
 use Rattle.std.specs.Prelude.{Result, Ok, Err}
 use Rattle.st_tokens.specs.declared.kind.TokenFault.{TokenFault}
 use Rattle.st_tokens.specs.declared.kind.TokenFault.TheVariants as tokens
 use Rattle.st_reading.specs.Reading.{Stop, syntax, broken, other}
-use Rattle.st_reading.specs.Breaches.{Breach, broke, limited as over, crowded}
+use Rattle.st_reading.specs.Breaches.{Breach, broke, limited as over, crowded, unformed}
 use Rattle.spl_semantics.specs.Stores.{holds}
 use Rattle.spl_semantics.specs.Data.{store_of}
 use Rattle.schedule_reader.specs.Schedules.{PlainSchedule, schedule_spelled}
 use Rattle.trace_player.specs.Playing as playing
+use Rattle.step_report.specs.declared.refusals.FileRole.{FileRole}
+use Rattle.step_report.specs.declared.refusals.FileRole.TheVariants.{Schedule}
+use Rattle.step_run.specs.Outcome.{token_fault, text_refused}
 use Rattle.step_run.specs.Scheduled.{start_of}
-use Rattle.step_run.specs.Traced.{Scripted, token_refused, schedule_refused, no_start, play_ended, schedule_played, schedule_ended, traced}
+use Rattle.step_run.specs.Traced.{Scripted, no_start, play_ended, schedule_played, schedule_ended, traced}
 use Rattle.step_run.specs.Conditions.{Posed, setting_of}
 use Rattle.step_run.specs.Checked.{goals_proved, ending, check_ended, checked}
 use Rattle.step_run.specs.Verified.{Verified, all_found, left_open, given_up, verified_from, search_ended, searched, certificates, goals_counted, verified, written, counted}
@@ -60,17 +64,20 @@ written_decided x = searched_decided x certificates certificates_decided
 pub counted_decided : (x : Posed) → IsDecided (counted x).status
 counted_decided x = searched_decided x (goals_counted x) (λ ts. tt)
 
--- the ends of traces
-token_decided : (f : TokenFault) → IsDecided (token_refused f).status
-token_decided (tokens.BadByte place) = tt
-token_decided (tokens.LongNumber place) = tt
+-- a text that is refused
+token_decided : (status : Status) (role : FileRole) → IsDecided status → (f : TokenFault) → IsDecided (token_fault status role f).status
+token_decided status role h (tokens.BadByte place) = h
+token_decided status role h (tokens.LongNumber place) = h
 
-refused_decided : (f : Stop Breach) → IsDecided (schedule_refused f).status
-refused_decided (syntax place) = tt
-refused_decided (broken f) = token_decided f
-refused_decided (other (broke rule place)) = tt
-refused_decided (other (over kind place)) = tt
-refused_decided (other (crowded place)) = tt
+pub text_decided : (status : Status) (role : FileRole) → IsDecided status → (f : Stop Breach) → IsDecided (text_refused status role f).status
+text_decided status role h (syntax place) = h
+text_decided status role h (broken f) = token_decided status role h f
+text_decided status role h (other (broke rule place)) = h
+text_decided status role h (other (over kind place)) = tt
+text_decided status role h (other (crowded place)) = tt
+text_decided status role h (other (unformed place)) = h
+
+-- the ends of traces
 
 play_decided : (x : Scripted) (s : PlainSchedule) (r : playing.Outcome) → IsDecided (play_ended x s r).status
 play_decided x s (playing.made later) = tt
@@ -86,7 +93,7 @@ played_decided x s = by (holds x.program.initial (store_of s.store)) where
 
 schedule_decided : (x : Scripted) (r : Result PlainSchedule (Stop Breach)) → IsDecided (schedule_ended x r).status
 schedule_decided x (Ok s) = played_decided x s
-schedule_decided x (Err f) = refused_decided f
+schedule_decided x (Err f) = text_decided ScheduleRefused Schedule tt f
 
 pub traced_decided : (x : Scripted) (text : List ℕ) → IsDecided (traced x text).status
 unfolding traced

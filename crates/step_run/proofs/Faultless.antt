@@ -15,24 +15,22 @@ use Rattle.expression_typer.specs.Placed.{IsLeast}
 use Rattle.spl_typer.specs.Programs.{Typed, typing}
 use Rattle.spl_typer.specs.ProgramRules.{program_faults}
 use Rattle.typing_laws.specs.Laws.{AreRules, TellsLeast, ReadIsTyped}
-use Rattle.proof_script.specs.Obeying.{FaultsAreNamed}
-use Rattle.proof_script.specs.declared.fault.ScriptKind.{ScriptKind}
-use Rattle.proof_script.specs.declared.fault.ScriptKind.TheVariants as scripts
-use Rattle.proof_script.specs.declared.fault.ScriptFault.{ScriptFault}
-use Rattle.proof_script.specs.declared.fault.ScriptFault.TheVariants as fault
+use Rattle.st_reading.specs.Breaches.{Breach}
+use Rattle.step_report.specs.declared.refusals.FileRole.TheVariants.{Proof}
+use Rattle.step_plan.specs.declared.status.Status.TheVariants.{ProofRefused}
 use Rattle.step_words.specs.Request.{PlainRequest, checks, verifies, proves, makes, traces, finds}
 use Rattle.step_workload.specs.Texts.{program_text, proof_text}
 use Rattle.step_plan.specs.Outcome.{Outcome, IsDecided}
 use Rattle.step_plan.specs.Plan.{Told, Plan, ends, goes_on, asks, then_plan, EndsIn}
 use Rattle.step_run.specs.declared.refusals.Refusal.{Refusal}
 use Rattle.step_run.specs.declared.refusals.Refusal.TheVariants.{Fault, Limit, Memory}
-use Rattle.step_run.specs.Refusals.{of_token, of_stop, of_rule, of_kind, of_script}
-use Rattle.step_run.specs.Outcome.{program_refused, proof_refused}
+use Rattle.step_run.specs.Refusals.{of_token, of_stop, of_rule}
+use Rattle.step_run.specs.Outcome.{program_refused}
 use Rattle.step_run.specs.Source.{source_typed, source_of, source_spelled}
-use Rattle.step_run.specs.Conditions.{Posed, system_of, steps_spelled, passes_limit}
+use Rattle.step_run.specs.Conditions.{Posed, steps_spelled, passes_limit}
 use Rattle.step_run.specs.Plans.{program_or_end, source_of_text, source_plan, steps_or_end, script_of_text, script_plan, scripted_plan, trace_scripted, find_in, posed_or_end, obliged, posed_of_text, posed_plan, conditions_plan, check_posed, verify_posed, prove_posed, count_posed, workload_posed, workload_conditions, numbered, plan_for, plan_of}
 use Rattle.step_run.specs.Decided.{PlansAreDecided}
-use Rattle.step_run.proofs.Decided.{checked_decided, verified_decided, written_decided, counted_decided, traced_decided}
+use Rattle.step_run.proofs.Decided.{text_decided, checked_decided, verified_decided, written_decided, counted_decided, traced_decided}
 use Rattle.step_run.proofs.Found.{looked-decided}
 use Rattle.step_run.proofs.Sources.{source_read}
 use Rattle.step_run.proofs.Posing.{script_read, obliged_is}
@@ -65,11 +63,6 @@ program_end (Fault kind place) named = tt
 program_end (Limit kind) named = tt
 program_end Memory named = absurd named
 
-proof_end : (refusal : Refusal) → IsNamed refusal → IsDecided (proof_refused refusal).status
-proof_end (Fault kind place) named = tt
-proof_end (Limit kind) named = tt
-proof_end Memory named = absurd named
-
 token_named : (f : TokenFault) → IsNamed (of_token f)
 token_named (tokens.BadByte place) = tt
 token_named (tokens.LongNumber place) = tt
@@ -91,32 +84,7 @@ rule_named (faults.SameTarget place) not = tt
 rule_named (faults.Limit kind place) not = tt
 rule_named faults.Memory not = absurd (not refl)
 
-kind_named : (kind : ScriptKind) (place : ℕ) → IsNamed (of_kind kind place)
-kind_named scripts.Syntax place = tt
-kind_named scripts.BadByte place = tt
-kind_named scripts.LongNumber place = tt
-kind_named scripts.Unknown place = tt
-kind_named scripts.WrongType place = tt
-kind_named scripts.NonLinear place = tt
-kind_named scripts.TooLarge place = tt
-kind_named scripts.Twice place = tt
-kind_named scripts.UnknownLemma place = tt
-kind_named scripts.NotInvariant place = tt
-kind_named scripts.WrongCount place = tt
-kind_named scripts.UnknownTransition place = tt
-kind_named scripts.UnknownNode place = tt
-kind_named scripts.Upward place = tt
-kind_named scripts.NoTerminal place = tt
-kind_named scripts.UnfairHelper place = tt
-kind_named scripts.NotCompassionate place = tt
-kind_named scripts.NoHelper place = tt
-kind_named (scripts.Limit kind) place = tt
-
-script_named : (f : ScriptFault) → (f ≡ fault.Memory → ⊥) → IsNamed (of_script f)
-script_named (fault.At kind place) not = kind_named kind place
-script_named fault.Memory not = absurd (not refl)
-
-module _ (typed : ReadIsTyped) (named : FaultsAreNamed) where
+module _ (typed : ReadIsTyped) where
   -- no rule of typing is want of memory
   never_memory : (text : List ℕ) (x : raw.Program) → parsed text ≡ Ok x → typing x ≡ Err faults.Memory → ⊥
   never_memory text x reads is =
@@ -139,13 +107,13 @@ module _ (typed : ReadIsTyped) (named : FaultsAreNamed) where
   pub decided_source : (text : List ℕ) → EndsDecided (source_of_text text)
   decided_source text = subst (λ (q : Plan Typed). EndsDecided q) (sym (source_read text (source_spelled text) refl)) (spelled_end text)
 
-  steps_end : (p : Typed) (text : List ℕ) (r : Result (List PlainStep) ScriptFault) → steps_spelled p text ≡ r → EndsDecided (steps_or_end r)
-  steps_end p text (Ok steps) is = tt
-  steps_end p text (Err f) is = proof_end (of_script f) (script_named f (λ same. named p.names (system_of p) text (is ∙ ap Err same)))
+  steps_end : (r : Result (List PlainStep) (Stop Breach)) → EndsDecided (steps_or_end r)
+  steps_end (Ok steps) = tt
+  steps_end (Err f) = text_decided ProofRefused Proof tt f
 
   pub decided_script : (p : Typed) (text : List ℕ) → EndsDecided (script_of_text p text)
   decided_script p text =
-      subst (λ (q : Plan (List PlainStep)). EndsDecided q) (sym (script_read p text (steps_spelled p text) refl)) (steps_end p text (steps_spelled p text) refl)
+      subst (λ (q : Plan (List PlainStep)). EndsDecided q) (sym (script_read p text (steps_spelled p text) refl)) (steps_end (steps_spelled p text))
 
   posed_end : (p : Typed) (steps : List PlainStep) (o : Option (VcFault × ℕ)) → EndsDecided (posed_or_end p steps o)
   posed_end p steps None = tt

@@ -12,7 +12,8 @@ use Rattle.search_laws.specs.Moves.{Verdict, valid, open_at, wide_at, decided}
 use Rattle.temporal_goals.specs.Texts.{PlainStep}
 use Rattle.vc_generator.specs.declared.faults.VcFault.{VcFault}
 use Rattle.spl_typer.specs.Programs.{Typed}
-use Rattle.proof_script.specs.declared.fault.ScriptFault.{ScriptFault}
+use Rattle.st_reading.specs.Reading.{Stop}
+use Rattle.st_reading.specs.Breaches.{Breach}
 use Rattle.equation_laws.specs.Equations.{PlainEquation}
 use Rattle.equation_writer.specs.Sentences.{sentence, left_out_text}
 use Rattle.proof_grammar.specs.Growing.{Stands, NothingStands, LinesStand, CommentsAddNothing, IsLine}
@@ -64,7 +65,7 @@ pub record Accepted (p : Typed) (text : List ℕ) : Type 0 where
 pub accepted : (p : Typed) (text : List ℕ) → accepts p text ≡ true → Accepted p text
 unfolding accepts
 accepted p text h = by (steps_spelled p text) refl h where
-  by : (r : Result (List PlainStep) ScriptFault) → steps_spelled p text ≡ r → accepts_steps p r ≡ true → Accepted p text
+  by : (r : Result (List PlainStep) (Stop Breach)) → steps_spelled p text ≡ r → accepts_steps p r ≡ true → Accepted p text
   by (Ok steps) is e =
       let both = and-parts (is_none (passes_limit p steps)) (are_decided (setting_of p) (conditions_of p steps)) e in
       record { steps = steps; script = is; few = is-none (passes_limit p steps) both.0; decided = both.1 }

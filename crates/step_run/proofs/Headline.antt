@@ -39,23 +39,28 @@ use Rattle.expression_typer.specs.declared.fault.TypeFault.{TypeFault}
 use Rattle.typing_laws.specs.Laws.{ReadIsTyped, TellsLeast}
 use Rattle.proof_script.specs.Obeying.{ScriptsAreProofs}
 use Rattle.proof_script.specs.Speaking.{ScriptsAreOver}
-use Rattle.proof_script.specs.declared.fault.ScriptFault.{ScriptFault}
+use Rattle.st_tokens.specs.declared.kind.TokenFault.{TokenFault}
+use Rattle.st_tokens.specs.declared.kind.TokenFault.TheVariants as tokens
+use Rattle.st_reading.specs.Reading.{Stop, syntax, broken, other}
+use Rattle.st_reading.specs.Breaches as breaches
+use Rattle.st_reading.specs.Breaches.{Breach, broke, crowded, unformed}
 use Rattle.cert_text.specs.Blank.{first_place, past_blanks}
 use Rattle.cert_text.specs.Held.{Held}
 use Rattle.block_laws.specs.Checked.{Checked, all_valid, refused, whole_text, checked_from}
 use Rattle.block_laws.specs.Blocks.{HasBlocks, behind}
 use Rattle.block_laws.specs.Laws.{AllDischarged, BlocksAreExact}
 use Rattle.step_report.specs.declared.refusals.FileRole.{FileRole}
+use Rattle.step_report.specs.declared.refusals.FileRole.TheVariants.{Proof}
 use Rattle.step_report.specs.Goals.{certificates_text}
-use Rattle.step_plan.specs.declared.status.Status.TheVariants.{Proved}
+use Rattle.step_plan.specs.declared.status.Status.{Status}
+use Rattle.step_plan.specs.declared.status.Status.TheVariants.{Proved, ProofRefused}
 use Rattle.step_plan.specs.Limits.{length_limit, length_kind, limited}
 use Rattle.step_plan.specs.Outcome.{Outcome}
 use Rattle.step_plan.specs.Reading.{AreTold, IsPast}
 use Rattle.step_plan.specs.Plan.{Told, Plan, goes_on, asks, then_plan, EndsIn}
 use Rattle.step_run.specs.declared.refusals.Refusal.{Refusal}
 use Rattle.step_run.specs.declared.refusals.Refusal.TheVariants.{Fault, Limit, Memory}
-use Rattle.step_run.specs.Refusals.{of_script}
-use Rattle.step_run.specs.Outcome.{program_refused, proof_refused}
+use Rattle.step_run.specs.Outcome.{program_refused, token_fault, text_refused, script_refused}
 use Rattle.step_run.specs.Source.{source_spelled, IsSpelled}
 use Rattle.proof_grammar.specs.Grammar.{SpellsScript}
 use Rattle.proof_grammar.specs.Theorems.{SpelledScriptsAreRead, ReadScriptsAreSpelled}
@@ -83,10 +88,20 @@ refused_not (Fault kind place) e = cc
 refused_not (Limit kind) e = cc
 refused_not Memory e = cc
 
-pub proof_not : (refusal : Refusal) → IsProved (proof_refused refusal) → ⊥
-proof_not (Fault kind place) e = cc
-proof_not (Limit kind) e = cc
-proof_not Memory e = cc
+token_not : (status : Status) (role : FileRole) → (status ≡ Proved → ⊥) → (f : TokenFault) → IsProved (token_fault status role f) → ⊥
+token_not status role never (tokens.BadByte place) e = never e
+token_not status role never (tokens.LongNumber place) e = never e
+
+pub text_not : (status : Status) (role : FileRole) → (status ≡ Proved → ⊥) → (f : Stop Breach) → IsProved (text_refused status role f) → ⊥
+text_not status role never (syntax place) e = never e
+text_not status role never (broken f) e = token_not status role never f e
+text_not status role never (other (broke rule place)) e = never e
+text_not status role never (other (breaches.limited kind place)) e = cc
+text_not status role never (other (crowded place)) e = cc
+text_not status role never (other (unformed place)) e = never e
+
+pub script_not : (f : Stop Breach) → IsProved (script_refused f) → ⊥
+script_not = text_not ProofRefused Proof (λ e. cc)
 
 limited_not : (kind : LimitKind) → IsProved (limited kind) → ⊥
 limited_not kind e = cc
@@ -132,10 +147,10 @@ module _ (told : Told) (o : Outcome) where
         by_limit steps None script few g = record { steps = steps; script = script; few = few; goes = g }
         by_limit steps (Some passed) script few g = absurd (ends_as (limited (limit_of passed.0)) (limited_not (limit_of passed.0)) g proved)
 
-        by : (r : Result (List PlainStep) ScriptFault) → steps_spelled p text ≡ r → EndsIn told (then_plan (then_plan (steps_or_end r) (obliged p)) next) o → IsPosed p text next
+        by : (r : Result (List PlainStep) (Stop Breach)) → steps_spelled p text ≡ r → EndsIn told (then_plan (then_plan (steps_or_end r) (obliged p)) next) o → IsPosed p text next
         by (Ok steps) is g =
             by_limit steps (passes_limit p steps) is refl (subst (λ (q : Plan Posed). EndsIn told (then_plan q next) o) (obliged_is p steps (passes_limit p steps) refl) g)
-        by (Err fault) is g = absurd (ends_as (proof_refused (of_script fault)) (proof_not (of_script fault)) g proved)
+        by (Err fault) is g = absurd (ends_as (script_refused fault) (script_not fault) g proved)
 
 pub source_goes : SpelledIsRead → (pt : List ℕ) (p : Typed) → IsProgram pt p → source_of_text pt ≡ goes_on p
 source_goes law pt p h = source_read pt (Ok p) (spelled_ok pt h.text p (law pt h.text h.spelled) h.typed)

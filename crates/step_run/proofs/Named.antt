@@ -4,7 +4,8 @@ use Rattle.std.specs.Prelude.{Option, Some, None, Result, Ok, Err}
 use Rattle.temporal_goals.specs.Texts.{PlainStep}
 use Rattle.vc_generator.specs.declared.faults.VcFault.{VcFault}
 use Rattle.spl_typer.specs.Programs.{Typed}
-use Rattle.proof_script.specs.declared.fault.ScriptFault.{ScriptFault}
+use Rattle.st_reading.specs.Reading.{Stop}
+use Rattle.st_reading.specs.Breaches.{Breach}
 use Rattle.step_words.specs.Request.{PlainRequest, checks, verifies, proves, makes, traces, finds}
 use Rattle.step_report.specs.declared.refusals.FileRole.{FileRole}
 use Rattle.step_report.specs.declared.refusals.FileRole.TheVariants.{Program, Proof}
@@ -28,7 +29,7 @@ module _ (P : Names) where
   unfolding source_of_text
   only_source text = or_end (source_spelled text)
 
-  steps_end : (r : Result (List PlainStep) ScriptFault) → AsksOnly P (steps_or_end r)
+  steps_end : (r : Result (List PlainStep) (Stop Breach)) → AsksOnly P (steps_or_end r)
   steps_end (Ok steps) = tt
   steps_end (Err fault) = tt
 

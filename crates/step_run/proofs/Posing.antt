@@ -25,8 +25,8 @@ use Rattle.obligations.specs.Made.{IsRefusal}
 use Rattle.proof_script.specs.Script as scripts
 use Rattle.proof_script.specs.Obeying.{ScriptsAreProofs}
 use Rattle.proof_script.specs.Speaking.{ScriptsAreOver}
-use Rattle.proof_script.specs.declared.fault.ScriptFault.{ScriptFault}
-use Rattle.proof_script.specs.declared.fault.ScriptFault.TheVariants as fault
+use Rattle.st_reading.specs.Reading.{Stop, IsStop}
+use Rattle.st_reading.specs.Breaches.{Breach}
 use Rattle.transition_system.specs.Systems.{System}
 use Rattle.spl_translation.specs.Translation.{translation}
 use Rattle.spl_typer.specs.Programs.{Typed}
@@ -36,8 +36,7 @@ use Rattle.step_plan.specs.Outcome.{ended_view, IsDecided}
 use Rattle.step_plan.specs.Plan.{ends, goes_on}
 use Rattle.step_run.specs.declared.refusals.Refusal.{Refusal}
 use Rattle.step_run.specs.declared.refusals.Refusal.TheVariants.{Memory}
-use Rattle.step_run.specs.Refusals.{of_script}
-use Rattle.step_run.specs.Outcome.{proof_refused}
+use Rattle.step_run.specs.Outcome.{proof_refused, IsScriptRefusal}
 use Rattle.step_run.specs.Source.{IsSpelled}
 use Rattle.step_run.specs.Conditions.{system_of, steps_spelled, drafts, conditions_of, passes_limit}
 use Rattle.step_run.specs.Plans.{steps_or_end, script_of_text, posed_or_end, obliged}
@@ -45,7 +44,7 @@ use Rattle.step_run.specs.Posing.{IsScript, IsPassed}
 use Rattle.step_run.proofs.Sources.{not_memory}
 use Rattle.step_run.proofs.Typed.{from_text}
 
-pub script_read : (p : Typed) (text : List ℕ) (r : Result (List PlainStep) ScriptFault) → steps_spelled p text ≡ r → script_of_text p text ≡ steps_or_end r
+pub script_read : (p : Typed) (text : List ℕ) (r : Result (List PlainStep) (Stop Breach)) → steps_spelled p text ≡ r → script_of_text p text ≡ steps_or_end r
 unfolding script_of_text
 script_read p text r is = ap steps_or_end is
 
@@ -58,14 +57,14 @@ unfolding system_of
 translation_is p system e = e
 
 -- the script that a call gives for the program's system
-pub steps_read : (p : Typed) (system : System) (text : List ℕ) (r : Result (List PlainStep) ScriptFault) → system ≡ system_of p → scripts.script_spelled p.names system text ≡ r → steps_spelled p text ≡ r
+pub steps_read : (p : Typed) (system : System) (text : List ℕ) (r : Result (List PlainStep) (Stop Breach)) → system ≡ system_of p → scripts.script_spelled p.names system text ≡ r → steps_spelled p text ≡ r
 steps_read p system text r same is = ap (λ s. scripts.script_spelled p.names s text) (sym same) ∙ is
 
-pub script_over : (p : Typed) (system : System) (text : List ℕ) (f : ScriptFault) (refusal : Refusal) (ended : Ended) → system ≡ system_of p → scripts.Fails f (scripts.script_spelled p.names system text)
-    → refusal ≡ of_script f → ended_view ended ≡ proof_refused refusal → IsDecided ended.status → (script_of_text p text ≡ ends (ended_view ended)) × IsDecided ended.status
-script_over p system text (fault.At kind place) refusal ended same fails from is decided =
-    (script_read p text (Err (fault.At kind place)) (steps_read p system text (Err (fault.At kind place)) same fails) ∙ ap ends (sym (is ∙ ap proof_refused from)), decided)
-script_over p system text fault.Memory refusal ended same fails from is decided = absurd (not_memory ended (proof_refused Memory) (is ∙ ap proof_refused from) decided)
+pub script_over : (p : Typed) (system : System) (text : List ℕ) (seen : Option (Stop Breach)) (refusal : Refusal) (ended : Ended) → system ≡ system_of p → IsStop seen (scripts.script_spelled p.names system text)
+    → IsScriptRefusal seen refusal → ended_view ended ≡ proof_refused refusal → IsDecided ended.status → (script_of_text p text ≡ ends (ended_view ended)) × IsDecided ended.status
+script_over p system text (Some f) refusal ended same fails from is decided =
+    (script_read p text (Err f) (steps_read p system text (Err f) same fails) ∙ ap ends (sym (is ∙ from)), decided)
+script_over p system text None refusal ended same fails from is decided = absurd (not_memory ended (proof_refused Memory) (is ∙ ap proof_refused from) decided)
 
 -- the conditions of a script
 drafts_are : (p : Typed) (system : System) (steps : List PlainStep) → system ≡ system_of p → script_list system steps ≡ drafts p steps

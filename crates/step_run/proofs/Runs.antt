@@ -2,10 +2,8 @@
 use Rattle.std.proofs.Common.{◌≡◌, inl, inr, ℕ, ◌≤◌, Bool, true, false, List, [], length, refl, sym, ap, ◌∙◌, subst}
 use Rattle.std.specs.Prelude.{Option, Some, None, Result, Ok, Err, if◌then◌else◌}
 use Rattle.st_form.specs.declared.conditions.TransName.{TransName}
-use Rattle.st_tokens.specs.declared.kind.TokenFault.{TokenFault}
-use Rattle.st_tokens.specs.declared.kind.TokenFault.TheVariants as tokens
-use Rattle.st_reading.specs.Reading.{Stop, syntax, broken, other}
-use Rattle.st_reading.specs.Breaches.{Breach, broke, limited, crowded}
+use Rattle.st_reading.specs.Reading.{Stop}
+use Rattle.st_reading.specs.Breaches.{Breach}
 use Rattle.temporal_goals.specs.Texts.{PlainStep}
 use Rattle.spl_semantics.specs.Stores.{holds}
 use Rattle.spl_semantics.specs.Data.{store_of}
@@ -17,16 +15,14 @@ use Rattle.trace_player.specs.Playing as playing
 use Rattle.trace_player.specs.Playing.{made, too_large, illegal, outcome}
 use Rattle.trace_laws.proofs.Played.{made_follows, run_made}
 use Rattle.step_report.specs.declared.refusals.FileRole.TheVariants.{Program, Proof, Schedule}
-use Rattle.step_plan.specs.declared.status.Status.TheVariants.{Proved}
+use Rattle.step_plan.specs.declared.status.Status.TheVariants.{Proved, ScheduleRefused}
 use Rattle.step_plan.specs.Outcome.{Outcome}
 use Rattle.step_plan.specs.Plan.{Told, Plan, ends, goes_on, asks, then_plan, EndsIn}
-use Rattle.proof_script.specs.declared.fault.ScriptFault.{ScriptFault}
 use Rattle.step_run.specs.Source.{source_spelled, IsSpelled}
 use Rattle.step_run.specs.Conditions.{steps_spelled}
-use Rattle.step_run.specs.Outcome.{proof_refused}
-use Rattle.step_run.specs.Refusals.{of_script}
+use Rattle.step_run.specs.Outcome.{script_refused}
 use Rattle.step_run.specs.Scheduled.{start_of, observed_of, IsRunOfSchedule}
-use Rattle.step_run.specs.Traced.{Scripted, token_refused, schedule_refused, report_of, no_start, play_ended, schedule_played, schedule_ended, traced}
+use Rattle.step_run.specs.Traced.{Scripted, schedule_refused, report_of, no_start, play_ended, schedule_played, schedule_ended, traced}
 use Rattle.step_run.specs.Plans.{steps_or_end, source_of_text, script_of_text, scripted_of_text, script_plan, scripted_plan, trace_scripted, plan_for}
 use Rattle.step_run.specs.WellFormed.{IsScripted, Traces, AreShort}
 use Rattle.step_words.specs.Request.{traces}
@@ -34,7 +30,7 @@ use Rattle.step_run.proofs.Sources.{source_read}
 use Rattle.step_run.proofs.Posing.{script_read}
 use Rattle.step_run.proofs.Stages.{goes_then}
 use Rattle.step_run.proofs.Typed.{well_typed, spelled_ok}
-use Rattle.step_run.proofs.Headline.{IsProved, proof_not, ends_as, file_proved, file_goes, source_proved, source_goes, Laws, script_of, scripted}
+use Rattle.step_run.proofs.Headline.{IsProved, text_not, script_not, ends_as, file_proved, file_goes, source_proved, source_goes, Laws, script_of, scripted}
 
 -- a program and its script
 abbrev pub over : Typed → List PlainStep → Scripted
@@ -44,16 +40,8 @@ over p steps = record { program = p; steps = steps }
 abbrev pub told_of : Typed → List PlainStep → PlainSchedule → List (TransName × State) → Outcome
 told_of p steps s later = record { status = Proved; text = report_of (over p steps) (length s.moves) (observed_of p s later) }
 
-token_not : (f : TokenFault) → IsProved (token_refused f) → ⊥
-token_not (tokens.BadByte place) e = cc
-token_not (tokens.LongNumber place) e = cc
-
 refused_not : (f : Stop Breach) → IsProved (schedule_refused f) → ⊥
-refused_not (syntax place) e = cc
-refused_not (broken f) e = token_not f e
-refused_not (other (broke rule place)) e = cc
-refused_not (other (limited kind place)) e = cc
-refused_not (other (crowded place)) e = cc
+refused_not = text_not ScheduleRefused Schedule (λ e. cc)
 
 -- what status 0 shows of a schedule
 pub record Ran (p : Typed) (steps : List PlainStep) (text : List ℕ) (o : Outcome) : Type 0 where
@@ -118,10 +106,10 @@ module _ (law : Laws) (spelled : SpelledIsRead) (told : Told) (o : Outcome) wher
       → (steps : List PlainStep) × (steps_spelled p text ≡ Ok steps) × EndsIn told (next (over p steps)) o
   script_proved p text next e proved =
       by (steps_spelled p text) refl (subst (λ (q : Plan (List PlainStep)). EndsIn told (then_plan (then_plan q (λ steps. goes_on (over p steps))) next) o) (script_read p text (steps_spelled p text) refl) e) where
-        by : (r : Result (List PlainStep) ScriptFault) → steps_spelled p text ≡ r → EndsIn told (then_plan (then_plan (steps_or_end r) (λ steps. goes_on (over p steps))) next) o
+        by : (r : Result (List PlainStep) (Stop Breach)) → steps_spelled p text ≡ r → EndsIn told (then_plan (then_plan (steps_or_end r) (λ steps. goes_on (over p steps))) next) o
             → (steps : List PlainStep) × (steps_spelled p text ≡ Ok steps) × EndsIn told (next (over p steps)) o
         by (Ok steps) is g = (steps, is, g)
-        by (Err fault) is g = absurd (ends_as told o (proof_refused (of_script fault)) (proof_not (of_script fault)) g proved)
+        by (Err fault) is g = absurd (ends_as told o (script_refused fault) (script_not fault) g proved)
 
   -- the end of a trace with status 0
   pub trace_shows : (a b c pt qt st : List ℕ) → told a ≡ Some pt → told b ≡ Some qt → told c ≡ Some st → EndsIn told (plan_for (traces a b c)) o → IsProved o

@@ -17,7 +17,8 @@ use Rattle.spl_translation.specs.Translation.{translation}
 use Rattle.spl_typer.specs.Programs.{Typed}
 use Rattle.proof_script.specs.Listing as scripts
 use Rattle.proof_script.specs.Script.{script_spelled}
-use Rattle.proof_script.specs.declared.fault.ScriptFault.{ScriptFault}
+use Rattle.st_reading.specs.Reading.{Stop}
+use Rattle.st_reading.specs.Breaches.{Breach}
 
 -- the program as a system
 unfoldable pub system_of : Typed → System
@@ -32,7 +33,7 @@ abbrev pub words_over : Typed → scripts.Setting
 words_over p = record { names = p.names; system = system_of p }
 
 -- the steps that a text spells over the program, or its first fault
-abbrev pub steps_spelled : Typed → List ℕ → Result (List PlainStep) ScriptFault
+abbrev pub steps_spelled : Typed → List ℕ → Result (List PlainStep) (Stop Breach)
 steps_spelled p text = script_spelled p.names (system_of p) text
 
 -- the conditions of the steps, each with how many atoms it has

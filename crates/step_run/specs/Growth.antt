@@ -12,7 +12,8 @@ use Rattle.temporal_goals.specs.Plain.{plain_script}
 use Rattle.temporal_goals.specs.declared.scripts.Script.{Script}
 use Rattle.vc_generator.specs.declared.faults.VcFault.{VcFault}
 use Rattle.spl_typer.specs.Programs.{Typed}
-use Rattle.proof_script.specs.declared.fault.ScriptFault.{ScriptFault}
+use Rattle.st_reading.specs.Reading.{Stop}
+use Rattle.st_reading.specs.Breaches.{Breach}
 use Rattle.proof_grammar.specs.Growing.{Stands}
 use Rattle.step_run.specs.declared.acceptance.Subject.{Subject}
 use Rattle.step_run.specs.Source.{IsSpelled}
@@ -37,7 +38,7 @@ pub record IsAccepted (p : Typed) (text : List ℕ) (count : ℕ) : Type 0 where
 
 -- the script that a text spells, if it spells one
 abbrev pub IsScriptIn : Typed → List ℕ → Option Script → Type 0
-IsScriptIn p text None = (fault : ScriptFault) × (steps_spelled p text ≡ Err fault)
+IsScriptIn p text None = (fault : Stop Breach) × (steps_spelled p text ≡ Err fault)
 IsScriptIn p text (Some script) = steps_spelled p text ≡ Ok (plain_script script)
 
 -- the conditions of a script, unless one passes a limit

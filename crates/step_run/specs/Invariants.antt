@@ -6,7 +6,8 @@ use Rattle.farkas_check.specs.Problem.{Setting}
 use Rattle.search_laws.specs.Moves.{Verdict, valid, open_at, wide_at}
 use Rattle.temporal_goals.specs.Texts.{PlainStep}
 use Rattle.spl_typer.specs.Programs.{Typed}
-use Rattle.proof_script.specs.declared.fault.ScriptFault.{ScriptFault}
+use Rattle.st_reading.specs.Reading.{Stop}
+use Rattle.st_reading.specs.Breaches.{Breach}
 use Rattle.equation_laws.specs.Equations.{PlainEquation, found}
 use Rattle.equation_writer.specs.Sentences.{sentence, left_out_text}
 use Rattle.step_report.specs.Names.{line}
@@ -27,7 +28,7 @@ are_decided k [] = true
 are_decided k (c ∷ cs) = is_decided (verdict_on k c) && are_decided k cs
 
 -- no condition passes a limit, and each is decided valid
-abbrev pub accepts_steps : Typed → Result (List PlainStep) ScriptFault → Bool
+abbrev pub accepts_steps : Typed → Result (List PlainStep) (Stop Breach) → Bool
 accepts_steps p (Err fault) = false
 accepts_steps p (Ok steps) = is_none (passes_limit p steps) && are_decided (setting_of p) (conditions_of p steps)
 

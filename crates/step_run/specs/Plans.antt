@@ -3,7 +3,8 @@ use Rattle.std.specs.Prelude.{ℕ, List, ◌++◌, Option, Some, None, Result, O
 use Rattle.temporal_goals.specs.Texts.{PlainStep}
 use Rattle.vc_generator.specs.declared.faults.VcFault.{VcFault}
 use Rattle.spl_typer.specs.Programs.{Typed}
-use Rattle.proof_script.specs.declared.fault.ScriptFault.{ScriptFault}
+use Rattle.st_reading.specs.Reading.{Stop}
+use Rattle.st_reading.specs.Breaches.{Breach}
 use Rattle.step_words.specs.Request.{PlainRequest, checks, verifies, proves, makes, traces, finds}
 use Rattle.step_report.specs.declared.refusals.FileRole.TheVariants.{Program, Proof, Certificates, Schedule}
 use Rattle.step_report.specs.Goals.{workload_line}
@@ -11,10 +12,9 @@ use Rattle.step_plan.specs.Limits.{limited}
 use Rattle.step_plan.specs.Outcome.{Outcome}
 use Rattle.step_plan.specs.Plan.{Plan, ends, goes_on, asks, then_plan, file_plan, file_end}
 use Rattle.step_run.specs.declared.refusals.Refusal.{Refusal}
-use Rattle.step_run.specs.Refusals.{of_script}
 use Rattle.step_run.specs.Source.{source_spelled}
 use Rattle.step_run.specs.Conditions.{Posed, steps_spelled, conditions_of, passes_limit, limit_of}
-use Rattle.step_run.specs.Outcome.{words_refused, program_refused, proof_refused}
+use Rattle.step_run.specs.Outcome.{words_refused, program_refused, script_refused}
 use Rattle.step_run.specs.Checked.{checked}
 use Rattle.step_run.specs.Verified.{verified, written, counted}
 use Rattle.step_run.specs.Traced.{Scripted, traced}
@@ -33,9 +33,9 @@ abbrev pub source_plan : List ℕ → Plan Typed
 source_plan name = then_plan (file_plan Program name) source_of_text
 
 -- the script that a text spells over the program
-abbrev pub steps_or_end : Result (List PlainStep) ScriptFault → Plan (List PlainStep)
+abbrev pub steps_or_end : Result (List PlainStep) (Stop Breach) → Plan (List PlainStep)
 steps_or_end (Ok steps) = goes_on steps
-steps_or_end (Err fault) = ends (proof_refused (of_script fault))
+steps_or_end (Err fault) = ends (script_refused fault)
 
 unfoldable pub script_of_text : Typed → List ℕ → Plan (List PlainStep)
 script_of_text p text = steps_or_end (steps_spelled p text)

@@ -6,10 +6,6 @@ use Rattle.st_reading.specs.Reading.{Stop, syntax, broken, other}
 use Rattle.st_reading.specs.Faults.{Passed, passed}
 use Rattle.expression_typer.specs.declared.fault.TypeFault.{TypeFault}
 use Rattle.expression_typer.specs.declared.fault.TypeFault.TheVariants as faults
-use Rattle.proof_script.specs.declared.fault.ScriptKind.{ScriptKind}
-use Rattle.proof_script.specs.declared.fault.ScriptKind.TheVariants as scripts
-use Rattle.proof_script.specs.declared.fault.ScriptFault.{ScriptFault}
-use Rattle.proof_script.specs.declared.fault.ScriptFault.TheVariants as fault
 use Rattle.step_report.specs.declared.refusals.FaultKind.TheVariants as kinds
 use Rattle.step_run.specs.declared.refusals.Refusal.{Refusal}
 use Rattle.step_run.specs.declared.refusals.Refusal.TheVariants.{Fault, Limit, Memory}
@@ -36,32 +32,6 @@ of_rule (faults.SelectHead place) = Fault kinds.SelectHead place
 of_rule (faults.SameTarget place) = Fault kinds.SameTarget place
 of_rule (faults.Limit kind place) = Limit kind
 of_rule faults.Memory = Memory
-
--- the first fault of a script
-abbrev pub of_kind : ScriptKind → ℕ → Refusal
-of_kind scripts.Syntax place = Fault kinds.Syntax place
-of_kind scripts.BadByte place = Fault kinds.BadByte place
-of_kind scripts.LongNumber place = Fault kinds.LongNumber place
-of_kind scripts.Unknown place = Fault kinds.Unknown place
-of_kind scripts.WrongType place = Fault kinds.WrongType place
-of_kind scripts.NonLinear place = Fault kinds.NonLinear place
-of_kind scripts.TooLarge place = Fault kinds.TooLarge place
-of_kind scripts.Twice place = Fault kinds.Twice place
-of_kind scripts.UnknownLemma place = Fault kinds.UnknownLemma place
-of_kind scripts.NotInvariant place = Fault kinds.NotInvariant place
-of_kind scripts.WrongCount place = Fault kinds.WrongCount place
-of_kind scripts.UnknownTransition place = Fault kinds.UnknownTransition place
-of_kind scripts.UnknownNode place = Fault kinds.UnknownNode place
-of_kind scripts.Upward place = Fault kinds.Upward place
-of_kind scripts.NoTerminal place = Fault kinds.NoTerminal place
-of_kind scripts.UnfairHelper place = Fault kinds.UnfairHelper place
-of_kind scripts.NotCompassionate place = Fault kinds.NotCompassionate place
-of_kind scripts.NoHelper place = Fault kinds.NoHelper place
-of_kind (scripts.Limit kind) place = Limit kind
-
-abbrev pub of_script : ScriptFault → Refusal
-of_script (fault.At kind place) = of_kind kind place
-of_script fault.Memory = Memory
 
 -- what a refusal of the code is, where `see` tells the fault; want of memory else
 abbrev pub IsRefusal : Refusal → Option (Stop Passed) → Type 0

@@ -5,7 +5,7 @@ ghost use Rattle.step_run.specs.Decided.{PlansAreDecided};
 
 use block_laws::laws::blocks_are_exact;
 use proof_grammar::laws::{read_scripts_are_spelled, spelled_scripts_are_read};
-use proof_script::laws::{faults_are_named, scripts_are_over, scripts_are_proofs};
+use proof_script::laws::{scripts_are_over, scripts_are_proofs};
 use script_bounds::laws::over_is_written;
 use script_laws::laws::{scripts_are_within, scripts_prove};
 use search_laws::laws::certificates_are_valid;
@@ -38,5 +38,4 @@ pub fn plans_are_decided()
     ensures { PlansAreDecided }
 {
     read_is_typed();
-    faults_are_named();
 }

@@ -1,7 +1,9 @@
 //! Why the text of a program or of a proof is refused.
 
 ghost use Rattle.std.specs.Prelude.{◌≡◌};
-ghost use Rattle.step_run.specs.Refusals.{of_kind, of_token};
+ghost use Rattle.proof_script.specs.Faults.{stop_at};
+ghost use Rattle.step_run.specs.Outcome.{proof_refused, script_refused};
+ghost use Rattle.step_run.specs.Refusals.{of_token};
 
 use proof_script::{ScriptFault, ScriptKind};
 use spl_parser::ParseFault;
@@ -68,7 +70,7 @@ impl From<TypeFault> for Refusal {
 
 /// The first fault of a script.
 fn of_kind(kind: ScriptKind, place: u64) -> Refusal
-    ensures { result ≡ of_kind kind place }
+    ensures { proof_refused result ≡ script_refused (stop_at kind place) }
 {
     match kind {
         ScriptKind::Syntax => Refusal::Fault(FaultKind::Syntax, place),
@@ -94,10 +96,10 @@ fn of_kind(kind: ScriptKind, place: u64) -> Refusal
 }
 
 impl From<ScriptFault> for Refusal {
-    ghost use Rattle.std.specs.Prelude.{◌≡◌};
-    ghost use Rattle.step_run.specs.Refusals.{of_script};
+    ghost use Rattle.proof_script.specs.Faults.{see};
+    ghost use Rattle.step_run.specs.Outcome.{IsScriptRefusal};
 
-    ghost from_gives = { λ fault refusal. refusal ≡ of_script fault };
+    ghost from_gives = { λ fault refusal. IsScriptRefusal (see fault) refusal };
 
     fn from(fault: ScriptFault) -> Self {
         match fault {

@@ -6,4 +6,4 @@ use Rattle.assertions.proofs.laws.form_faults_are_named.Goals as goal
 
 pub returns : goal.returns
 unfolding form_of
-returns c = λ names s e. truths_named names (expression_of true (below true 32) s) e
+returns c = λ names s f e. truths_named names (expression_of true (below true 32) s) f e

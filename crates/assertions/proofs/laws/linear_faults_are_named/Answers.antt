@@ -6,4 +6,4 @@ use Rattle.assertions.proofs.laws.linear_faults_are_named.Goals as goal
 
 pub returns : goal.returns
 unfolding linear_of
-returns c = λ names s e. numbers_named names (sum_of true (below true 32) s) e
+returns c = λ names s f e. numbers_named names (sum_of true (below true 32) s) f e

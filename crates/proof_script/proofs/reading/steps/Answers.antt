@@ -6,6 +6,7 @@ use Rattle.st_reading.specs.Reading.{at_end, size}
 use Rattle.st_reading.proofs.Loops.{mapped, map_fails}
 use Rattle.st_program.specs.Names.{as_bytes}
 use Rattle.temporal_goals.specs.Plain.{plain_step}
+use Rattle.diagram_reader.proofs.Stopping.{refused_stop}
 use Rattle.proof_script.specs.Listing.{setting_view}
 use Rattle.proof_script.specs.Steps.{claim_in}
 use Rattle.proof_script.proofs.Stepping.{claim_passed, known_next, fewer_left, step_new, step_next, steps_end, step_fails}
@@ -36,10 +37,10 @@ chain-preserved c =
 pub returns-in_err-at_end : goal.returns-in_err-at_end
 returns-in_err-at_end c =
     let p = err_from_is_err_and c.from_residual-in_err-at_end.result c.from_residual-in_err-at_end.ensures.1 in
-    rw (p.1, p.2, steps_end (setting_view c.args.setting.now) _ (stream c.chain.tokens) _ _ c.chain.invariant.0 (c.in_default.ensures ∙ ap claim_in c.ahead.ensures))
-    (map_fails (λ e. map plain_step c.chain.steps.items) at_end (stream c.chain.tokens) _ c.in_err-at_end.ensures)
+    rw (p.1, steps_end (setting_view c.args.setting.now) _ (stream c.chain.tokens) _ _ c.chain.invariant.0 (c.in_default.ensures ∙ ap claim_in c.ahead.ensures))
+    (map_fails (λ e. map plain_step c.chain.steps.items) at_end (stream c.chain.tokens) _ (refused_stop _ _ _ p.2 c.in_err-at_end.ensures.refuses))
 
 pub returns : goal.returns
 returns c =
     steps_end (setting_view c.args.setting.now) _ (stream c.chain.tokens) _ _ c.chain.invariant.0 (c.in_default.ensures ∙ ap claim_in c.ahead.ensures)
-    ∙ mapped (λ e. map plain_step c.chain.steps.items) at_end (stream c.chain.tokens) _ _ c.in_ok-at_end.ensures
+    ∙ mapped (λ e. map plain_step c.chain.steps.items) at_end (stream c.chain.tokens) _ _ c.in_ok-at_end.ensures.refuses

@@ -1,5 +1,6 @@
 use Rattle.std.specs.Prelude.{Ok}
 use Rattle.transition_system.specs.Plain.{plain_system}
+use Rattle.proof_script.specs.Faults.{see}
 use Rattle.step_run.specs.Views.{source_view}
 use Rattle.step_run.proofs.Posing.{script_read, steps_read, script_over}
 use Rattle.step_run.proofs.scripted.script_of_text.Goals as goal
@@ -16,5 +17,5 @@ returns-in-Ok-clause-script c =
 
 pub returns-in_ok-proof_refused-in-Err-clause-settles : goal.returns-in_ok-proof_refused-in-Err-clause-settles
 returns-in_ok-proof_refused-in-Err-clause-settles c =
-    script_over (source_view c.args.source.now) (plain_system c.args.fts.now) c.args.text.now c.in-Err.fault c.from.result c.in_ok-proof_refused-in-Err.field-0 c.requires.system c.in-Err.ensures
+    script_over (source_view c.args.source.now) (plain_system c.args.fts.now) c.args.text.now (see c.in-Err.fault) c.from.result c.in_ok-proof_refused-in-Err.field-0 c.requires.system c.in-Err.ensures
     c.from.ensures c.in_ok-proof_refused-in-Err.ensures.outcome c.in_ok-proof_refused-in-Err.ensures.decided

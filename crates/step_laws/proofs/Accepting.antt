@@ -18,7 +18,8 @@ use Rattle.step_run.specs.Request.{NamesFile}
 use Rattle.step_run.specs.Conditions.{setting_of, conditions_of}
 use Rattle.step_run.specs.Verified.{certificates}
 use Rattle.step_run.specs.Plans.{source_of_text, posed_of_text, posed_plan, prove_posed, plan_of}
-use Rattle.step_run.specs.Headline.{Checks, report, AreShort, IsShort}
+use Rattle.step_run.specs.WellFormed.{Checks, AreShort, IsShort}
+use Rattle.step_run.specs.Headline.{report}
 use Rattle.step_run.proofs.Posing.{few_drafts}
 use Rattle.step_run.proofs.Named.{named}
 use Rattle.step_run.proofs.Headline.{posed, file_proved, source_proved, posed_proved, Laws, reads, search_passed, certificates_passed}
@@ -74,8 +75,8 @@ module _ (law : Laws) (spelled : SpelledIsRead) (ordered : ProgramsAreInOrder) (
       let exact = at_told (told c) ct _ ic (at_told (told b) qt _ ib (at_told (told a) pt _ ia (exactly law spelled told (Some (checks a b c)) o e))) in
       let proved : o.status ≡ Proved = exact.1 (w.short, w.fits, (w.p, w.steps, w.holds)) in
       let shown = at_told (told c) ct _ ic (at_told (told b) qt _ ib (at_told (told a) pt _ ia (shows law spelled told (Some (checks a b c)) o (λ text. o.text ≡ text) e proved refl))) in
-      let same : o ≡ with_status_zero (report shown.0 shown.1) = ap (λ (s : Status). record { status = s; text = o.text }) proved ∙ ap with_status_zero shown.4 in
-      record { program = shown.0; steps = shown.1; reads = shown.2.reads; outcome = is ∙ ap (λ (x : Outcome). Some x) same }
+      let same : o ≡ with_status_zero (report shown.program shown.steps) = ap (λ (s : Status). record { status = s; text = o.text }) proved ∙ ap with_status_zero shown.said in
+      record { program = shown.program; steps = shown.steps; reads = shown.texts.reads; outcome = is ∙ ap (λ (x : Outcome). Some x) same }
 
   accepts : outcome_of told (plan_of (Some (proves a b))) ≡ Some (with_status_zero ct) → IsAccepted told a b c pt qt
   accepts is =

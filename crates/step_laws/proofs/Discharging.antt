@@ -15,7 +15,7 @@ use Rattle.search_blocks.specs.Laws.{FoundAreWritten}
 use Rattle.step_run.specs.Source.{IsSpelled}
 use Rattle.step_run.specs.Posing.{IsScript}
 use Rattle.step_run.specs.Conditions.{setting_of, drafts, conditions_of}
-use Rattle.step_run.specs.Headline.{AreFound}
+use Rattle.step_run.specs.WellFormed.{AreFound}
 use Rattle.step_run.proofs.Typed.{well_typed}
 use Rattle.step_run.proofs.Headline.{Laws, IsSearched, searched_drafts}
 

@@ -6,7 +6,8 @@ use Rattle.step_words.specs.Request.{checks, proves}
 use Rattle.step_plan.specs.declared.status.Status.TheVariants.{Proved}
 use Rattle.step_plan.specs.Outcome.{Outcome}
 use Rattle.step_plan.specs.Plan.{Told, outcome_of}
-use Rattle.step_run.specs.Headline.{Reads, report}
+use Rattle.step_run.specs.WellFormed.{Reads}
+use Rattle.step_run.specs.Headline.{report}
 use Rattle.step_run.specs.Plans.{plan_of}
 
 abbrev pub with_status_zero : List ℕ → Outcome

@@ -36,7 +36,8 @@ use Rattle.equation_laws.specs.Equations.{PlainEquation, found}
 use Rattle.step_plan.specs.declared.status.Status.{Status}
 use Rattle.step_plan.specs.declared.status.Status.TheVariants.{Proved, InvariantsWide}
 use Rattle.step_plan.specs.Outcome.{Outcome}
-use Rattle.step_run.specs.Invariants.{is_decided, are_decided, accepts_steps, accepts, invariants_text, wide_text, looked_for, invariants_of}
+use Rattle.step_report.specs.Ends.{wide_invariants_text}
+use Rattle.step_run.specs.Invariants.{is_decided, are_decided, accepts_steps, accepts, invariants_text, looked_for, invariants_of}
 use Rattle.step_run.specs.Growth.{IsAccepted, AreConditions, AreConditionsIn, are_valid}
 use Rattle.step_run.proofs.Typed.{well_typed}
 
@@ -163,7 +164,7 @@ no-script p text fault is = ap (accepts_steps p) is
 abbrev pub ended-as : Status → List ℕ → Outcome
 ended-as s t = record { status = s; text = t }
 
-pub looked-none : (p : Typed) (system : System) → system ≡ system_of p → found system ≡ None → ended-as InvariantsWide wide_text ≡ invariants_of p
+pub looked-none : (p : Typed) (system : System) → system ≡ system_of p → found system ≡ None → ended-as InvariantsWide wide_invariants_text ≡ invariants_of p
 unfolding invariants_of
 looked-none p system same e = ap (looked_for p) (sym (ap found (sym same) ∙ e))
 

@@ -29,7 +29,8 @@ use Rattle.step_run.specs.Checked.{goals_proved, ending, check_ended, checked}
 use Rattle.step_run.specs.Verified.{all_found, found_before, by_verdict, verdict_on, verified_from, search_ended, searched, certificates, goals_counted, counted}
 use Rattle.step_run.specs.Invariants.{looked_for, invariants_of}
 use Rattle.step_run.specs.Plans.{source_of_text, script_of_text, obliged, posed_of_text, posed_plan, conditions_plan, check_posed, verify_posed, prove_posed, workload_posed, workload_conditions, count_posed, with_number, numbered, source_plan, find_in, plan_for, plan_of}
-use Rattle.step_run.specs.Headline.{Reads, IsProgram, Checks, AreFound, Decides, Hold, report, numbers, AreShort, IsShort, Headline, Exactly}
+use Rattle.step_run.specs.WellFormed.{Reads, IsProgram, Checks, AreFound, Decides, AreShort, IsShort}
+use Rattle.step_run.specs.Headline.{Hold, report, numbers, Headline, Exactly}
 use Rattle.step_run.proofs.Sources.{source_read}
 use Rattle.step_run.proofs.Posing.{script_read, obliged_is, few_drafts}
 use Rattle.step_run.proofs.Stages.{goes_then}
@@ -39,7 +40,8 @@ use Rattle.step_run.proofs.Found.{looked, looks, source_found}
 use Rattle.step_plan.proofs.Named.{AsksOnly}
 use Rattle.judging_laws.specs.Counted.{round_counts}
 use Rattle.judging_laws.proofs.Counted.{counts-are-greatest}
-use Rattle.step_run.specs.Scheduled.{observed_of}
+use Rattle.spl_semantics.proofs.SeenRuns.{observed_seen}
+use Rattle.step_run.specs.Scheduled.{start_of, observed_of}
 use Rattle.step_run.specs.Judged.{all_judged}
 use Rattle.step_run.proofs.Judging.{are_judged}
 use Rattle.step_run.proofs.Runs.{trace_shows, trace_ends}
@@ -215,35 +217,48 @@ shows law spelled told (Some (checks a b c)) o Said e proved said =
     each_told (told a) _ (λ pt ia. each_told (told b) _ (λ qt ib. each_told (told c) _ (λ ct ic. (
     let s = check_shows law spelled told o a b c pt qt ct ia ib ic e proved in
     let t = s.2 in
-    (t.0, t.1, t.2, t.3, subst Said t.4 said)
+    record { program = t.0; steps = t.1; texts = t.2; holds = t.3; said = subst Said t.4 said }
     ))))
 shows law spelled told (Some (verifies a b)) o Said e proved said =
     each_told (told a) _ (λ pt ia. each_told (told b) _ (λ qt ib. (
     let s = search_shows law spelled told o a b pt qt (λ x ts. goals_proved x) verify_posed (λ x. refl) ia ib e proved in
     let t = s.1 in
-    (t.0, t.1, t.2, t.3, t.4, subst Said (ap (λ (x : Outcome). x.text) t.5) said)
+    record { program = t.0; steps = t.1; trees = t.2; texts = t.3; holds = t.4; said = subst Said (ap (λ (x : Outcome). x.text) t.5) said }
     )))
 shows law spelled told (Some (proves a b)) o Said e proved said =
     each_told (told a) _ (λ pt ia. each_told (told b) _ (λ qt ib. (
     let s = search_shows law spelled told o a b pt qt (λ x ts. certificates ts) prove_posed (λ x. refl) ia ib e proved in
     let t = s.1 in
     let c = certificates_passed t.2 o t.5 proved in
-    (t.0, t.1, t.2, t.3, t.4, subst Said (ap (λ (x : Outcome). x.text) c.0) said)
+    record { program = t.0; steps = t.1; trees = t.2; texts = t.3; holds = t.4; said = subst Said (ap (λ (x : Outcome). x.text) c.0) said }
     )))
 shows law spelled told (Some (makes n)) o Said e proved said =
     let t = workload_shows law spelled told o n e proved in
-    (t.0, t.1, t.2, t.3, t.4, subst Said t.5 said)
+    record { program = t.0; steps = t.1; trees = t.2; texts = t.3; holds = t.4; said = subst Said t.5 said }
 shows law spelled told (Some (traces a b c)) o Said e proved said =
     each_told (told a) _ (λ pt ia. each_told (told b) _ (λ qt ib. each_told (told c) _ (λ st ic. (
     let r = trace_shows law spelled told o a b c pt qt st ia ib ic e proved in
     let t = r.2 in
     let seen = observed_of t.0 t.2 t.3 in
-    (t.0, t.1, t.2, t.3, round_counts seen, all_judged seen t.1, t.4, counts-are-greatest seen, are_judged seen t.1, subst Said (ap (λ (x : Outcome). x.text) t.5) said)
+    record {
+      program = t.0;
+      steps = t.1;
+      schedule = t.2;
+      later = t.3;
+      counts = round_counts seen;
+      judged = all_judged seen t.1;
+      seen = seen;
+      texts = t.4;
+      seen_of = observed_seen t.0.processes t.4.scripted.program.well.well.numbered (start_of t.0 t.2) t.3;
+      greatest = counts-are-greatest seen;
+      judges = are_judged seen t.1;
+      said = subst Said (ap (λ (x : Outcome). x.text) t.5) said;
+    }
     ))))
 shows law spelled told (Some (finds a)) o Said e proved said =
     each_told (told a) _ (λ pt ia. (
     let t = (finds_show law spelled told o a pt ia e proved).2 in
-    (t.0, o.text, t.1, t.2, t.3, t.4, said)
+    record { program = t.0; text = o.text; steps = t.1; trees = t.2; texts = t.3; holds = t.4; said = said }
     ))
 
 -- and when it comes

@@ -18,7 +18,7 @@ use Rattle.step_run.specs.Outcome.{program_refused}
 use Rattle.step_run.specs.Source.{source_spelled}
 use Rattle.step_run.specs.Conditions.{system_of, setting_of, words_over, drafts, conditions_of, passes_limit}
 use Rattle.step_run.specs.Invariants.{entered, looked_for, invariants_of}
-use Rattle.step_run.specs.Headline.{AreFound}
+use Rattle.step_run.specs.WellFormed.{AreFound}
 use Rattle.step_run.specs.Plans.{program_or_end, source_of_text, find_in}
 use Rattle.step_run.proofs.Sources.{source_read}
 use Rattle.step_run.proofs.Growing.{no-conditions, invariants-accepted, found-all}

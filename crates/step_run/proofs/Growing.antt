@@ -21,7 +21,7 @@ use Rattle.step_report.specs.Names.{line}
 use Rattle.step_run.specs.Conditions.{setting_of, words_over, steps_spelled, drafts, conditions_of, passes_limit}
 use Rattle.step_run.specs.Verified.{verdict_on}
 use Rattle.step_run.specs.Invariants.{is_decided, are_decided, accepts_steps, accepts, entry, entered}
-use Rattle.step_run.specs.Headline.{AreFound}
+use Rattle.step_run.specs.WellFormed.{AreFound}
 use Rattle.step_run.specs.Growth.{IsAccepted}
 
 -- numbers are written without line feeds

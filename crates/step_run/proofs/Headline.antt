@@ -69,7 +69,8 @@ use Rattle.step_run.specs.Checked.{goals_proved, ending, check_ended, checked}
 use Rattle.step_run.specs.Verified.{Verified, all_found, left_open, given_up, by_verdict, verdict_on, verified_from, search_ended, searched, certificates}
 use Rattle.step_run.specs.Plans.{program_or_end, source_of_text, steps_or_end, posed_or_end, obliged, posed_of_text}
 use Rattle.step_run.specs.Posing.{IsScript}
-use Rattle.step_run.specs.Headline.{IsProgram, IsScripted, Reads, AreFound, Hold}
+use Rattle.step_run.specs.WellFormed.{IsProgram, IsScripted, Reads, AreFound}
+use Rattle.step_run.specs.Headline.{Hold}
 use Rattle.step_run.proofs.Sources.{source_read}
 use Rattle.step_run.proofs.Posing.{script_read, obliged_is, is_proof, is_written}
 use Rattle.step_run.proofs.Typed.{from_text, well_typed, spelled_ok}
@@ -219,6 +220,7 @@ module _ (law : Laws) where
           spelled = law.spelled pt f.program f.reads;
           lawful = told_least (typing f.program) p (program_faults f.program) f.types (law.typed pt f.program f.reads).1;
           typed = f.types;
+          well = well_typed p (pt, source);
         };
         script = law.scripts_spelled (words_over p) qt steps script;
       }

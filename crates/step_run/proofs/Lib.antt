@@ -5,6 +5,7 @@ pub mod Headline
 pub mod Named
 pub mod Posing
 pub mod Readied
+pub mod Regrouping
 pub mod Sources
 pub mod Slices
 pub mod Stages

@@ -24,7 +24,7 @@ use Rattle.step_run.specs.Outcome.{script_refused}
 use Rattle.step_run.specs.Scheduled.{start_of, observed_of, IsRunOfSchedule}
 use Rattle.step_run.specs.Traced.{Scripted, schedule_refused, report_of, no_start, play_ended, schedule_played, schedule_ended, traced}
 use Rattle.step_run.specs.Plans.{steps_or_end, source_of_text, script_of_text, scripted_of_text, script_plan, scripted_plan, trace_scripted, plan_for}
-use Rattle.step_run.specs.Headline.{IsScripted, Traces, AreShort}
+use Rattle.step_run.specs.WellFormed.{IsScripted, Traces, AreShort}
 use Rattle.step_words.specs.Request.{traces}
 use Rattle.step_run.proofs.Sources.{source_read}
 use Rattle.step_run.proofs.Posing.{script_read}

@@ -10,19 +10,14 @@ use Rattle.spl_parser.specs.Parsing.{parsed}
 use Rattle.expression_typer.specs.declared.fault.TypeFault.{TypeFault}
 use Rattle.expression_typer.specs.declared.fault.TypeFault.TheVariants as faults
 use Rattle.expression_typer.specs.Answers as typer
-use Rattle.spl_typer.specs.Programs.{heading_of, names_of, Typed, typing}
-use Rattle.expression_typer.proofs.Holding.{Holds, bound, anyway}
-use Rattle.spl_typer.proofs.Whole.{Complete, heading_sound, is_program}
+use Rattle.spl_typer.specs.Programs.{Typed, typing}
+use Rattle.typing_laws.proofs.Whole.{typed_is_well}
 use Rattle.step_run.specs.declared.refusals.Refusal.{Refusal}
 use Rattle.step_run.specs.Refusals.{of_token, of_stop, of_rule, IsRefusal, Fails}
 use Rattle.step_run.specs.Source.{source_typed, source_of, source_spelled, IsSpelled}
 
 abbrev pub IsWell : Typed → Type 0
 IsWell p = IsProgram p.variables p.initial p.processes p.locations p.statements
-
-typing_well : (text : raw.Program) → Holds IsWell (typing text)
-typing_well text =
-    bound Complete IsWell (heading_of text) _ (heading_sound text) (λ h k. anyway IsWell (names_of h.state.names) _ (λ names. is_program h k))
 
 -- the program of a text
 pub record From (text : List ℕ) (p : Typed) : Type 0 where
@@ -83,4 +78,4 @@ typed_err r f text x is reads e = rw (is, reads) (fails_rule f (typing x) e)
 pub well_typed : (p : Typed) → IsSpelled p → IsWell p
 well_typed p h =
     let f = from_text h.0 p h.1 in
-    subst (Holds IsWell) f.types (typing_well f.program)
+    typed_is_well f.program p f.types

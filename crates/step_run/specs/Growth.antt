@@ -15,7 +15,7 @@ use Rattle.spl_typer.specs.Programs.{Typed}
 use Rattle.st_reading.specs.Reading.{Stop}
 use Rattle.st_reading.specs.Breaches.{Breach}
 use Rattle.proof_grammar.specs.Growing.{Stands}
-use Rattle.step_run.specs.declared.invariants.Subject.{Subject}
+use Rattle.step_run.specs.declared.acceptance.Subject.{Subject}
 use Rattle.step_run.specs.Source.{IsSpelled}
 use Rattle.step_run.specs.Views.{source_view}
 use Rattle.step_run.specs.Conditions.{system_of, setting_of, words_over, steps_spelled, conditions_of, passes_limit}

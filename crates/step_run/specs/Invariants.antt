@@ -1,5 +1,5 @@
 -- The invariances that are found for a program, as a proof text.
-use Rattle.std.specs.Prelude.{ℕ, ◌+◌, Bool, true, false, ◌&&◌, is_none, if◌then◌else◌, List, [], ◌∷◌, ◌++◌, codes, Option, Some, None, Result, Ok, Err}
+use Rattle.std.specs.Prelude.{ℕ, ◌+◌, Bool, true, false, ◌&&◌, is_none, if◌then◌else◌, List, [], ◌∷◌, ◌++◌, Option, Some, None, Result, Ok, Err}
 use Rattle.st_form.specs.Condition.{Implication}
 use Rattle.control_facts.specs.Alternatives.{control_of}
 use Rattle.farkas_check.specs.Problem.{Setting}
@@ -11,6 +11,7 @@ use Rattle.st_reading.specs.Breaches.{Breach}
 use Rattle.equation_laws.specs.Equations.{PlainEquation, found}
 use Rattle.equation_writer.specs.Sentences.{sentence, left_out_text}
 use Rattle.step_report.specs.Names.{line}
+use Rattle.step_report.specs.Ends.{wide_invariants_text}
 use Rattle.step_plan.specs.declared.status.Status.TheVariants.{Proved, InvariantsWide}
 use Rattle.step_plan.specs.Outcome.{Outcome}
 use Rattle.step_run.specs.Conditions.{system_of, setting_of, steps_spelled, conditions_of, passes_limit}
@@ -49,11 +50,8 @@ entered p n (e ∷ es) text = entered p (n + 1) es (text ++ line (entry p text n
 abbrev pub invariants_text : Typed → List PlainEquation → List ℕ
 invariants_text p es = entered p 1 es []
 
-abbrev pub wide_text : List ℕ
-wide_text = line (codes "wide: invariants")
-
 abbrev pub looked_for : Typed → Option (List PlainEquation) → Outcome
-looked_for p None = record { status = InvariantsWide; text = wide_text }
+looked_for p None = record { status = InvariantsWide; text = wide_invariants_text }
 looked_for p (Some es) = record { status = Proved; text = invariants_text p es }
 
 unfoldable pub invariants_of : Typed → Outcome

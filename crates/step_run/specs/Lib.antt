@@ -6,6 +6,7 @@ pub mod Growth
 pub mod Headline
 pub mod Invariants
 pub mod Judged
+pub mod Known
 pub mod Outcome
 pub mod Plans
 pub mod Played
@@ -16,7 +17,7 @@ pub mod Request
 pub mod Scheduled
 pub mod Source
 pub mod StatusZero
-pub mod Taking
 pub mod Traced
 pub mod Verified
 pub mod Views
+pub mod WellFormed

@@ -1,5 +1,5 @@
 -- How runs end.
-use Rattle.std.specs.Prelude.{◌≡◌, ℕ, List, [], ◌∷◌, Option, Some, None}
+use Rattle.std.specs.Prelude.{◌≡◌, ℕ, [], Option, Some, None}
 use Rattle.st_tokens.specs.declared.kind.TokenFault.{TokenFault}
 use Rattle.st_tokens.specs.declared.kind.TokenFault.TheVariants as tokens
 use Rattle.st_reading.specs.Reading.{Stop, syntax, broken, other}
@@ -12,19 +12,14 @@ use Rattle.step_report.specs.declared.refusals.FaultKind.TheVariants as kinds
 use Rattle.step_report.specs.declared.refusals.FileRole.{FileRole}
 use Rattle.step_report.specs.declared.refusals.FileRole.TheVariants.{Program, Proof}
 use Rattle.step_report.specs.Traces.{moves_limit_text}
-use Rattle.step_report.specs.declared.usage.Command.{Command}
-use Rattle.step_report.specs.declared.usage.Command.TheVariants as commands
 use Rattle.step_report.specs.Refused.{words_refused_text, refused_text}
+use Rattle.step_report.specs.Ends.{answered}
 use Rattle.step_plan.specs.declared.status.Status.{Status}
 use Rattle.step_plan.specs.declared.status.Status.TheVariants.{Words, ProgramRefused, ProofRefused, Limit as Limited, Memory as NoMemory}
 use Rattle.step_plan.specs.Limits.{limited}
 use Rattle.step_plan.specs.Outcome.{Outcome}
 use Rattle.step_run.specs.declared.refusals.Refusal.{Refusal}
 use Rattle.step_run.specs.declared.refusals.Refusal.TheVariants.{Fault, Limit, Memory}
-
--- the commands that are answered
-abbrev pub answered : List Command
-answered = commands.Check ∷ commands.Verify ∷ commands.Prove ∷ commands.Workload ∷ commands.Trace ∷ commands.Invariants ∷ []
 
 abbrev pub words_refused : Outcome
 words_refused = record { status = Words; text = words_refused_text answered }

@@ -23,7 +23,7 @@ use st_memory::Memory;
 use st_outside::{Files, Gate};
 use std::alloc::Global;
 use std::thread::Threads;
-use step_plan::{Ended, Stage, Status};
+use step_plan::{End, Ended, Stage, Status, end};
 use step_report::Reason;
 
 /// The end of a check in which the condition at a place has no valid block.
@@ -48,12 +48,7 @@ fn ending(alloc: Global, posed: &Posed, trailing: Option<u64>) -> Result<Ended, 
     let Some(place) = trailing else {
         return goals_proved(alloc, posed);
     };
-    let mut text = Vec::new(alloc);
-    step_report::trailing(&mut text, place)?;
-    Ok(Ended {
-        status: Status::TrailingCerts,
-        text,
-    })
+    end(alloc, End::Trailing(place))
 }
 
 /// The end that a finding brings.

@@ -1,57 +1,18 @@
-//! The ends of runs whose words or texts are refused.
+//! The ends of runs whose program, proof or schedule is refused.
 
 ghost use Rattle.std.specs.Prelude.{◌≡◌, IfOk};
+ghost use Rattle.schedule_reader.specs.Faults.{see};
 ghost use Rattle.step_plan.specs.Outcome.{ended_view, IsDecided};
-ghost use Rattle.step_run.specs.declared.refusals.Refusal.TheVariants as texts;
-ghost use Rattle.step_run.specs.Outcome.{words_refused, program_refused, proof_refused};
+ghost use Rattle.step_run.specs.Outcome.{program_refused, proof_refused};
+ghost use Rattle.step_run.specs.Traced.{token_refused, IsEndOf};
 
 use crate::refusals::Refusal;
+use schedule_reader::ScheduleFault;
 use st_memory::Memory;
+use st_tokens::TokenFault;
 use std::alloc::Global;
-use step_plan::{Ended, FileRole, Status, limited};
-use step_report::{Command, FaultKind};
-
-/// The end of a run whose words ask for nothing that is answered.
-pub fn words_refused(alloc: Global) -> Result<Ended, Memory>
-    ensures { IfOk result (λ e. ended_view e ≡ words_refused) }
-{
-    let commands = [
-        Command::Check,
-        Command::Verify,
-        Command::Prove,
-        Command::Workload,
-        Command::Trace,
-        Command::Invariants,
-    ];
-    let mut text = Vec::new(alloc);
-    step_report::words_refused(&mut text, &commands)?;
-    Ok(Ended {
-        status: Status::Words,
-        text,
-    })
-}
-
-fn program_fault(alloc: Global, kind: FaultKind, place: u64) -> Result<Ended, Memory>
-    ensures { IfOk result (λ e. ended_view e ≡ program_refused (texts.Fault kind place)) }
-{
-    let mut text = Vec::new(alloc);
-    step_report::refused(&mut text, FileRole::Program, kind, place)?;
-    Ok(Ended {
-        status: Status::ProgramRefused,
-        text,
-    })
-}
-
-fn proof_fault(alloc: Global, kind: FaultKind, place: u64) -> Result<Ended, Memory>
-    ensures { IfOk result (λ e. ended_view e ≡ proof_refused (texts.Fault kind place)) }
-{
-    let mut text = Vec::new(alloc);
-    step_report::refused(&mut text, FileRole::Proof, kind, place)?;
-    Ok(Ended {
-        status: Status::ProofRefused,
-        text,
-    })
-}
+use step_plan::{End, Ended, end};
+use step_report::FaultKind;
 
 /// The end of a run whose program is refused.
 pub fn program_refused(alloc: Global, refusal: Refusal) -> Result<Ended, Memory>
@@ -59,8 +20,8 @@ pub fn program_refused(alloc: Global, refusal: Refusal) -> Result<Ended, Memory>
     ensures decided { IfOk result (λ e. IsDecided e.status) }
 {
     match refusal {
-        Refusal::Fault(kind, place) => program_fault(alloc, kind, place),
-        Refusal::Limit(kind) => limited(alloc, kind),
+        Refusal::Fault(kind, place) => end(alloc, End::Program(kind, place)),
+        Refusal::Limit(kind) => end(alloc, End::Limit(kind)),
         Refusal::Memory => Err(Memory),
     }
 }
@@ -71,8 +32,36 @@ pub fn proof_refused(alloc: Global, refusal: Refusal) -> Result<Ended, Memory>
     ensures decided { IfOk result (λ e. IsDecided e.status) }
 {
     match refusal {
-        Refusal::Fault(kind, place) => proof_fault(alloc, kind, place),
-        Refusal::Limit(kind) => limited(alloc, kind),
+        Refusal::Fault(kind, place) => end(alloc, End::Proof(kind, place)),
+        Refusal::Limit(kind) => end(alloc, End::Limit(kind)),
         Refusal::Memory => Err(Memory),
+    }
+}
+
+fn token_refused(alloc: Global, fault: TokenFault) -> Result<Ended, Memory>
+    ensures { IfOk result (λ e. ended_view e ≡ token_refused fault) }
+{
+    match fault {
+        TokenFault::BadByte(place) => end(alloc, End::Schedule(FaultKind::BadByte, place)),
+        TokenFault::LongNumber(place) => end(alloc, End::Schedule(FaultKind::LongNumber, place)),
+    }
+}
+
+/// The end of a run whose schedule is refused.
+pub fn schedule_refused(alloc: Global, fault: ScheduleFault) -> Result<Ended, Memory>
+    ensures { IfOk result (λ e. IsEndOf (see fault) (ended_view e)) }
+{
+    match fault {
+        ScheduleFault::Token(fault) => token_refused(alloc, fault),
+        ScheduleFault::Syntax(place) => end(alloc, End::Schedule(FaultKind::Syntax, place)),
+        ScheduleFault::Unknown(place) => end(alloc, End::Schedule(FaultKind::Unknown, place)),
+        ScheduleFault::Twice(place) => end(alloc, End::Schedule(FaultKind::Twice, place)),
+        ScheduleFault::WrongType(place) => end(alloc, End::Schedule(FaultKind::WrongType, place)),
+        ScheduleFault::Unset(place) => end(alloc, End::Schedule(FaultKind::Unset, place)),
+        ScheduleFault::UnknownTransition(place) => {
+            end(alloc, End::Schedule(FaultKind::UnknownTransition, place))
+        }
+        ScheduleFault::Moves(_) => end(alloc, End::Moves),
+        ScheduleFault::Memory => Err(Memory),
     }
 }

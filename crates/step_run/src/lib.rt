@@ -2,17 +2,19 @@
 //! conditions of the script, and writes the report.
 #![tactic(auto)]
 
+mod acceptance;
 mod checking;
+mod counting;
 mod crew;
 mod deciding;
 mod ends;
 mod invariants;
 pub mod laws;
+mod pipeline;
 mod posed;
 mod proving;
 mod refusals;
 mod reports;
-mod scheduling;
 mod scripted;
 mod source;
 mod top;

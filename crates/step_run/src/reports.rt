@@ -4,6 +4,7 @@ ghost use Rattle.std.specs.Prelude.{◌≡◌, ◌<◌, ◌+◌, length, get_or,
 ghost use Rattle.st_form.specs.Shared.{plain_condition};
 ghost use Rattle.st_form.specs.declared.conditions.Condition.{Condition};
 ghost use Rattle.step_report.specs.Conditions.{not_proved_text};
+ghost use Rattle.step_plan.specs.declared.status.Status.TheVariants.{Proved};
 ghost use Rattle.step_plan.specs.Outcome.{ended_view};
 ghost use Rattle.step_run.specs.Checked.{goals_proved};
 ghost use Rattle.step_run.specs.Views.{posed_view};
@@ -31,6 +32,16 @@ pub fn variable_count(posed: &Posed) -> u32
     variables_of(&posed.source.program).len() as u32
 }
 
+/// The end of a run that shows what was asked for.
+pub fn shown(text: Vec<u8>) -> Ended
+    ensures { ended_view result ≡ record { status = Proved; text = text.items } }
+{
+    Ended {
+        status: Status::Proved,
+        text,
+    }
+}
+
 /// The end of a run that has discharged all conditions: it names each goal.
 pub fn goals_proved(alloc: Global, posed: &Posed) -> Result<Ended, Memory>
     requires { IsReady posed.now }
@@ -44,10 +55,7 @@ pub fn goals_proved(alloc: Global, posed: &Posed) -> Result<Ended, Memory>
         &posed.script.steps,
         posed.conditions.len() as u64,
     )?;
-    Ok(Ended {
-        status: Status::Proved,
-        text,
-    })
+    Ok(shown(text))
 }
 
 /// The line of the condition at a place, which isn't discharged.

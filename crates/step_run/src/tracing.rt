@@ -1,7 +1,6 @@
 //! A trace: the schedule of a run is read and played, and each goal of the script is judged on that run.
 
 ghost use Rattle.std.specs.Prelude.{◌≡◌, ◌<◌, ◌≤◌, ◌^◌, suc, List, length, map, IfOk, Ok};
-ghost use Rattle.st_outside.specs.Faults.{NoneFell};
 ghost use Rattle.st_form.specs.Plain.{plain};
 ghost use Rattle.st_form.specs.declared.conditions.TransName.{TransName};
 ghost use Rattle.st_program.specs.Plain.{plain_children};
@@ -14,25 +13,23 @@ ghost use Rattle.schedule_reader.specs.Values.{IsWritten};
 ghost use Rattle.std.specs.List.{All};
 ghost use Rattle.trace_player.specs.Playing.{IsPlayed, PlayAnswers};
 ghost use Rattle.step_plan.specs.Outcome.{ended_view};
-ghost use Rattle.step_plan.specs.Plan.{then_plan, Follows};
 ghost use Rattle.step_run.specs.Judged.{all_judged};
 ghost use Rattle.step_run.specs.Traced.{schedule_played, traced};
 ghost use Rattle.step_run.specs.Source.{IsSpelled};
 ghost use Rattle.step_run.specs.Views.{source_view, scripted_view};
-ghost use Rattle.step_run.specs.Plans.{scripted_plan, trace_scripted};
 ghost use Rattle.step_run.specs.Played.{IsPlayedBy};
 
-use crate::scheduling::{no_start, not_enabled, schedule_refused, too_large_at};
-use crate::scripted::{Scripted, ask_script};
+use crate::ends::schedule_refused;
+use crate::reports::shown;
+use crate::scripted::Scripted;
 use crate::source::Source;
 use run_judging::Judged;
 use schedule_reader::laws::schedules_obey;
 use schedule_reader::{Schedule, read_schedule};
 use st_memory::Memory;
-use st_outside::Files;
 use st_program::Program;
 use std::alloc::Global;
-use step_plan::{Ended, FileRole, Stage, Status, ask};
+use step_plan::{End, Ended, end};
 use temporal_goals::Step;
 use trace_player::{PlayFault, Played, judge, play, rounds};
 
@@ -88,10 +85,7 @@ fn reported(
         &counts,
         &judged,
     )?;
-    Ok(Ended {
-        status: Status::Proved,
-        text,
-    })
+    Ok(shown(text))
 }
 
 /// The end that a schedule brings.
@@ -104,49 +98,23 @@ fn played(alloc: Global, scripted: &Scripted, schedule: &Schedule) -> Result<End
 {
     match play(alloc, &scripted.source.program, schedule) {
         Ok(played) => reported(alloc, scripted, schedule, &played),
-        Err(PlayFault::NoStart) => no_start(alloc),
-        Err(PlayFault::ValueLimit(position)) => too_large_at(alloc, position),
-        Err(PlayFault::Illegal(number)) => not_enabled(alloc, number),
+        Err(PlayFault::NoStart) => end(alloc, End::NoStart),
+        Err(PlayFault::ValueLimit(position)) => end(alloc, End::TooLarge(position)),
+        Err(PlayFault::Illegal(number)) => end(alloc, End::NotEnabled(number)),
         Err(PlayFault::Memory) => Err(Memory),
     }
 }
 
 /// The end that the text of a schedule brings.
-fn traced(alloc: Global, scripted: &Scripted, text: &[u8]) -> Result<Ended, Memory>
-    requires { IsSpelled (source_view scripted.now.source) }
+pub fn traced(alloc: Global, scripted: &Scripted, text: &[u8]) -> Result<Ended, Memory>
+    requires short { length text.now ≤ 4194304 }
+    requires spelled { IsSpelled (source_view scripted.now.source) }
     ensures { IfOk result (λ e. ended_view e ≡ traced (scripted_view scripted.now) text.now) }
 {
-    // No file is so long.
-    if text.len() >= 1 << 32 {
-        return Err(Memory);
-    }
     schedules_obey();
     let source = &scripted.source;
     match read_schedule(alloc, text, &source.program, &source.names) {
         Ok(schedule) => played(alloc, scripted, &schedule),
         Err(fault) => schedule_refused(alloc, fault),
-    }
-}
-
-/// Plays a schedule of a program, and judges the goals of a script on its run.
-pub fn trace<F: Files>(
-    alloc: Global,
-    files: &mut F,
-    program: &str,
-    proof: &str,
-    schedule: &str,
-) -> Result<Ended, Memory>
-    ensures follows { IfOk result (Follows (F.told files.old) (F.faults files.old) (F.faults files.new)
-        (then_plan (scripted_plan program.now proof.now) (trace_scripted schedule.now))) }
-    ensures same { F.told files.new ≡ F.told files.old }
-    ensures later { NoneFell (F.faults files.old) (F.faults files.new) }
-{
-    let scripted = match ask_script(alloc, files, program, proof)? {
-        Stage::On(scripted) => scripted,
-        Stage::Over(ended) => return Ok(ended),
-    };
-    match ask(alloc, files, FileRole::Schedule, schedule)? {
-        Stage::On(text) => traced(alloc, &scripted, &text),
-        Stage::Over(ended) => Ok(ended),
     }
 }

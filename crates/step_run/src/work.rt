@@ -1,92 +1,22 @@
 //! The work that a request asks for, up to the output text.
 
-ghost use Rattle.std.specs.Prelude.{◌≡◌, ◌<◌, ◌≤◌, Some, IfOk};
+ghost use Rattle.std.specs.Prelude.{◌≡◌, ◌<◌, IfOk};
 ghost use Rattle.std.specs.Thread.{IsSync};
 ghost use Rattle.st_outside.specs.Faults.{NoneFell};
 ghost use Rattle.step_words.specs.Definition.{words_of};
 ghost use Rattle.step_words.specs.Request.{plain_request, request_of, IsStated};
-ghost use Rattle.step_plan.specs.Plan.{then_plan, Follows};
-ghost use Rattle.step_run.specs.Plans.{conditions_plan, check_posed, verify_posed, prove_posed, plan_for, plan_of};
+ghost use Rattle.step_plan.specs.Plan.{Follows};
+ghost use Rattle.step_run.specs.Plans.{plan_for, plan_of};
 
-use crate::checking::checked;
-use crate::ends::words_refused;
-use crate::invariants::find_in;
-use crate::posed::ask_conditions;
-use crate::proving::written;
-use crate::tracing::trace;
-use crate::verifying::verified;
+use crate::pipeline::{check, find, prove, trace, verify};
 use crate::workload::workload;
 use st_memory::Memory;
 use st_outside::{Files, Gate};
 use std::alloc::Global;
 use std::thread::Threads;
-use step_plan::{Ended, Stage};
+use step_plan::{End, Ended, end};
 use step_words::laws::requests_are_stated;
 use step_words::{Request, WordsFault, read_request};
-
-/// Checks the conditions of a script against a file of certificates.
-fn check<R: Threads + Sync, F: Files, G: Gate + Sync>(
-    rt: &R,
-    alloc: Global,
-    files: &mut F,
-    gate: &G,
-    workers: u32,
-    program: &str,
-    proof: &str,
-    certificates: &str,
-) -> Result<Ended, Memory>
-    requires { 0 < workers }
-    ensures follows { IfOk result (Follows (F.told files.old) (F.faults files.old) (F.faults files.new)
-        (then_plan (conditions_plan program.now proof.now) (check_posed certificates.now))) }
-    ensures same { F.told files.new ≡ F.told files.old }
-    ensures later { NoneFell (F.faults files.old) (F.faults files.new) }
-{
-    let posed = match ask_conditions(alloc, files, program, proof)? {
-        Stage::On(posed) => posed,
-        Stage::Over(ended) => return Ok(ended),
-    };
-    checked(rt, alloc, files, gate, workers, &posed, certificates)
-}
-
-/// Decides the conditions of a script.
-fn verify<R: Threads + Sync, F: Files, G: Gate + Sync>(
-    rt: &R,
-    alloc: Global,
-    files: &mut F,
-    gate: &G,
-    workers: u32,
-    program: &str,
-    proof: &str,
-) -> Result<Ended, Memory>
-    requires { 0 < workers }
-    ensures follows { IfOk result (Follows (F.told files.old) (F.faults files.old) (F.faults files.new)
-        (then_plan (conditions_plan program.now proof.now) verify_posed)) }
-    ensures same { F.told files.new ≡ F.told files.old }
-    ensures later { NoneFell (F.faults files.old) (F.faults files.new) }
-{
-    match ask_conditions(alloc, files, program, proof)? {
-        Stage::On(posed) => verified(rt, alloc, gate, workers, &posed),
-        Stage::Over(ended) => Ok(ended),
-    }
-}
-
-/// Writes certificates of the conditions of a script.
-fn prove<F: Files>(
-    alloc: Global,
-    files: &mut F,
-    program: &str,
-    proof: &str,
-) -> Result<Ended, Memory>
-    ensures follows { IfOk result (Follows (F.told files.old) (F.faults files.old) (F.faults files.new)
-        (then_plan (conditions_plan program.now proof.now) prove_posed)) }
-    ensures same { F.told files.new ≡ F.told files.old }
-    ensures later { NoneFell (F.faults files.old) (F.faults files.new) }
-{
-    match ask_conditions(alloc, files, program, proof)? {
-        Stage::On(posed) => written(alloc, &posed),
-        Stage::Over(ended) => Ok(ended),
-    }
-}
 
 /// Does what a request asks for.
 fn answer<R: Threads + Sync, F: Files, G: Gate + Sync>(
@@ -120,7 +50,7 @@ fn answer<R: Threads + Sync, F: Files, G: Gate + Sync>(
         Request::Prove(program, proof) => prove(alloc, files, program, proof),
         Request::Workload(n) => workload(alloc, n),
         Request::Trace(program, proof, schedule) => trace(alloc, files, program, proof, schedule),
-        Request::Invariants(program) => find_in(alloc, files, program),
+        Request::Invariants(program) => find(alloc, files, program),
     }
 }
 
@@ -139,7 +69,7 @@ pub fn work<R: Threads + Sync, F: Files, G: Gate + Sync>(
     requests_are_stated();
     match read_request(alloc, words) {
         Ok(line) => answer(rt, alloc, files, gate, line.workers, line.request),
-        Err(WordsFault::Refused) => words_refused(alloc),
+        Err(WordsFault::Refused) => end(alloc, End::Words),
         Err(WordsFault::Memory) => Err(Memory),
     }
 }

@@ -8,8 +8,8 @@ ghost use Rattle.step_run.specs.Plans.{workload_conditions, count_posed, with_nu
 ghost use Rattle.step_run.specs.Ready.{IsReady};
 ghost use Rattle.step_run.specs.Views.{posed_view};
 
+use crate::counting::counted;
 use crate::posed::{Posed, posed_of_text};
-use crate::proving::counted;
 use crate::source::source_of_text;
 use st_memory::Memory;
 use std::alloc::Global;

@@ -41,14 +41,26 @@ fn each_read_fails_in_turn(rt: HostRuntime) -> Result<(), Fail> {
 #[test]
 fn each_write_fails_in_turn(rt: HostRuntime) -> Result<(), Fail> {
     let words = check_words(&rt)?;
-    for (room, failing, most, taken) in [
-        (100, 1, 1, 0),
-        (100, 2, 1, 1),
-        (100, 44, 1, 43),
-        (100, 2, 10, 10),
-        (5, 100, 1, 5),
-        (100, 100, 0, 0),
-    ] {
+    let calls = REPORT.len() as u64;
+    for k in 1..calls.saturating_add(1) {
+        let mut files = Silent {
+            inner: stored(&rt, (PROGRAM, PROOF, CERTS), &[], 1000)?,
+        };
+        let mut out = sink(&rt, 100, &[k], 1)?;
+        let status = step_run(&rt, rt.alloc(), &words, &mut files, &mut out, &OpenGate);
+        assert_eq!(rt; status, Status::WriteFault, "at {k}");
+        assert_eq!(rt; out.bytes().len() as u64, k.saturating_sub(1), "at {k}");
+        assert!(rt; REPORT.as_bytes().starts_with(out.bytes()), "at {k}");
+        assert_eq!(rt; out.faults(), 1, "at {k}");
+    }
+    Ok(())
+}
+
+/// A write of several bytes fails, there is no room, or nothing is taken.
+#[test]
+fn what_was_taken_is_a_prefix(rt: HostRuntime) -> Result<(), Fail> {
+    let words = check_words(&rt)?;
+    for (room, failing, most, taken) in [(100, 2, 10, 10), (5, 100, 1, 5), (100, 100, 0, 0)] {
         let mut files = Silent {
             inner: stored(&rt, (PROGRAM, PROOF, CERTS), &[], 7)?,
         };

@@ -15,7 +15,7 @@ returns-in-Err-Wide c =
     let system = plain_system c.in_ok-fts.fts in
     let same = system_is p system c.in_ok-fts.ensures.exact in
     let none = rw c.in-Err-Wide.field-0-is at c.in-Err-Wide.ensures.exact in
-    IfOk-weaker c.wide.result _ _ (λ e h. h ∙ looked-none p system same none) c.wide.ensures
+    IfOk-weaker c.end.result _ _ (λ e h. h ∙ looked-none p system same none) c.end.ensures
 
 pub entered-requires-clause-subject : goal.entered-requires-clause-subject
 entered-requires-clause-subject c = record {
@@ -37,4 +37,4 @@ returns c =
     let system = plain_system c.in_ok-fts.fts in
     let same = system_is p system c.in_ok-fts.ensures.exact in
     let text : c.in_ok-text.text.items ≡ invariants_text p (plain_equations c.in-Ok.equations.items) = c.in_ok-text.ensures ∙ ap (λ es. invariants_text p (plain_equations es)) c.deref.ensures.value in
-    looked-some p system (plain_equations c.in-Ok.equations.items) c.in_ok-text.text.items same c.in-Ok.ensures.exact text
+    c.shown.ensures ∙ looked-some p system (plain_equations c.in-Ok.equations.items) c.in_ok-text.text.items same c.in-Ok.ensures.exact text

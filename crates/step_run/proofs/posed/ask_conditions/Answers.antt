@@ -1,30 +1,24 @@
 use Rattle.std.proofs.lemmas.Result.{IfOk-weaker}
-use Rattle.step_report.specs.declared.refusals.FileRole.TheVariants.{Proof}
-use Rattle.step_plan.specs.Plan.{file_plan}
-use Rattle.step_plan.specs.Stage.{bytes_view}
-use Rattle.step_plan.proofs.Follow.{onward_on, onward_over, follows_then, follows_first, comes_then, comes_text}
-use Rattle.step_run.specs.Plans.{source_plan, posed_of_text, posed_plan}
-use Rattle.step_run.specs.Views.{source_view, posed_view}
+use Rattle.step_plan.proofs.Follow.{follows_first, comes_text}
+use Rattle.step_run.specs.Posing.{obliged_in}
+use Rattle.step_run.specs.Plans.{scripted_plan}
+use Rattle.step_run.specs.Views.{scripted_view, posed_view}
+use Rattle.step_run.proofs.Regrouping.{comes_as, follows_as, conditions_are}
 use Rattle.step_run.proofs.posed.ask_conditions.Goals as goal
 
-pub returns-in-Over-clause-comes : goal.returns-in-Over-clause-comes
-returns-in-Over-clause-comes g c = follows_first _ (posed_plan c.args.proof.now) _ _ (source_plan c.args.program.now) _ (rw c.in-Over.is at c.in_ok-source.ensures.comes)
-
-pub returns-in-Over-2-clause-comes : goal.returns-in-Over-2-clause-comes
-returns-in-Over-2-clause-comes g c =
-    let source = rw c.in-On.is at c.in_ok-source.ensures.comes in
-    let p = source_view c.in-On.source in
-    let over = onward_over bytes_view _ _ _ _ _ (file_plan Proof c.args.proof.now) c.in_ok-text.field-0 _ c.in-Over-2.is c.ask_source.ensures.same source.0 c.in_ok-text.ensures.comes in
-    follows_then _ (posed_plan c.args.proof.now) _ _ (source_plan c.args.program.now) _ _ source.1 (follows_first _ (posed_of_text p) _ _ (file_plan Proof c.args.proof.now) _ over)
-
-pub returns-in-On-2-clause-comes : goal.returns-in-On-2-clause-comes
-returns-in-On-2-clause-comes g c =
-    let source = rw c.in-On.is at c.in_ok-source.ensures.comes in
-    let p = source_view c.in-On.source in
-    let text = onward_on bytes_view _ _ _ _ _ (file_plan Proof c.args.proof.now) c.in_ok-text.field-0 _ c.in-On-2.is c.ask_source.ensures.same source.0 c.in_ok-text.ensures.comes in
+pub returns-in-On-clause-comes : goal.returns-in-On-clause-comes
+returns-in-On-clause-comes g c =
     let told = g.F.Files.told c.args.files.now in
-    let done = rw c.deref.ensures.value at c.posed_of_text.ensures.settles in
-    IfOk-weaker c.posed_of_text.result _ _
-    (λ s h. comes_then told (posed_plan c.args.proof.now) posed_view _ _ (source_plan c.args.program.now) p s source.1
-    (comes_text told (posed_of_text p) posed_view _ _ (file_plan Proof c.args.proof.now) (bytes_view c.in-On-2.text) s text.0 text.1 h))
-    done
+    let plan = scripted_plan c.args.program.now c.args.proof.now in
+    let scripted = rw c.in-On.is at c.in_ok-scripted.ensures.comes in
+    let x = scripted_view c.in-On.scripted in
+    IfOk-weaker c.obliged.result _ _
+    (λ s h. comes_as posed_view told _ _ _ _ s (conditions_are c.args.program.now c.args.proof.now) (comes_text told obliged_in posed_view _ _ plan x s scripted.0 scripted.1 h))
+    c.obliged.ensures.settles
+
+pub returns-in-Over-clause-comes : goal.returns-in-Over-clause-comes
+returns-in-Over-clause-comes g c =
+    let told = g.F.Files.told c.args.files.now in
+    let plan = scripted_plan c.args.program.now c.args.proof.now in
+    let over = rw c.in-Over.is at c.in_ok-scripted.ensures.comes in
+    follows_as told _ _ _ _ _ (conditions_are c.args.program.now c.args.proof.now) (follows_first told obliged_in _ _ plan _ over)

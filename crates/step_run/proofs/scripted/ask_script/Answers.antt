@@ -7,6 +7,9 @@ use Rattle.step_run.specs.Plans.{source_plan, scripted_of_text, script_plan}
 use Rattle.step_run.specs.Views.{source_view, scripted_view}
 use Rattle.step_run.proofs.scripted.ask_script.Goals as goal
 
+pub scripted_of_text-requires-clause-short : goal.scripted_of_text-requires-clause-short
+scripted_of_text-requires-clause-short g c = rw c.deref.ensures.value (rw c.in-On-2.is at c.in_ok-text.ensures.within)
+
 pub returns-in-Over-clause-comes : goal.returns-in-Over-clause-comes
 returns-in-Over-clause-comes g c = follows_first _ (script_plan c.args.proof.now) _ _ (source_plan c.args.program.now) _ (rw c.in-Over.is at c.in_ok-source.ensures.comes)
 

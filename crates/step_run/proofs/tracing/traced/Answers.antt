@@ -8,14 +8,14 @@ use Rattle.step_run.proofs.Scripts.{names_are, store_fits, read_so, refused_so}
 use Rattle.step_run.proofs.tracing.traced.Goals as goal
 
 pub read_schedule-requires-clause-names : goal.read_schedule-requires-clause-names
-read_schedule-requires-clause-names c = names_are (source_view c.args.scripted.now.source) c.requires
+read_schedule-requires-clause-names c = names_are (source_view c.args.scripted.now.source) c.requires.spelled
 
 pub played-requires-clause-store : goal.played-requires-clause-store
 played-requires-clause-store c =
     let p = source_view c.args.scripted.now.source in
     let s = plain_schedule c.in-Ok.schedule in
     let obeys = c.schedules_obey.ensures p.names p.processes c.args.text.now s c.in-Ok.ensures in
-    store_fits p s.store c.requires obeys.types
+    store_fits p s.store c.requires.spelled obeys.types
 
 pub played-requires-clause-written : goal.played-requires-clause-written
 played-requires-clause-written c =

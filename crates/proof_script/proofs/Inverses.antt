@@ -16,7 +16,6 @@ use Rattle.proof_script.specs.Faults.{one_too_many}
 use Rattle.proof_script.specs.Listing.{Setting, optional, behind_mark, counted, further_counted, listed, bracketed, formula_of, listed_formula_of}
 use Rattle.basic_laws.proofs.Numbers.{less}
 
-
 module _ {A : Type 0} where
   never : (place : ℕ) (r : Read Breach A) (y : A) (rest : Stream) → one_too_many place r ≡ Ok (y, rest) → ⊥
   never place (Ok x) y rest h = cc

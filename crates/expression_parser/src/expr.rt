@@ -1,11 +1,11 @@
 //! Formulas.
 
 ghost use Rattle.std.specs.Prelude.{◌≡◌, ◌≤◌, MatchResult};
-ghost use Rattle.st_tokens.specs.Stream.{stream};
+ghost use Rattle.st_tokens.specs.Stream.{stream, behind};
 ghost use Rattle.st_reading.specs.declared.fault.ParseFault.TheVariants.{Memory};
 ghost use Rattle.st_reading.specs.Reading.{Reads, size};
 ghost use Rattle.st_reading.specs.Faults.{see};
-ghost use Rattle.expression_parser.specs.ExpressionTree.{expr_view, terms_view, joined};
+ghost use Rattle.expression_parser.specs.ExpressionTree.{node, expr_view, kind_view, terms_view, joined};
 ghost use Rattle.expression_parser.specs.Reading.{below, atom_of, unary_of, product_of, sum_of, comparison_of, negation_of, conjunction_of, disjunction_of, expression_of};
 
 use crate::raw::{Operator, RawExpr, RawExprKind, RawTerm};
@@ -59,6 +59,15 @@ fn chain_of<'a>(
     })
 }
 
+/// An expression of one token, which stands ahead.
+fn single<'a>(place: u64, kind: RawExprKind<'a>, tokens: &mut Tokens<'a>) -> RawExpr<'a>
+    ensures made { expr_view result ≡ node place (kind_view kind.entry) }
+    ensures rest { stream tokens.new ≡ behind (stream tokens.old) }
+{
+    advance(tokens);
+    RawExpr { place, kind }
+}
+
 #[cycle(expr)]
 #[tactic(auto, unfolding(crate::specs::Reading::atom_of, crate::specs::Reading::below))]
 fn atom<'a>(
@@ -72,20 +81,8 @@ fn atom<'a>(
 {
     let place = place_of(tokens);
     match front_of(places, ahead(tokens)) {
-        Front::Numeral(n) => {
-            advance(tokens);
-            Ok(RawExpr {
-                place,
-                kind: RawExprKind::Numeral(n),
-            })
-        }
-        Front::Truth(b) => {
-            advance(tokens);
-            Ok(RawExpr {
-                place,
-                kind: RawExprKind::Truth(b),
-            })
-        }
+        Front::Numeral(n) => Ok(single(place, RawExprKind::Numeral(n), tokens)),
+        Front::Truth(b) => Ok(single(place, RawExprKind::Truth(b), tokens)),
         Front::Name => {
             let name = name_ahead(tokens);
             advance(tokens);

@@ -136,14 +136,14 @@ module _ (x : Posed) (cs : List Condition) (are : x.conditions ≡ plains cs) wh
   -- a condition passes whose verdict is that it is valid, and else the run ends there
   pub by_verdict_there : (place : ℕ) (v : Verdict) (s : Stage (Unit {0})) (any : Condition) → place < length cs → IsAnswer (setting_of x.program) (get_or cs place any) v
       → EndsAt x (place + 1) (plain_condition (get_or cs place any)) v s → PassesFrom x place (past place s)
-  by_verdict_there place v (On u) any lt answer valid =
+  by_verdict_there place v (On u) any lt answer passes =
       let whole = sized in
       record {
         further = omega arith;
         within = omega (arith, lt, whole);
         trees = tree_in v ∷ [];
         as_many = refl;
-        found = one_found x cs are place any v lt answer valid;
+        found = one_found x cs are place any v lt answer passes;
       }
   by_verdict_there place v (Over ended) any lt answer ends = one_ends x cs are place any v ended lt answer ends
 

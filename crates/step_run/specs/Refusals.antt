@@ -1,5 +1,5 @@
 -- Why the text of a program or of a proof is refused: the fault of its first place, or the limit that is passed there.
-use Rattle.std.specs.Prelude.{◌≡◌, ℕ, Option, Some, None, Result, Ok, Err}
+use Rattle.std.specs.Prelude.{◌≡◌, Option, Some, None, Result, Ok, Err}
 use Rattle.st_tokens.specs.declared.kind.TokenFault.{TokenFault}
 use Rattle.st_tokens.specs.declared.kind.TokenFault.TheVariants as tokens
 use Rattle.st_reading.specs.Reading.{Stop, syntax, broken, other}

@@ -11,7 +11,6 @@ use Rattle.search_laws.specs.Moves as moves
 use Rattle.search_verdicts.specs.declared.verdict.Verdict.{Verdict}
 use Rattle.linear_prover.specs.Verdicts.{is_valid}
 use Rattle.discharge.specs.Searched.{mark, ValidBefore, IsFirstOpen}
-use Rattle.discharge.specs.Verdicts.{IsAnswer}
 use Rattle.block_laws.specs.Plain.{plains}
 use Rattle.step_plan.specs.declared.ended.Ended.{Ended}
 use Rattle.step_plan.specs.declared.stage.Stage.{Stage}
@@ -19,8 +18,8 @@ use Rattle.step_plan.specs.declared.stage.Stage.TheVariants.{On, Over}
 use Rattle.step_plan.specs.Outcome.{Outcome, ended_view}
 use Rattle.step_run.specs.Conditions.{Posed, setting_of}
 use Rattle.step_run.specs.Verified.{by_verdict, verdict_on}
-use Rattle.step_run.specs.Deciding.{tree_in, found_from, FoundTo, EndsAt, EndsFrom, Pass, PassesFrom}
-use Rattle.step_run.proofs.Slices.{Come, found_on, ends_on, found_step, one_found, one_ends, in_front, behind_front, some_of}
+use Rattle.step_run.specs.Deciding.{trees_in, found_from, FoundTo, EndsFrom, AreNext, Pass, PassesFrom}
+use Rattle.step_run.proofs.Slices.{Come, found_on, ends_on, found_step, in_front, behind_front, some_of, trees_length}
 
 there : (cs : List Condition) (i : ℕ) (any : Condition) → i < length cs → slice_get cs i ≡ Some (get_or cs i any)
 there [] i any lt = absurd (omega (arith, lt))
@@ -42,14 +41,6 @@ found_valid (wide_at path stage) h = absurd cc
 verdict_found : (k : Setting) (c : Condition) (t : Tree) → decided k (given_of c) (shown_of c) ≡ valid t → verdict_on k (plain_condition c) ≡ valid t
 unfolding verdict_on
 verdict_found k c t e = e
-
-some-same : {A : Type 0} (a b : A) → Some a ≡ Some b → a ≡ b
-some-same a b e = cc
-
--- behind a place, or at an end
-abbrev past : ℕ → Stage (Unit {0}) → Stage ℕ
-past place (On u) = On (place + 1)
-past place (Over ended) = Over ended
 
 module _ (x : Posed) (cs : List Condition) (are : x.conditions ≡ plains cs) where
   one_passes : (place : ℕ) (any : Condition) → place < length cs → mark (setting_of x.program) (get_or cs place any) ≡ true → (t : Tree) × FoundTo x place (place + 1) (t ∷ [])
@@ -127,25 +118,18 @@ module _ (x : Posed) (cs : List Condition) (are : x.conditions ≡ plains cs) wh
       let p = passed from (to - from) opened (omega (arith, lt)) (omega (arith, order, within)) o.0 in
       ends_on x from (from + opened) p.0 (ended_view ended) p.2 ends
 
-  -- the answer to the first open one of a slice
-  pub answer_of_open : (from to opened : ℕ) (v : Verdict) (any c : Condition) → from < to → to ≤ length cs → opened < to - from → slice_get (take (to - from) (drop from cs)) opened ≡ Some c
-      → IsAnswer (setting_of x.program) c v → IsAnswer (setting_of x.program) (get_or cs (from + opened) any) v
-  answer_of_open from to opened v any c order within lt at answer =
-      subst (λ (d : Condition). IsAnswer (setting_of x.program) d v) (some-same c (get_or cs (from + opened) any) (sym at ∙ in_slice cs from (to - from) opened any lt (omega (arith, order, within)))) answer
-
-  -- a condition passes whose verdict is that it is valid, and else the run ends there
-  pub by_verdict_there : (place : ℕ) (v : Verdict) (s : Stage (Unit {0})) (any : Condition) → place < length cs → IsAnswer (setting_of x.program) (get_or cs place any) v
-      → EndsAt x (place + 1) (plain_condition (get_or cs place any)) v s → PassesFrom x place (past place s)
-  by_verdict_there place v (On u) any lt answer valid =
-      let whole = sized in
-      record {
-        further = omega arith;
-        within = omega (arith, lt, whole);
-        trees = tree_in v ∷ [];
-        as_many = refl;
-        found = one_found x cs are place any v lt answer valid;
-      }
-  by_verdict_there place v (Over ended) any lt answer ends = one_ends x cs are place any v ended lt answer ends
+-- verdicts that are valid pass
+pub next_pass : (x : Posed) (place : ℕ) (vs : List Verdict) → AreNext x place vs → Pass x place (place + length vs)
+next_pass x place vs next =
+    let many = trees_length vs in
+    let some = next.some in
+    record {
+      further = omega (arith, some);
+      within = next.within;
+      trees = trees_in vs;
+      as_many = omega (arith, many);
+      found = next.found;
+    }
 
 pub come_past : (x : Posed) (place to : ℕ) → Come x place (λ ts. Unit {0}) → Pass x place to → Come x to (λ ts. Unit {0})
 come_past x place to come pass =

@@ -68,10 +68,10 @@ module _ (x : Posed) (cs : List Condition) (are : x.conditions ≡ plains cs) wh
   found_at place any v lt answer =
       found_step place any lt ∙ ap (by_verdict (place + 1) (plain_condition (get_or cs place any)) (found_from x (place + 1))) (verdict_is (setting_of x.program) (get_or cs place any) v answer)
 
-  pub one_found : (place : ℕ) (any : Condition) (v : Verdict) → place < length cs → IsAnswer (setting_of x.program) (get_or cs place any) v → is_valid v ≡ true → FoundTo x place (place + 1) (tree_in v ∷ [])
+  one_found : (place : ℕ) (any : Condition) (v : Verdict) → place < length cs → IsAnswer (setting_of x.program) (get_or cs place any) v → is_valid v ≡ true → FoundTo x place (place + 1) (tree_in v ∷ [])
   one_found place any v lt answer valid = found_at place any v lt answer ∙ by_valid (place + 1) (plain_condition (get_or cs place any)) (found_from x (place + 1)) v valid
 
-  pub one_ends : (place : ℕ) (any : Condition) (v : Verdict) (ended : Ended) → place < length cs → IsAnswer (setting_of x.program) (get_or cs place any) v
+  one_ends : (place : ℕ) (any : Condition) (v : Verdict) (ended : Ended) → place < length cs → IsAnswer (setting_of x.program) (get_or cs place any) v
       → EndsAt x (place + 1) (plain_condition (get_or cs place any)) v (Over ended) → EndsFrom x place (ended_view ended)
   one_ends place any v ended lt answer ends = λ all. ends.0 (found_from x (place + 1)) all ∙ ap (search_ended x all) (sym (found_at place any v lt answer))
 

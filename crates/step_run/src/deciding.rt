@@ -109,7 +109,7 @@ fn given_up(
 }
 
 /// Goes on where the verdict on the condition at a place is that it is valid.
-pub fn at_verdict(
+fn at_verdict(
     alloc: Global,
     posed: &Posed,
     place: usize,
@@ -155,7 +155,7 @@ fn all_valid(
 
 /// The certificates of the conditions from one place to before another, where these are valid. Else the run's end at the
 /// first that isn't.
-fn valid_to(
+pub fn valid_to(
     alloc: Global,
     components: &Components,
     posed: &Posed,

@@ -32,7 +32,7 @@ abbrev pub accepts_steps : Typed → Result (List PlainStep) (Stop Breach) → B
 accepts_steps p (Err fault) = false
 accepts_steps p (Ok steps) = is_none (passes_limit p steps) && are_decided (setting_of p) (conditions_of p steps)
 
--- a text of a proof with which `verify` ends with status 0
+-- a text of a proof with which `verify` ends with status 0, within the limit on the length of texts
 unfoldable pub accepts : Typed → List ℕ → Bool
 accepts p text = accepts_steps p (steps_spelled p text)
 

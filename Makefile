@@ -1,18 +1,20 @@
-# Installs the built program as `milkhour`, with its man page, completions for bash and zsh, and syntax for vim and pygments.
+# Installs the built program `milkhour`, with its man page, completions for bash and zsh, and syntax for vim and pygments. The exact
+# program is `milkhour step`.
 #
-#   make                      builds the program, as README does
+#   make                      builds the programs, as README does
 #   make install              PREFIX=/usr/local by default; DESTDIR stands before all paths
 #   make uninstall            removes what `make install` with the same PREFIX and DESTDIR has put there
 
 PREFIX = /usr/local
 DESTDIR =
 
-built = crates/step_main/out/step_main
+built = crates/milkhour/out/milkhour
 shared := $(shell find share -type f | LC_ALL=C sort)
 prefix = $(DESTDIR)$(PREFIX)
 
 all:
 	cd crates/step_main && rt run -- check data/program data/proof data/certs
+	cd crates/milkhour && rt run -- verify data/count.spl
 
 install:
 	@test -x $(built) || { echo "$(built) isn't there: make builds it" >&2; exit 1; }

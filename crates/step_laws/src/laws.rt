@@ -5,6 +5,7 @@ ghost use Rattle.step_laws.specs.Laws.{ProvedIsAccepted};
 use block_laws::laws::blocks_are_exact;
 use proof_grammar::laws::{read_scripts_are_spelled, spelled_scripts_are_read};
 use proof_script::laws::{scripts_are_over, scripts_are_proofs};
+use schedule_grammar::laws::{read_schedules_are_spelled, spelled_schedules_are_read};
 use script_bounds::laws::over_is_written;
 use script_laws::laws::{scripts_are_within, scripts_prove};
 use search_blocks::laws::{found_are_written, texts_hold_blocks};
@@ -22,6 +23,8 @@ pub fn proved_is_accepted()
     read_is_typed();
     read_scripts_are_spelled();
     spelled_scripts_are_read();
+    read_schedules_are_spelled();
+    spelled_schedules_are_read();
     scripts_are_proofs();
     scripts_are_over();
     over_is_written();

@@ -32,6 +32,7 @@ use Rattle.spl_translation.proofs.Systemic.{translation_is_system}
 use Rattle.obligation_laws.specs.Obligations.{AreValid}
 use Rattle.obligation_laws.proofs.Enough.{enough}
 use Rattle.script_obligations.proofs.Programs.{scripts-hold}
+use Rattle.fair_runs.proofs.Keeping.{kept}
 use Rattle.spl_parser.specs.Theorems.{ReadIsSpelled, SpelledIsRead}
 use Rattle.spl_typer.specs.Programs.{Typed, typing}
 use Rattle.spl_typer.specs.ProgramRules.{program_faults}
@@ -64,6 +65,7 @@ use Rattle.step_run.specs.Outcome.{program_refused, token_fault, text_refused, s
 use Rattle.step_run.specs.Source.{source_spelled, IsSpelled}
 use Rattle.proof_grammar.specs.Grammar.{SpellsScript}
 use Rattle.proof_grammar.specs.Theorems.{SpelledScriptsAreRead, ReadScriptsAreSpelled}
+use Rattle.schedule_grammar.specs.Theorems.{SpelledSchedulesAreRead, ReadSchedulesAreSpelled}
 use Rattle.step_run.specs.Conditions.{Posed, system_of, setting_of, words_over, steps_spelled, drafts, conditions_of, passes_limit, limit_of}
 use Rattle.step_run.specs.Checked.{goals_proved, ending, check_ended, checked}
 use Rattle.step_run.specs.Verified.{Verified, all_found, left_open, given_up, by_verdict, verdict_on, verified_from, search_ended, searched, certificates}
@@ -193,6 +195,8 @@ pub record Laws : Type 0 where
   pub spelled : ReadIsSpelled
   pub scripts_spelled : ReadScriptsAreSpelled
   pub scripts_read : SpelledScriptsAreRead
+  pub schedules_spelled : ReadSchedulesAreSpelled
+  pub schedules_read : SpelledSchedulesAreRead
   pub typed : ReadIsTyped
   pub proofs : ScriptsAreProofs
   pub over : ScriptsAreOver
@@ -244,10 +248,12 @@ module _ (law : Laws) where
       let system = translation p.variables p.initial p.processes p.locations in
       let both = corresponds p.variables p.initial p.processes p.locations k.well k.typed k.start in
       let proof = is_proof law.proofs p system steps refl script in
+      let on_runs =
       scripts-hold p.processes p.initial system law.prove
       (λ lemmas conditions goal proves cited all. enough p.processes p.initial system (λ st r. reached_meets p.processes p.initial k.well st r)
       (λ o run. run_seen p.processes p.initial k.well.numbered system both o run) lemmas conditions goal proves cited all)
-      steps proof (valid_drafts p (script_list system steps) valid_all)
+      steps proof (valid_drafts p (script_list system steps) valid_all) in
+      λ i d below. kept p.processes p.initial k.well _ (on_runs i d below)
 
   control_is : (p : Typed) (c : Implication) → IsValidCondition (setting_of p).control c.given c.shown → IsValidCondition (control_of p.processes) c.given c.shown
   unfolding setting_of

@@ -126,7 +126,7 @@ module _ (law : Laws) (spelled : SpelledIsRead) (told : Told) (o : Outcome) wher
       let r = ran p steps (pt, source.1) st o three.1 proved in (
         (one.0, two.0),
         three.0,
-        (p, steps, r.schedule_is, r.later, record { scripted = scripted law pt qt p steps source.1 script.1; schedule = r.spelled; run = r.run }, sym r.same),
+        (p, steps, r.schedule_is, r.later, record { scripted = scripted law pt qt p steps source.1 script.1; schedule = law.schedules_spelled p.names p.processes st r.schedule_is r.spelled; run = r.run }, sym r.same),
       )
 
   pub trace_ends : (a b c pt qt st : List ℕ) (p : Typed) (steps : List PlainStep) (s : PlainSchedule) (later : List (TransName × State)) → told a ≡ Some pt → told b ≡ Some qt → told c ≡ Some st
@@ -140,4 +140,4 @@ module _ (law : Laws) (spelled : SpelledIsRead) (told : Told) (o : Outcome) wher
       let goes : scripted_of_text p qt ≡ goes_on (over p steps) = goes_then (λ x. goes_on (over p x)) (script_of_text p qt) steps (goes_on (over p steps)) (script_read p qt (Ok steps) (script_of law qt p steps h.scripted.script)) refl in
       let four = subst (λ (q : Plan Scripted). EndsIn told (then_plan q (trace_scripted c)) o) goes three in
       let last : traced (over p steps) st ≡ o = file_goes told o {A = ⊥} Schedule c st (λ text. ends (traced (over p steps) text)) ic third four in
-      subst IsProved (sym (traced_so p steps (pt, is) st s later h.schedule h.run) ∙ last) refl
+      subst IsProved (sym (traced_so p steps (pt, is) st s later (law.schedules_read p.names p.processes st s h.schedule) h.run) ∙ last) refl

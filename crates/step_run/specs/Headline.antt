@@ -8,7 +8,7 @@ use Rattle.st_form.specs.Formula.{Situation}
 use Rattle.st_form.specs.declared.conditions.TransName.{TransName}
 use Rattle.st_certificate.specs.Tree.{Tree}
 use Rattle.temporal_goals.specs.Texts.{PlainStep}
-use Rattle.obligation_laws.specs.Obligations.{HoldsOnRuns}
+use Rattle.fair_runs.specs.Kept.{IsKept}
 use Rattle.observations.specs.Observation.{Observation}
 use Rattle.spl_semantics.specs.Runs.{State, IsSeenOf}
 use Rattle.spl_typer.specs.Programs.{Typed}
@@ -29,9 +29,9 @@ use Rattle.step_run.specs.Verified.{nodes_in}
 use Rattle.step_run.specs.Scheduled.{start_of}
 use Rattle.step_run.specs.WellFormed.{IsProgram, Checks, Decides, Traces, AreShort, IsShort}
 
--- each goal holds on every run of the program
+-- each goal holds on every run of the program and along every fair sequence of its states, and each response is met
 abbrev pub Hold : Typed → List PlainStep → Type 0
-Hold p steps = All (λ s. HoldsOnRuns p.processes p.initial s.goal) steps
+Hold p steps = All (λ s. IsKept p.processes p.initial s.goal) steps
 
 -- what is judged of the goal of each step
 abbrev pub AreJudged : Observation Situation → List PlainStep → List Judged → Type 0

@@ -13,7 +13,8 @@ use Rattle.spl_parser.specs.Theorems.{Spells}
 use Rattle.spl_typer.specs.Programs.{Typed, typing}
 use Rattle.spl_typer.specs.ProgramRules.{program_faults}
 use Rattle.proof_grammar.specs.Grammar.{SpellsScript}
-use Rattle.schedule_reader.specs.Schedules.{PlainSchedule, schedule_spelled}
+use Rattle.schedule_reader.specs.Schedules.{PlainSchedule}
+use Rattle.schedule_grammar.specs.Theorems.{SpellsSchedule}
 use Rattle.block_laws.specs.Checked.{whole_text}
 use Rattle.block_laws.specs.Blocks.{HasBlocks}
 use Rattle.step_run.specs.Conditions.{setting_of, words_over, conditions_of, passes_limit}
@@ -58,7 +59,7 @@ pub record Decides (pt qt : List ℕ) (p : Typed) (steps : List PlainStep) (ts :
 pub record Traces (pt qt st : List ℕ) (p : Typed) (steps : List PlainStep) (s : PlainSchedule)
     (later : List (TransName × State)) : Type 0 where
   pub scripted : IsScripted pt qt p steps
-  pub schedule : schedule_spelled p.names p.processes st ≡ Ok s
+  pub schedule : SpellsSchedule p.names p.processes st s
   pub run : IsRunOfSchedule p s later
 
 -- texts of a program and of a proof are at most 2^22 bytes long, and those of certificates at most 2^28

@@ -6,6 +6,7 @@ ghost use Rattle.step_run.specs.Decided.{PlansAreDecided};
 use block_laws::laws::blocks_are_exact;
 use proof_grammar::laws::{read_scripts_are_spelled, spelled_scripts_are_read};
 use proof_script::laws::{scripts_are_over, scripts_are_proofs};
+use schedule_grammar::laws::{read_schedules_are_spelled, spelled_schedules_are_read};
 use script_bounds::laws::over_is_written;
 use script_laws::laws::{scripts_are_within, scripts_prove};
 use search_laws::laws::certificates_are_valid;
@@ -23,6 +24,8 @@ pub fn status_zero_is_exact()
     read_is_typed();
     read_scripts_are_spelled();
     spelled_scripts_are_read();
+    read_schedules_are_spelled();
+    spelled_schedules_are_read();
     scripts_are_proofs();
     scripts_are_over();
     over_is_written();

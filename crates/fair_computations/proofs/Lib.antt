@@ -1,0 +1,13 @@
+pub mod Beginnings
+pub mod Coming
+pub mod Highest
+pub mod Naming
+pub mod Paying
+pub mod Eventually
+pub mod Endless
+pub mod Fairly
+pub mod Levels
+pub mod Scheduled
+pub mod Settling
+pub mod Sparse
+pub mod Undecided

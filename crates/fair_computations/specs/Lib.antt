@@ -1,0 +1,4 @@
+pub mod Computations
+pub mod Fair
+pub mod Endless
+pub mod Goals

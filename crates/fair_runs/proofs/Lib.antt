@@ -1,0 +1,9 @@
+pub mod Seen
+pub mod Programs
+pub mod Places
+pub mod Sequences
+pub mod NamedSequences
+pub mod Joined
+pub mod GoesOn
+pub mod Meeting
+pub mod Keeping

@@ -1,0 +1,5 @@
+pub mod Programs
+pub mod Goals
+pub mod Sequences
+pub mod Meeting
+pub mod Kept

@@ -1,0 +1,4 @@
+pub mod Beginning
+pub mod Chaining
+pub mod Following
+pub mod Waiting

@@ -1,0 +1,45 @@
+//! `milkhour`, the prover as people meet it: words, files, streams, and what it says of the answers of `step`.
+#![tactic(auto)]
+
+mod answering;
+mod explaining;
+mod given;
+mod stepping;
+mod streams;
+mod trouble;
+mod working;
+
+use host_outside::given_words;
+use milkhour_run::Status;
+use milkhour_words::{Request, read_words};
+use std::process::ExitCode;
+use std::rt::Runtime;
+use std::thread::{Builder, Threads};
+use trouble::Trouble;
+
+/// Bytes of stack, as many as `step` has.
+const STACK: usize = 1 << 28;
+
+/// Does what the words ask for, and answers the status.
+fn run<R: Runtime + AllocGlobal + Threads + Sync>(rt: &R) -> Result<u8, Trouble> {
+    let words = given_words(rt)?;
+    match read_words(rt.alloc(), words.as_slice()) {
+        Ok(Request::Step) => Ok(stepping::step(rt, &words)),
+        Ok(Request::Explain(word)) => explaining::explain(rt, word),
+        Ok(Request::Work(work)) => working::work(rt, &work),
+        Err(refusal) => streams::refuse_words(rt, &refusal),
+    }
+}
+
+fn main(rt: HostRuntime) -> ExitCode {
+    let work = move || -> u8 {
+        match run(&rt) {
+            Ok(status) => status,
+            Err(trouble) => streams::tell_trouble(&rt, &trouble),
+        }
+    };
+    match Builder::new().stack_size(STACK).spawn(&rt, work) {
+        Ok(thread) => ExitCode::from(thread.join(&rt)),
+        Err(_) => ExitCode::from(Status::Memory.number()),
+    }
+}

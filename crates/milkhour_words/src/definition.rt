@@ -1,0 +1,79 @@
+//! The table of commands as it is defined for clap.
+
+use crate::commands::{COMMANDS, CommandRow, VERSION};
+use crate::options::{OptionRow, OptionValue};
+use clap::builder::ValueParser;
+use clap::{Arg, Command, value_parser};
+use std::alloc::{AllocError, Global};
+
+const STATUSES: &str =
+    "Status 0: proved; 1: not proved; 2: words; 3: program; 4: proof; 5: trailing text; 6: reading; 7: writing; 8: a limit; 9: memory;\n10 to 12: schedule; 13: equations. `milkhour explain 1` says more.";
+
+fn named_arg<'a>(alloc: Global, row: &OptionRow) -> Arg<'a> {
+    let arg = Arg::new(alloc, row.long).long(row.long).help(row.help);
+    match row.short {
+        Some(short) => arg.short(short),
+        None => arg,
+    }
+}
+
+fn choice_arg<'a>(
+    arg: Arg<'a>,
+    name: &'a str,
+    choices: &'a [&'a str],
+    default: &'a str,
+) -> Arg<'a> {
+    arg.value_name(name)
+        .value_parser(ValueParser::Names(choices))
+        .default_value(default)
+}
+
+fn number_arg<'a>(arg: Arg<'a>, least: i64, most: i64, default: &'a str) -> Arg<'a> {
+    arg.value_name("N")
+        .value_parser(value_parser!(u64).range(least..=most))
+        .default_value(default)
+}
+
+fn option_arg<'a>(alloc: Global, row: &OptionRow) -> Arg<'a> {
+    let arg = named_arg(alloc, row);
+    match row.value {
+        OptionValue::Word(name) => arg.value_name(name),
+        OptionValue::Choice(name, choices, default) => choice_arg(arg, name, choices, default),
+        OptionValue::Number(least, most, default) => number_arg(arg, least, most, default),
+    }
+}
+
+fn files_arg<'a>(alloc: Global, row: &CommandRow) -> Arg<'a> {
+    Arg::new(alloc, "files")
+        .value_name(row.files.usage)
+        .num_args(row.files.least..=row.files.most)
+        .required(0 < row.files.least)
+        .help(row.files.help)
+}
+
+fn subcommand<'a>(alloc: Global, row: &CommandRow) -> Result<Command<'a>, AllocError> {
+    let mut command = Command::new(alloc, row.name)
+        .about(row.about)
+        .override_usage(row.usage)
+        .after_help(row.example)
+        .arg(files_arg(alloc, row))?;
+    for option in row.options {
+        command = command.arg(option_arg(alloc, option))?;
+    }
+    Ok(command)
+}
+
+/// The command line, with all commands.
+pub fn command_line<'a>(alloc: Global) -> Result<Command<'a>, AllocError> {
+    let mut line = Command::new(alloc, "milkhour")
+        .bin_name("milkhour")?
+        .version(VERSION)
+        .about("A deductive prover for concurrent programs")
+        .after_help(STATUSES)
+        .subcommand_required(true)
+        .arg_required_else_help(true);
+    for row in COMMANDS.as_slice() {
+        line = line.subcommand(subcommand(alloc, row)?)?;
+    }
+    Ok(line)
+}

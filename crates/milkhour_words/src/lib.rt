@@ -1,0 +1,13 @@
+//! The command line of `milkhour`, as one table, and the reader of words over it.
+#![tactic(auto)]
+
+mod commands;
+mod definition;
+mod options;
+mod reading;
+mod request;
+
+pub use commands::{COMMANDS, CommandRow, FileRow, VERSION};
+pub use options::{OptionRow, OptionValue};
+pub use reading::read_words;
+pub use request::{FileNames, Format, Options, Request, Task, Work};

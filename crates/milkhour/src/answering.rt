@@ -1,12 +1,10 @@
 //! The five tasks whose status is that of `step`.
 
 use crate::given::{Given, GivenText};
-use crate::reports::{Answered, shown};
-use crate::streams::{Streams, style_of, write_remark, write_result};
+use crate::streams::{write_remark, write_result};
 use crate::trouble::Trouble;
 use milkhour_run::{Answer, Question, Status, answer};
 use milkhour_words::{Format, Options};
-use screens::Style;
 use std::alloc::{AllocError, Global};
 use std::rt::Runtime;
 use std::str;
@@ -61,40 +59,25 @@ fn tell<R: Runtime + AllocGlobal>(
     given: &Given<'_>,
     options: &Options<'_>,
     answer: &Answer,
-    style: Style,
 ) -> Result<(), Trouble> {
     if answer.status == Status::ReadFault && options.format == Format::Text {
         return tell_unreadable(rt, given);
     }
-    let answered = Answered {
-        question,
-        given,
-        options,
-        answer,
-        style,
-    };
-    let shown = shown(rt.alloc(), &answered)?;
+    let text = answer.text.as_slice();
     if options.format == Format::Text && !is_result(question, answer.status) {
-        write_remark(rt, str::from_utf8(shown.text.as_slice()).unwrap_or(""))?;
-    } else {
-        write_result(rt, options.output, shown.text.as_slice())?;
+        return write_remark(rt, str::from_utf8(text).unwrap_or(""));
     }
-    match shown.remark {
-        Some(remark) => write_remark(rt, remark.as_str()),
-        None => Ok(()),
-    }
+    write_result(rt, options.output, text)
 }
 
 /// Answers a question over the texts. The status is that of the answer, whatever is said of it.
 pub fn answered<R: Runtime + AllocGlobal + Threads + Sync>(
     rt: &R,
-    streams: Streams,
     question: Question,
     given: &Given<'_>,
     options: &Options<'_>,
 ) -> Result<u8, Trouble> {
     let answer = answer(rt, rt.alloc(), question, options.workers, &given.texts())?;
-    let style = style_of(rt, streams, options.colour);
-    tell(rt, question, given, options, &answer, style)?;
+    tell(rt, question, given, options, &answer)?;
     Ok(answer.status.number())
 }

@@ -59,20 +59,6 @@ impl Given<'_> {
             third: bytes_of(&self.third),
         }
     }
-
-    pub fn third_name(&self) -> &str {
-        match &self.third {
-            Some(third) => third.name,
-            None => self.program.name,
-        }
-    }
-
-    pub fn proof_name(&self) -> &str {
-        match &self.proof {
-            Some(proof) => proof.name,
-            None => self.program.name,
-        }
-    }
 }
 
 fn read_text<'a, R: Runtime + AllocGlobal>(rt: &R, name: &'a str, most: u64) -> GivenText<'a> {
@@ -100,7 +86,7 @@ fn inputs(files: &FileNames<'_>) -> u32 {
     program.saturating_add(proof).saturating_add(third)
 }
 
-fn most_of_third(task: Task<'_>) -> u64 {
+fn most_of_third(task: Task) -> u64 {
     if task == Task::Check {
         MOST_OF_CERTIFICATES
     } else {
@@ -140,9 +126,9 @@ fn parting<'a>(
 }
 
 /// Reads the texts that a task names.
-pub fn given<'a, R: Runtime + AllocGlobal>(
+pub fn read_files<'a, R: Runtime + AllocGlobal>(
     rt: &R,
-    task: Task<'_>,
+    task: Task,
     files: &FileNames<'a>,
 ) -> Result<Given<'a>, Trouble> {
     let alloc = rt.alloc();

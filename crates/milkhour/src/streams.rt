@@ -5,49 +5,8 @@ use clap::Error;
 use clap::error::ErrorKind;
 use host_outside::replace_file;
 use milkhour_run::Status;
-use milkhour_words::Colour;
-use screens::Style;
-use std::env;
 use std::io::{self, Eprint, Print, Write};
-use std::rt::{Env, Files};
-
-/// What is known of the streams when the run begins.
-#[derive(Clone, Copy)]
-pub struct Streams {
-    /// Whether standard output is a terminal.
-    pub is_terminal: bool,
-}
-
-/// Columns of a terminal that doesn't say how many it has.
-const WIDTH: usize = 100;
-
-/// How many columns there are, as `COLUMNS` says.
-fn columns<R: Env + AllocGlobal>(rt: &R) -> usize {
-    match env::var(rt, "COLUMNS") {
-        Ok(text) => text.parse::<usize>().unwrap_or(WIDTH).clamp(20, 1000),
-        Err(_) => WIDTH,
-    }
-}
-
-/// How reports are written.
-pub fn style_of<R: Env + AllocGlobal>(rt: &R, streams: Streams, colour: Colour) -> Style {
-    Style {
-        colour: has_colours(rt, streams, colour),
-        width: columns(rt),
-    }
-}
-
-/// Whether the report has colours: as the option says, or on a terminal unless `NO_COLOR` is set to something.
-fn has_colours<R: Env + AllocGlobal>(rt: &R, streams: Streams, colour: Colour) -> bool {
-    match colour {
-        Colour::Always => true,
-        Colour::Never => false,
-        Colour::Auto => match env::var(rt, "NO_COLOR") {
-            Ok(text) if !text.is_empty() => false,
-            _ => streams.is_terminal,
-        },
-    }
-}
+use std::rt::Files;
 
 /// Prints help, the version, or what is wrong with the words, and answers the status.
 pub fn refuse_words<R: Print + Eprint>(rt: &R, refusal: &Error) -> Result<u8, Trouble> {

@@ -1,7 +1,7 @@
 //! The reader of words.
 
 use crate::definition::command_line;
-use crate::request::{Colour, FileNames, Format, Options, Request, Task, Work};
+use crate::request::{FileNames, Format, Options, Request, Task, Work};
 use clap::error::ErrorKind;
 use clap::{ArgMatches, Error};
 use std::alloc::Global;
@@ -9,17 +9,7 @@ use std::alloc::Global;
 fn format_named(name: Option<&str>) -> Format {
     match name {
         Some("plain") => Format::Plain,
-        Some("json") => Format::Json,
-        Some("html") => Format::Html,
         _ => Format::Text,
-    }
-}
-
-fn colour_named(name: Option<&str>) -> Colour {
-    match name {
-        Some("always") => Colour::Always,
-        Some("never") => Colour::Never,
-        _ => Colour::Auto,
     }
 }
 
@@ -32,45 +22,30 @@ fn number(matches: &ArgMatches<'_>, id: &str, otherwise: u32) -> u32 {
 }
 
 fn options_of<'a>(matches: &ArgMatches<'a>) -> Options<'a> {
-    let limit = if matches.get_flag("first") {
-        1
-    } else {
-        number(matches, "limit", 20)
-    };
     Options {
         format: format_named(matches.get_str("format")),
-        colour: colour_named(matches.get_str("color")),
-        limit,
         workers: number(matches, "workers", 1).clamp(1, 64),
         output: matches.get_str("output"),
     }
 }
 
-fn task_named<'a>(name: &str, matches: &ArgMatches<'a>) -> Option<Task<'a>> {
+fn task_named(name: &str) -> Option<Task> {
     match name {
         "verify" => Some(Task::Verify),
         "check" => Some(Task::Check),
         "prove" => Some(Task::Prove),
         "trace" => Some(Task::Trace),
         "invariants" => Some(Task::Invariants),
-        "find" => Some(Task::Find {
-            budget: number(matches, "budget", 200_000) as u64,
-        }),
-        "conditions" => Some(Task::Conditions {
-            only: matches.get_str("only"),
-            smt: matches.get_flag("smt"),
-        }),
-        "draw" => Some(Task::Draw),
         _ => None,
     }
 }
 
 /// Whether the last file is one of certificates, or a schedule.
-fn has_third(task: Task<'_>) -> bool {
+fn has_third(task: Task) -> bool {
     matches!(task, Task::Check | Task::Trace)
 }
 
-fn file_names<'a>(task: Task<'_>, names: &[&'a str]) -> Option<FileNames<'a>> {
+fn file_names<'a>(task: Task, names: &[&'a str]) -> Option<FileNames<'a>> {
     match (names, has_third(task)) {
         ([program], false) => Some(FileNames {
             program,
@@ -97,7 +72,7 @@ fn file_names<'a>(task: Task<'_>, names: &[&'a str]) -> Option<FileNames<'a>> {
 }
 
 fn work_of<'a>(name: &str, matches: &ArgMatches<'a>) -> Option<Work<'a>> {
-    let task = task_named(name, matches)?;
+    let task = task_named(name)?;
     let files = file_names(task, matches.get_strs("files")?)?;
     Some(Work {
         task,

@@ -6,32 +6,16 @@ pub enum Format {
     Text,
     /// The exact text of `step`.
     Plain,
-    Json,
-    Html,
-}
-
-/// When colours are used.
-#[derive(Clone, Copy, Debug, PartialEq, Eq)]
-pub enum Colour {
-    /// Where the text goes to a terminal and `NO_COLOR` isn't set.
-    Auto,
-    Always,
-    Never,
 }
 
 /// The work that a command does.
 #[derive(Clone, Copy, Debug, PartialEq, Eq)]
-pub enum Task<'a> {
+pub enum Task {
     Verify,
     Check,
     Prove,
     Trace,
     Invariants,
-    /// At most so many questions are put to the prover.
-    Find { budget: u64 },
-    /// The condition or step that is named, or all; and whether it is written as SMT-LIB 2.
-    Conditions { only: Option<&'a str>, smt: bool },
-    Draw,
 }
 
 /// The files that are named. Without the name of a proof, program and proof stand in one file.
@@ -47,9 +31,6 @@ pub struct FileNames<'a> {
 #[derive(Clone, Copy, Debug, PartialEq, Eq)]
 pub struct Options<'a> {
     pub format: Format,
-    pub colour: Colour,
-    /// The most conditions that are shown.
-    pub limit: u32,
     pub workers: u32,
     /// The file that the result goes to, in place of standard output.
     pub output: Option<&'a str>,
@@ -58,7 +39,7 @@ pub struct Options<'a> {
 /// A task over files.
 #[derive(Clone, Copy, Debug, PartialEq, Eq)]
 pub struct Work<'a> {
-    pub task: Task<'a>,
+    pub task: Task,
     pub files: FileNames<'a>,
     pub options: Options<'a>,
 }

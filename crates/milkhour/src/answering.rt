@@ -35,7 +35,7 @@ fn unreadable(alloc: Global, text: &GivenText<'_>) -> Result<Option<String>, All
 }
 
 /// Says which files couldn't be read, and why.
-pub fn tell_unreadable<R: Runtime + AllocGlobal>(rt: &R, given: &Given<'_>) -> Result<(), Trouble> {
+fn tell_unreadable<R: Runtime + AllocGlobal>(rt: &R, given: &Given<'_>) -> Result<(), Trouble> {
     let alloc = rt.alloc();
     for text in [
         Some(&given.program),
@@ -51,8 +51,8 @@ pub fn tell_unreadable<R: Runtime + AllocGlobal>(rt: &R, given: &Given<'_>) -> R
     Ok(())
 }
 
-/// Prints an answer where it belongs: the exact text and documents for machines on standard output or in the file, as
-/// results are, and refusals for people on standard error.
+/// Prints an answer where it belongs: results, and whatever is said in plain format, on standard output or in the file, and
+/// refusals on standard error.
 fn tell<R: Runtime + AllocGlobal>(
     rt: &R,
     question: Question,

@@ -4,11 +4,9 @@
 mod answering;
 mod held_texts;
 mod question;
-mod refuting;
 mod step_words_of;
 
 pub use answering::answer;
 pub use held_texts::Texts;
 pub use question::Question;
-pub use refuting::{Refutation, refuted};
 pub use step_answers::{Answer, Status};

@@ -1,0 +1,51 @@
+//! The page of the equations that were found for a program.
+
+use crate::frame::{push_end, push_head, push_headline};
+use crate::page::Page;
+use crate::sources::{Role, push_source};
+use proof_reports::{Equation, EquationReport};
+use st_memory::Memory;
+use std::alloc::Global;
+
+fn push_equation(page: &mut Page, equation: &Equation) -> Result<(), Memory> {
+    match &equation.text {
+        Some(text) => page.inside("<pre>", text, "</pre>\n"),
+        None => page.inside(
+            "<p class=\"faint\">left out: <code>",
+            &equation.name,
+            "</code></p>\n",
+        ),
+    }
+}
+
+/// The page of the equations of a program: the report, and the program's text.
+pub fn equation_page(
+    alloc: Global,
+    report: &EquationReport,
+    program: &[u8],
+) -> Result<Vec<u8>, Memory> {
+    let title = format!(in alloc;
+        "{}: {} equations that hold on every run",
+        report.program,
+        report.equations.len()
+    )?;
+    let mut page = Page::new(alloc);
+    push_head(&mut page, &title)?;
+    push_headline(&mut page, !report.equations.is_empty(), &title)?;
+    page.markup("<main>\n<section>\n")?;
+    push_source(
+        alloc,
+        &mut page,
+        Role::Program,
+        &report.program,
+        program,
+        &[],
+    )?;
+    page.markup("</section>\n<section>\n<h2>Equations</h2>\n")?;
+    for equation in &report.equations {
+        push_equation(&mut page, equation)?;
+    }
+    page.markup("</section>\n</main>\n")?;
+    push_end(&mut page)?;
+    Ok(page.finish())
+}

@@ -1,0 +1,38 @@
+-- The numbers of open conditions, from their places.
+use Rattle.std.proofs.Common.{◌≡◌, ◌∙◌, ℕ, List, [], ◌∷◌, map, length, refl, ap, sym}
+use Rattle.std.specs.Prelude.{Option, Some, None, IfSome, Result, Ok, Err, IfOk, take}
+use Rattle.std.proofs.lemmas.List.{length-map, take-map}
+use Rattle.discharge.specs.declared.marks.Undecided.{Undecided}
+use Rattle.discharge.specs.Marked.{place_of}
+use Rattle.posed_conditions.specs.declared.translated.TranslatedProgram.{TranslatedProgram}
+use Rattle.posed_conditions.specs.declared.scripts.PosedScript.{PosedScript}
+use Rattle.posed_conditions.specs.Translated.{IsOfText}
+use Rattle.posed_conditions.specs.Posed.{IsPosedBy}
+use Rattle.proof_reports.specs.declared.proofs.Report.{Report}
+use Rattle.explanations.specs.Explained.{IsExplained, number, number_in, number_of, open_places}
+
+numbers_are : (us : List Undecided) → map number_of us ≡ map number (map place_of us)
+numbers_are [] = refl
+numbers_are (u ∷ us) = ap (λ (l : List ℕ). number_of u ∷ l) (numbers_are us)
+
+module _ (program proof : List ℕ) (x : TranslatedProgram) (p : PosedScript) (limit : ℕ) (of : IsOfText program x) (by : IsPosedBy proof x p) (us : List Undecided) (all : map place_of us ≡ open_places x p) where
+  -- what is told of those that were found is told of all that are open
+  tells : (r : Report) → r.conditions ≡ length p.conditions.items → r.numbers.items ≡ map number_of us → r.failing ≡ length us
+      → map number_in r.failures.items ≡ map number_of (take limit us) → IsExplained program proof limit r
+  tells r conditions numbers failing first = record {
+    source = x;
+    posed = p;
+    of = of;
+    by = by;
+    conditions = conditions;
+    all = numbers ∙ numbers_are us ∙ ap (map number) all;
+    failing = failing ∙ sym (length-map us number_of) ∙ ap length (sym numbers);
+    first = first ∙ sym (take-map number_of limit us) ∙ ap (take limit) (sym numbers);
+  }
+
+  pub explained : {E : Type 0} (r : Result (Option Report) E) → IfOk r (λ o. IfSome o (λ r. r.conditions ≡ length p.conditions.items)) → IfOk r (λ o. IfSome o (λ r. r.numbers.items ≡ map number_of us))
+      → IfOk r (λ o. IfSome o (λ r. r.failing ≡ length us)) → IfOk r (λ o. IfSome o (λ r. map number_in r.failures.items ≡ map number_of (take limit us)))
+      → IfOk r (λ o. IfSome o (IsExplained program proof limit))
+  explained (Ok (Some report)) conditions numbers failing first = tells report conditions numbers failing first
+  explained (Ok None) conditions numbers failing first = conditions
+  explained (Err e) conditions numbers failing first = conditions

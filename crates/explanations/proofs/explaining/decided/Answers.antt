@@ -1,0 +1,21 @@
+use Rattle.std.proofs.Common.{◌∙◌, ap, map, sym, subst}
+use Rattle.discharge.specs.Marked.{place_of}
+use Rattle.explanations.specs.Explained.{AllStand, setting_of}
+use Rattle.explanations.proofs.Counted.{explained}
+use Rattle.explanations.proofs.Standing.{open_stand}
+use Rattle.explanations.proofs.explaining.decided.Goals as goal
+
+pub reported-requires : goal.reported-requires
+reported-requires c =
+    let x = c.args.posed.now.source in
+    let p = c.args.posed.now.proof in
+    let stand = open_stand x p (setting_of x) c.in_ok-left.left.items c.requires.by.made c.in_ok-left.ensures.right in
+    record { translated = c.requires.of.made; stand = subst (AllStand p) (sym c.deref.ensures.value) stand }
+
+pub returns : goal.returns
+returns c =
+    let x = c.args.posed.now.source in
+    let p = c.args.posed.now.proof in
+    let all = ap (map place_of) c.deref.ensures.value ∙ c.in_ok-left.ensures.all in
+    explained c.args.texts.now.program.now c.args.texts.now.proof.now x p c.args.limit c.requires.of c.requires.by c.deref.result.now all
+    c.reported.result c.reported.ensures.conditions c.reported.ensures.numbers c.reported.ensures.failing c.reported.ensures.first

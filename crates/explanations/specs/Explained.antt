@@ -1,0 +1,53 @@
+-- What a report tells of a proof over a program: the numbers of all conditions that aren't decided valid, and the first of them explained.
+use Rattle.std.specs.Prelude.{◌≡◌, ◌<◌, ℕ, ◌+◌, ◌-◌, ◌^◌, List, length, map, min, take, slice_get, Some}
+use Rattle.st_form.specs.declared.conditions.Condition.{Condition}
+use Rattle.farkas_check.specs.Problem.{Setting}
+use Rattle.farkas_check.specs.PlainProblem.{setting}
+use Rattle.discharge.specs.declared.marks.Undecided.{Undecided}
+use Rattle.discharge.specs.Marked.{place_of}
+use Rattle.discharge.specs.Searched.{marks}
+use Rattle.open_conditions.specs.Open.{places_of_false}
+use Rattle.posed_conditions.specs.declared.translated.TranslatedProgram.{TranslatedProgram}
+use Rattle.posed_conditions.specs.declared.scripts.PosedScript.{PosedScript}
+use Rattle.posed_conditions.specs.Translated.{IsOfText}
+use Rattle.posed_conditions.specs.Posed.{IsPosedBy}
+use Rattle.proof_reports.specs.declared.proofs.Failure.{Failure}
+use Rattle.proof_reports.specs.declared.proofs.Report.{Report}
+
+-- what conditions of a program are about
+abbrev pub setting_of : TranslatedProgram → Setting
+setting_of x = setting x.components x.program.variables
+
+-- the places of the conditions that aren't decided valid, from 0
+abbrev pub open_places : TranslatedProgram → PosedScript → List ℕ
+open_places x p = places_of_false 0 (marks (setting_of x) p.conditions.items)
+
+-- a place from 0 as a number from 1. There are at most 20,000 conditions; a place past 2^64 would stay there
+abbrev pub number : ℕ → ℕ
+number place = min (place + 1) (2 ^ 64 - 1)
+
+abbrev pub number_of : Undecided → ℕ
+number_of u = number (place_of u)
+
+-- the number of the condition that a failure explains
+abbrev pub number_in : Failure → ℕ
+number_in f = f.number
+
+-- a condition of a step stands at the place
+abbrev pub Stands : PosedScript → Undecided → Type 0
+Stands p u = (c : Condition) × (slice_get p.conditions.items u.place ≡ Some c) × (c.name.step < length p.script.steps.items)
+
+abbrev pub AllStand : PosedScript → List Undecided → Type 0
+AllStand p us = (i : ℕ) (u : Undecided) → slice_get us i ≡ Some u → Stands p u
+
+-- the report tells of the proof that one text spells over the program of another: all conditions that aren't decided valid, how
+-- many they are of how many, and the first so many of them explained
+pub record IsExplained (program proof : List ℕ) (limit : ℕ) (r : Report) : Type 0 where
+  pub source : TranslatedProgram
+  pub posed : PosedScript
+  pub of : IsOfText program source
+  pub by : IsPosedBy proof source posed
+  pub conditions : r.conditions ≡ length posed.conditions.items
+  pub all : r.numbers.items ≡ map number (open_places source posed)
+  pub failing : r.failing ≡ length r.numbers.items
+  pub first : map number_in r.failures.items ≡ take limit r.numbers.items

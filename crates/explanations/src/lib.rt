@@ -1,0 +1,21 @@
+//! What a proof lacks, as plain data: its steps with how many of their conditions hold, and each condition that isn't decided
+//! valid with its place in both texts, the states before and behind the step, the false part of the claim, and what would help.
+#![tactic(auto)]
+
+mod cases;
+mod excluding;
+mod explaining;
+mod failures;
+mod mentions;
+mod nets;
+mod parts;
+mod sentences;
+mod sources;
+mod spots;
+mod steps;
+mod tables;
+mod turns;
+
+pub use explaining::{explain, outline};
+pub use proof_reports::{Case, Failure, Item, Report, Row, Spot, StepReport, Turn};
+pub use sources::Texts;

@@ -1,0 +1,28 @@
+use Rattle.step_run.proofs.Headline.{Laws}
+use Rattle.first_failures.proofs.Failing.{fail_first}
+use Rattle.first_failures.proofs.laws.searches_fail_first.Goals as goal
+
+pub returns : goal.returns
+returns c =
+    let law : Laws = record {
+      spelled = c.what_is_read_is_spelled.ensures;
+      scripts_spelled = c.read_scripts_are_spelled.ensures;
+      scripts_read = c.spelled_scripts_are_read.ensures;
+      schedules_spelled = c.read_schedules_are_spelled.ensures;
+      schedules_read = c.spelled_schedules_are_read.ensures;
+      typed = c.read_is_typed.ensures;
+      proofs = c.scripts_are_proofs.ensures;
+      over = c.scripts_are_over.ensures;
+      written = c.over_is_written.ensures;
+      within = c.scripts_are_within.ensures;
+      prove = c.scripts_prove.ensures;
+      blocks = c.blocks_are_exact.ensures;
+      valid = c.certificates_are_valid.ensures;
+    } in
+    fail_first (record {
+      below = law;
+      ordered = c.programs_are_in_order.ensures;
+      end_there = c.searches_end_there.ensures;
+      refute = c.shown_states_refute.ensures;
+      hold = c.open_problems_hold_at_points.ensures;
+    })

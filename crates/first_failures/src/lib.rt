@@ -1,0 +1,4 @@
+//! What status 1 of a search for certificates says: a law over the plans of runs.
+#![tactic(auto)]
+
+pub mod laws;

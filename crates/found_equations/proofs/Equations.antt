@@ -1,0 +1,87 @@
+-- What is so of the equations that are found for a program.
+use Rattle.std.proofs.Common.{◌≡◌, ℕ, zero, suc, ◌<◌, List, [], ◌∷◌, length, map, Some, refl, ◌∙◌, sym, subst, arith}
+use Rattle.std.specs.Prelude.{All, slice_get}
+use Rattle.st_linear.specs.Linear.{AreEntries, AllBelow}
+use Rattle.st_program.specs.Programs as programs
+use Rattle.control_states.specs.Control.{ControlFacts}
+use Rattle.control_facts.specs.Alternatives.{control_of}
+use Rattle.control_facts.proofs.Owners.{owners_count, owners_named}
+use Rattle.elimination_laws.proofs.Mixes.{map-some}
+use Rattle.null_laws.specs.Reduction.{Entries}
+use Rattle.null_laws.specs.Bases.{AllMeet}
+use Rattle.transition_system.specs.Systems.{System}
+use Rattle.transition_system.specs.Bounds.{IsSystem}
+use Rattle.spl_translation.specs.Translation.{translation}
+use Rattle.spl_translation.proofs.Corresponding.{corresponds}
+use Rattle.spl_translation.proofs.Systemic.{translation_is_system}
+use Rattle.spl_typer.specs.Programs.{Typed}
+use Rattle.equation_laws.specs.Space.{variables_of}
+use Rattle.equation_laws.specs.Rows.{basis_of}
+use Rattle.equation_laws.specs.Equations.{PlainEquation, AreFound, equation_of, with_variables, found_in, found}
+use Rattle.equation_laws.proofs.Within.{the-basis}
+use Rattle.equation_laws.proofs.Founds.{echelon-entries, with-meets, between-entries, between-below}
+use Rattle.equation_forms.specs.Formulas.{AreOwned}
+use Rattle.equation_forms.proofs.Truths.{says}
+use Rattle.equation_runs.specs.Holding.{AllHold}
+use Rattle.equation_runs.proofs.Holds.{found-hold}
+use Rattle.step_run.specs.Conditions.{system_of}
+use Rattle.found_equations.specs.Said.{AreExact}
+
+-- owners of locations
+owner_at : (n : ℕ) (os : List ℕ) (l : ℕ) → l < length os → All (λ c. c < n) os → (c : ℕ) × (slice_get os l ≡ Some c) × (c < n)
+owner_at n [] l h all = absurd (omega arith)
+owner_at n (o ∷ os) zero h all = (o, refl, all 0 o (omega arith))
+owner_at n (o ∷ os) (suc l) h all = owner_at n os l (omega arith) (λ k d lt. all (suc k) d (omega arith))
+
+all_owned : (k : ControlFacts) (ts : Entries) → All (λ c. c < length k.components) k.owners → AllBelow (length k.owners) ts → AreOwned k ts
+all_owned k [] all h = tt
+all_owned k (t ∷ ts) all h = let o = owner_at (length k.components) k.owners t.0 h.0 all in (o.0, o.1, o.2, all_owned k ts all h.1)
+
+-- what is found, from the basis
+abbrev pub SpansFound : Type 0
+SpansFound = (system : System) (bs : List Entries) → IsSystem system → basis_of system ≡ Some bs → AreFound system (found_in system bs)
+
+module _ (p : Typed) (k : programs.IsProgram p.variables p.initial p.processes p.locations p.statements) where
+  abbrev system : System
+  system = translation p.variables p.initial p.processes p.locations
+
+  is_system : IsSystem system
+  is_system = translation_is_system p.variables p.initial p.processes p.locations p.statements k
+
+  basis_here : SpansFound → (es : List PlainEquation) → found system ≡ Some es → AreFound system es
+  basis_here law es e = let f = map-some (found_in system) (basis_of system) es e in subst (AreFound system) f.2 (law system f.0 is_system f.1)
+
+  hold_here : (es : List PlainEquation) → found system ≡ Some es → AllHold p.processes p.initial es
+  hold_here es e =
+      found-hold p.variables p.initial p.processes p.locations k.well k.typed (corresponds p.variables p.initial p.processes p.locations k.well k.typed k.start) is_system es e
+
+  one_owned : (b : Entries) → AreOwned (control_of p.processes) (equation_of (variables_of system) p.locations b).places
+  one_owned b =
+      all_owned (control_of p.processes) _ (owners_named p.processes)
+      (subst (λ (m : ℕ). AllBelow m (equation_of (variables_of system) p.locations b).places) (sym (owners_count p.processes ∙ sym k.location_count)) (between-below (variables_of system) p.locations b))
+
+  all_exact : (bs : List Entries) → AllMeet AreEntries bs → AreExact p (map (equation_of (variables_of system) p.locations) bs)
+  all_exact [] h = tt
+  all_exact (b ∷ bs) h = (
+    λ place s control. says s (control_of p.processes) place control (equation_of (variables_of system) p.locations b) (one_owned b) (between-entries (variables_of system) p.locations b h.0),
+    all_exact bs h.1,
+  )
+
+  exact_here : (es : List PlainEquation) → found system ≡ Some es → AreExact p es
+  exact_here es e =
+      let f = map-some (found_in system) (basis_of system) es e in
+      let b = the-basis system f.0 is_system f.1 in
+      subst (AreExact p) f.2 (all_exact (with_variables (variables_of system) f.0) (with-meets AreEntries (variables_of system) f.0 (echelon-entries f.0 b.echelon)))
+
+  -- the same of the program's system
+  pub basis : SpansFound → (es : List PlainEquation) → found (system_of p) ≡ Some es → AreFound (system_of p) es
+  unfolding system_of
+  basis law es e = basis_here law es e
+
+  pub hold : (es : List PlainEquation) → found (system_of p) ≡ Some es → AllHold p.processes p.initial es
+  unfolding system_of
+  hold es e = hold_here es e
+
+  pub exact : (es : List PlainEquation) → found (system_of p) ≡ Some es → AreExact p es
+  unfolding system_of
+  exact es e = exact_here es e

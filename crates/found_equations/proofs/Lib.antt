@@ -1,0 +1,3 @@
+pub mod Equations
+pub mod Entering
+pub mod Saying

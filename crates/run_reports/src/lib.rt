@@ -1,0 +1,11 @@
+//! A run that a schedule gives, as plain data: the state at each position with what changed, the move that is taken there, and
+//! what each goal comes to.
+#![tactic(auto)]
+
+mod goals;
+mod positions;
+mod reporting;
+mod standing;
+
+pub use proof_reports::RunReport;
+pub use reporting::{RunTexts, report_run};

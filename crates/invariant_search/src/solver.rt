@@ -1,0 +1,189 @@
+//! Questions about states in which lemmas hold, and about steps into cubes.
+
+use crate::answer::{Answer, Entry, Why};
+use crate::entering::{entry_question, starts_within};
+use crate::known::Known;
+use crate::lemma::{ALWAYS, Allowed, Lemma};
+use crate::moving::behind_step;
+use crate::posed::{Posed, after_asking, first_broken};
+use crate::prover::{Asked, Prover, narrowed, passing};
+use crate::setting::Setting;
+use control_cubes::{Cube, CubeFault, State};
+use st_form::{Condition, SharedForm};
+use st_memory::Memory;
+use st_program::Program;
+use std::alloc::Global;
+
+/// A program, who answers questions about it, and states and steps that were found.
+#[derive(Drop)]
+pub(crate) struct Solver<'a> {
+    pub(crate) setting: Setting<'a>,
+    prover: Prover<'a>,
+    known: Known,
+}
+
+impl<'a> Solver<'a> {
+    pub(crate) fn new(
+        alloc: Global,
+        setting: Setting<'a>,
+        budget: u64,
+    ) -> Result<Solver<'a>, CubeFault> {
+        let program: &'a Program = setting.program;
+        let prover = Prover::new(
+            alloc,
+            setting.components,
+            program.variables.as_slice(),
+            budget,
+        )?;
+        Ok(Solver {
+            setting,
+            prover,
+            known: Known::new(alloc),
+        })
+    }
+
+    pub(crate) fn queries(&self) -> u64 {
+        self.prover.queries()
+    }
+
+    /// Whether the formulas of a question are true together. A state that was found for another question may say so.
+    fn ask(&mut self, alloc: Global, question: &Condition) -> Result<Asked, CubeFault> {
+        let layout = &self.setting.layout;
+        if let Some(state) = self.known.state(layout, &question.given) {
+            return Ok(Asked::State(state.copy(alloc)?));
+        }
+        let asked = self.prover.ask(alloc, layout, question)?;
+        if let Asked::State(state) = &asked {
+            self.known.keep_state(state.copy(alloc)?)?;
+        }
+        Ok(asked)
+    }
+
+    /// Whether the formulas are true together in a state where the lemmas hold that are allowed. Each round but the last gives a lemma
+    /// more.
+    pub(crate) fn solve(
+        &mut self,
+        alloc: Global,
+        lemmas: &[Lemma],
+        forms: Vec<SharedForm>,
+        allowed: Allowed<'_>,
+    ) -> Result<Answer, CubeFault> {
+        let mut posed = Posed::new(alloc, forms)?;
+        for _ in 0..lemmas.len().saturating_add(2) {
+            let asked = self.ask(alloc, &posed.condition)?;
+            if let Some(answer) = after_asking(&self.setting, lemmas, allowed, &mut posed, asked)? {
+                return Ok(answer);
+            }
+        }
+        Ok(Answer::Unknown(Why::Wide))
+    }
+
+    /// Whether a first state of runs is in the cube.
+    pub(crate) fn begins_in(&mut self, alloc: Global, cube: &Cube) -> Result<Answer, CubeFault> {
+        if let Some(state) = self.known.start_in(cube) {
+            return Ok(Answer::State(state.copy(alloc)?));
+        }
+        if !starts_within(&self.setting, cube) {
+            return Ok(Answer::Never(Vec::new(alloc)));
+        }
+        let mut forms = Vec::with_capacity(alloc, 2)?;
+        forms.push(self.setting.initial.share()?)?;
+        let form = cube.form(alloc, self.setting.components, &self.setting.layout)?;
+        forms.push(passing(alloc, form)?)?;
+        let answer = self.solve(alloc, &[], forms, Allowed::From(ALWAYS))?;
+        if let Answer::State(state) = &answer {
+            self.known.keep_start(state.copy(alloc)?)?;
+        }
+        Ok(answer)
+    }
+
+    /// Whether a state is among those that are reached by at most so many steps, as far as lemmas say.
+    fn is_within(&self, lemmas: &[Lemma], level: u32, state: &State) -> bool {
+        if level == 0 {
+            return state.satisfies(&self.setting.layout, self.setting.initial.get());
+        }
+        first_broken(&self.setting, lemmas, Allowed::From(level), state).is_none()
+    }
+
+    /// A step into the cube from outside it that was found before.
+    fn remembered(&self, lemmas: &[Lemma], level: u32, cube: &Cube) -> Option<(&State, u32)> {
+        for passage in self.known.passages().iter().rev() {
+            if passage.enters(cube) && self.is_within(lemmas, level, &passage.from) {
+                return Some((&passage.from, passage.step));
+            }
+        }
+        None
+    }
+
+    /// Remembers a step.
+    fn remember(&mut self, alloc: Global, state: &State, step: u32) -> Result<(), Memory> {
+        if let Some(to) = behind_step(alloc, &self.setting, state, step)? {
+            self.known.keep_passage(state.copy(alloc)?, to, step)?;
+        }
+        Ok(())
+    }
+
+    /// Whether a step leads into the cube from a state outside it where the lemmas hold that are allowed; and for level 1 a first
+    /// state of runs.
+    fn enter_by(
+        &mut self,
+        alloc: Global,
+        lemmas: &[Lemma],
+        cube: &Cube,
+        allowed: Allowed<'_>,
+        first: bool,
+        number: usize,
+    ) -> Result<Answer, CubeFault> {
+        match entry_question(alloc, &self.setting, cube, first, number)? {
+            Some(forms) => self.solve(alloc, lemmas, forms, allowed),
+            None => Ok(Answer::Never(Vec::new(alloc))),
+        }
+    }
+
+    /// Whether any step does.
+    pub(crate) fn enter_by_any(
+        &mut self,
+        alloc: Global,
+        lemmas: &[Lemma],
+        cube: &Cube,
+        allowed: Allowed<'_>,
+        first: bool,
+    ) -> Result<Entry, CubeFault> {
+        let mut used = Vec::new(alloc);
+        for number in 0..self.setting.steps.len() {
+            match self.enter_by(alloc, lemmas, cube, allowed, first, number)? {
+                Answer::Never(more) => used.extend_from_slice(&more)?,
+                Answer::State(state) => return Ok(Entry::Before(state, narrowed(number))),
+                Answer::Unknown(why) => return Ok(Entry::Unknown(why)),
+            }
+        }
+        used.sort_unstable();
+        used.dedup();
+        Ok(Entry::Blocked(used))
+    }
+
+    /// Whether a step leads into the cube from a state outside it that is reached by fewer steps than the level, as far as lemmas
+    /// say.
+    pub(crate) fn enter(
+        &mut self,
+        alloc: Global,
+        lemmas: &[Lemma],
+        cube: &Cube,
+        level: u32,
+    ) -> Result<Entry, CubeFault> {
+        let below = if level == ALWAYS {
+            ALWAYS
+        } else {
+            level.saturating_sub(1)
+        };
+        if let Some((state, step)) = self.remembered(lemmas, below, cube) {
+            return Ok(Entry::Before(state.copy(alloc)?, step));
+        }
+        let allowed = Allowed::From(below.max(1));
+        let entry = self.enter_by_any(alloc, lemmas, cube, allowed, below == 0)?;
+        if let Entry::Before(state, step) = &entry {
+            self.remember(alloc, state, *step)?;
+        }
+        Ok(entry)
+    }
+}

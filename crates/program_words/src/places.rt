@@ -1,5 +1,7 @@
 //! Places in a text, with the line that each stands on.
 
+ghost use Rattle.std.specs.Prelude.{◌≡◌, IfOk};
+
 use proof_reports::Spot;
 use source_lines::Lines;
 use source_places::Span;
@@ -30,7 +32,9 @@ pub fn spot(
     lines: &Lines<'_>,
     span: Span,
     note: &str,
-) -> Result<Spot, Memory> {
+) -> Result<Spot, Memory>
+    ensures { IfOk result (λ s. s.offset ≡ span.from) }
+{
     let from = lines.position(span.from);
     let to = lines.position(span.to);
     Ok(Spot {

@@ -1,0 +1,27 @@
+//! Proofs that are found: of the goals of a text that says nothing of how they are proved.
+//!
+//! Lemmas are found by `invariant_search`; here they become a proof text, as short as it gets, or the schedule of a run on which a goal
+//! fails. What is found is checked by who calls: a text by `verify`, a run by `trace`.
+#![tactic(auto)]
+
+mod answers;
+mod attempts;
+mod candidates;
+mod choosing;
+mod claims;
+mod equations;
+mod finding;
+mod ground;
+mod insertions;
+mod layers;
+mod naming;
+mod progress;
+mod proving;
+mod responding;
+mod schedules;
+mod shortening;
+mod steps;
+mod subject;
+
+pub use answers::{Failing, FindFault, Found, Missing, Unfound, Verifier};
+pub use finding::found;

@@ -9,6 +9,7 @@ mod given;
 mod laying;
 mod listing;
 mod reports;
+mod serving;
 mod stepping;
 mod streams;
 mod trouble;
@@ -34,6 +35,7 @@ fn run<R: Runtime + AllocGlobal + Threads + Sync>(rt: &R, streams: Streams) -> R
         Ok(Request::Step) => Ok(stepping::step(rt, &words)),
         Ok(Request::Explain(word)) => explaining::explain(rt, word),
         Ok(Request::Layout(layout)) => laying::lay_out(rt, &layout),
+        Ok(Request::Serve) => serving::serve(rt),
         Ok(Request::Work(work)) => working::work(rt, streams, &work),
         Err(refusal) => streams::refuse_words(rt, &refusal),
     }

@@ -64,6 +64,13 @@ const TEXT: FileRow = FileRow {
     help: "A program, a proof, or one file with both; - is standard input",
 };
 
+const STREAMS: FileRow = FileRow {
+    least: 0,
+    most: 1,
+    usage: "[--stdio]",
+    help: "What editors add; it speaks over standard input and output in any case",
+};
+
 const WORD: FileRow = FileRow {
     least: 0,
     most: 1,
@@ -78,7 +85,7 @@ const WORDS: FileRow = FileRow {
     help: "The words of step",
 };
 
-pub static COMMANDS: [CommandRow; 11] = [
+pub static COMMANDS: [CommandRow; 12] = [
     CommandRow {
         name: "verify",
         about: "Search for a proof of each condition, and explain those that have none",
@@ -150,6 +157,14 @@ pub static COMMANDS: [CommandRow; 11] = [
         options: &[CHECK, OUTPUT],
         usage: "milkhour fmt [OPTIONS] FILE",
         example: "Examples:\n  milkhour fmt peterson.spl\n  milkhour fmt peterson.spl -o peterson.spl\n  milkhour fmt --check peterson.spl",
+    },
+    CommandRow {
+        name: "lsp",
+        about: "Be a language server for an editor, over standard input and output",
+        files: STREAMS,
+        options: &[],
+        usage: "milkhour lsp [--stdio]",
+        example: "share/ has configurations for neovim, Emacs and VS Code.",
     },
     CommandRow {
         name: "explain",

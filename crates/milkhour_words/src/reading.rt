@@ -125,6 +125,15 @@ fn request_in<'a>(matches: &ArgMatches<'a>) -> Option<Request<'a>> {
     }
 }
 
+/// Whether the words ask for a language server, with what editors add.
+fn asks_to_serve(words: &[String]) -> bool {
+    match words {
+        [_, command] => command.as_str() == "lsp",
+        [_, command, stream] => command.as_str() == "lsp" && stream.as_str() == "--stdio",
+        _ => false,
+    }
+}
+
 /// Reads the words, the program's name first. A refusal prints itself: help and the version on standard output, mistakes on
 /// standard error. Behind `step` no word is looked at.
 pub fn read_words<'a>(alloc: Global, words: &'a [String]) -> Result<Request<'a>, Error> {
@@ -132,6 +141,9 @@ pub fn read_words<'a>(alloc: Global, words: &'a [String]) -> Result<Request<'a>,
         if word.as_str() == "step" {
             return Ok(Request::Step);
         }
+    }
+    if asks_to_serve(words) {
+        return Ok(Request::Serve);
     }
     let mut line = command_line(alloc)?;
     let matches = line.try_get_matches_from_mut(words)?;

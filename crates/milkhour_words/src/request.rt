@@ -84,6 +84,8 @@ pub enum Request<'a> {
     /// The word that is to be explained, or a list of all.
     Explain(Option<&'a str>),
     Layout(Layout<'a>),
+    /// A language server.
+    Serve,
     /// The exact program, over the words from this one on.
     Step,
 }

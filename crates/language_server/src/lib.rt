@@ -1,0 +1,21 @@
+//! A language server for programs and proofs, as a function from messages to messages (*Language Server Protocol Specification*,
+//! 3.17).
+#![tactic(auto)]
+
+mod asked;
+mod definitions;
+mod diagnostics;
+mod documents;
+mod formatting;
+mod framing;
+mod names;
+mod places;
+mod protocol;
+mod replies;
+mod server;
+mod session;
+mod texts;
+
+pub use server::Stage;
+pub use session::Session;
+pub use texts::Disk;

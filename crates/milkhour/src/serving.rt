@@ -13,6 +13,7 @@ use std::rt::Runtime;
 const MOST_OF_FILE: u64 = (1 << 22) + 1;
 
 /// The files of this machine.
+#[derive(Drop)]
 struct HostDisk<'a, R: Runtime + AllocGlobal> {
     rt: &'a R,
 }

@@ -23,14 +23,25 @@ impl<R: Threads + Sync> Judge<'_, R> {
     }
 }
 
+/// Whether `step` verifies a proof of a program.
+fn verifies<'x, R: Threads + Sync>(
+    rt: &R,
+    alloc: Global,
+    workers: u32,
+    program: &'x [u8],
+    proof: &'x [u8],
+) -> Result<bool, Memory> {
+    let texts = Texts {
+        program: Some(program),
+        proof: Some(proof),
+        third: None,
+    };
+    let answer = answer(rt, alloc, Question::Verify, workers, &texts)?;
+    Ok(answer.status == Status::Proved)
+}
+
 impl<R: Threads + Sync> Verifier for Judge<'_, R> {
     fn accepts(&mut self, proof: &[u8]) -> Result<bool, Memory> {
-        let texts = Texts {
-            program: Some(self.program),
-            proof: Some(proof),
-            third: None,
-        };
-        let answer = answer(self.rt, self.alloc, Question::Verify, self.workers, &texts)?;
-        Ok(answer.status == Status::Proved)
+        verifies(self.rt, self.alloc, self.workers, self.program, proof)
     }
 }

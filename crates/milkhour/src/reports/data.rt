@@ -149,7 +149,8 @@ fn equations_told(alloc: Global, account: &Account<'_>) -> Result<Option<Told>, 
         return Ok(None);
     }
     let text = headline(account.answer);
-    let mut report = report_equations(alloc, account.given.program.name, text)?;
+    let given = account.given;
+    let mut report = report_equations(alloc, given.program.name, text)?;
     report.headline = String::from_str(alloc, text)?;
     Ok(Some(Told::Equations(Box::new(alloc, report)?)))
 }

@@ -30,7 +30,8 @@ fn refusal_page(
     };
     let text = refusal_text(alloc, refusal, style)?;
     let is_good = account.answer.status == Status::Proved;
-    Ok(text_page(alloc, account.given.program.name, is_good, text.as_bytes())?)
+    let given = account.given;
+    Ok(text_page(alloc, given.program.name, is_good, text.as_bytes())?)
 }
 
 /// The page of an answer.

@@ -4,6 +4,7 @@
 #   make                      builds the programs, as README does
 #   make install              PREFIX=/usr/local by default; DESTDIR stands before all paths
 #   make uninstall            removes what `make install` with the same PREFIX and DESTDIR has put there
+#   make dist                 packs the built program, the pages and the examples into out/; `make install` works where that is unpacked
 
 PREFIX = /usr/local
 DESTDIR =
@@ -11,6 +12,8 @@ DESTDIR =
 built = crates/milkhour/out/milkhour
 shared := $(shell find share -type f | LC_ALL=C sort)
 prefix = $(DESTDIR)$(PREFIX)
+packed = milkhour-$(shell $(built) --version | sed 's/.* //')-$(shell uname -sm | tr 'A-Z ' 'a-z-')
+pages = README.md CHANGELOG.md CONTRIBUTING.md LICENSE Makefile docs examples share
 
 all:
 	cd crates/step_main && rt run -- check data/program data/proof data/certs
@@ -25,4 +28,12 @@ uninstall:
 	rm -f "$(prefix)/bin/milkhour"
 	for file in $(shared); do rm -f "$(prefix)/$$file" || exit 1; done
 
-.PHONY: all install uninstall
+dist:
+	@test -x $(built) || { echo "$(built) isn't there: make builds it" >&2; exit 1; }
+	rm -rf out/$(packed)
+	install -D -m 755 $(built) out/$(packed)/$(built)
+	cp -r $(pages) out/$(packed)
+	tar -C out -czf out/$(packed).tar.gz --sort=name --owner=0 --group=0 --numeric-owner $(packed)
+	rm -rf out/$(packed)
+
+.PHONY: all install uninstall dist

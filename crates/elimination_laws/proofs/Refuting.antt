@@ -45,7 +45,7 @@ used u (too_wide s) us h = absurd (cc)
 proper : (v w : ℕ) (ts : List Tracked) → AllT (Stays (IsProper v w)) ts → AllT (IsProper v w) ts
 proper v w ts h = AllT-weaker (Stays (IsProper v w)) (IsProper v w) (λ t k. k.0) ts h
 
-through-point : (n v w : ℕ) (ts : List Tracked) (us : List Use) → v + n ≡ w → AllT (Stays (IsProper v w)) ts → stages n v ts ≡ through us → Point (AllGood ts)
+pub through-point : (n v w : ℕ) (ts : List Tracked) (us : List Use) → v + n ≡ w → AllT (Stays (IsProper v w)) ts → stages n v ts ≡ through us → Point (AllGood ts)
 through-point zero v w ts us e h l =
     let none = no_lines v w ts e h in
     record { d = pos 1; s = λ u. pos 0; positive = omega (arith, ints); holds = subst (λ ts. AllGood ts (pos 1) (λ u. pos 0)) (sym none) tt }
@@ -59,7 +59,7 @@ within : (n : ℕ) (es : List (ℕ × ℤ)) → AllBelow n es → AllVars (From 
 within n [] h = tt
 within n (e ∷ es) h = ((omega arith, h.0), within n es h.1)
 
-tracked-proper : (n k : ℕ) (ls : List Line) → AreProper n ls → AllIfMade (IsProper 0 n) (map Some (tracked k ls))
+pub tracked-proper : (n k : ℕ) (ls : List Line) → AreProper n ls → AllIfMade (IsProper 0 n) (map Some (tracked k ls))
 tracked-proper n k [] h = tt
 tracked-proper n k (l ∷ ls) h = (record { entries = h.0; from = within n l.form.entries h.1 }, tracked-proper n (k + 1) ls h.2)
 

@@ -6,7 +6,7 @@ use native.Mathlib.Decide.{dec_le}
 use Rattle.std.specs.declared.option.Option.{Option}
 use Rattle.std.specs.declared.option.Option.TheVariants.{Some, None}
 use Rattle.observations.proofs.Queue.{elem, one_if, true_or_false, picked_elem, elem-rotated, length-rotated}
-use Rattle.observations.proofs.Schedule.{Turn, chosen, turned, turn, turn_at, count, Taken, served_often, turn_more}
+use Rattle.observations.proofs.Schedule.{Turn, chosen, turn, turn_at, count, Taken, elem_turn, length_turn, served_often, turn_more, count_more, disabled_before, enabled_counts}
 
 -- the numbers below n
 abbrev pub down : ℕ → List ℕ
@@ -24,48 +24,13 @@ down_elem x (suc n) h = elim (true_or_false (n == x)) [
     apart n x e h = grind (arith, nat_tests)
 
 module _ {S : Type 0} (en : S → ℕ → Bool) (next : S → ℕ → S) where
-  elem_turn : (x : ℕ) (t : Turn S) → IsTrue (elem x t.queue) → IsTrue (elem x (turn en next t).queue)
-  elem_turn x t h = go (chosen en next t)
-    where
-      go : (c : Option ℕ) → IsTrue (elem x (turned en next c t).queue)
-      go None = h
-      go (Some y) = elem-rotated x y t.queue h
-
-  length_turn : (t : Turn S) → length (turn en next t).queue ≡ length t.queue
-  length_turn t = go (chosen en next t) refl
-    where
-      go : (c : Option ℕ) → chosen en next t ≡ c → length (turned en next c t).queue ≡ length t.queue
-      go None e = refl
-      go (Some y) e = length-rotated y t.queue (picked_elem (en t.state) t.queue y e)
-
   elem_later : (n x : ℕ) (t : Turn S) → IsTrue (elem x t.queue) → IsTrue (elem x (turn_at en next t n).queue)
   elem_later zero x t h = h
-  elem_later (suc n) x t h = elem_later n x (turn en next t) (elem_turn x t h)
+  elem_later (suc n) x t h = elem_later n x (turn en next t) (elem_turn en next x t h)
 
   length_later : (n : ℕ) (t : Turn S) → length (turn_at en next t n).queue ≡ length t.queue
   length_later zero t = refl
-  length_later (suc n) t = length_later n (turn en next t) ∙ length_turn t
-
-  count_more : (x a b : ℕ) (t : Turn S) → count en next x t (a + b) ≡ count en next x t a + count en next x (turn_at en next t a) b
-  count_more x zero b t = (let e : 0 + b ≡ b = omega arith in rw e (let z : count en next x t b ≡ 0 + count en next x t b = omega arith in z))
-  count_more x (suc a) b t =
-      let e : suc a + b ≡ suc (a + b) = omega arith in
-      let rest = count_more x a b (turn en next t) in
-      rw e (omega arith)
-
-  disabled_before : (x n : ℕ) (t : Turn S) → count en next x t n < n → (m : ℕ) × (m < n) × (en (turn_at en next t m).state x ≡ false)
-  disabled_before x zero t h = absurd (omega arith)
-  disabled_before x (suc n) t h = elim (true_or_false (en t.state x)) [
-    | inl on ↦ (let one : one_if (en t.state x) ≡ 1 = rw on refl in
-        let rest = disabled_before x n (turn en next t) (omega arith) in
-        (suc rest.0, (let lt = rest.1 in omega arith), rest.2))
-    | inr off ↦ (0, omega arith, off)
-  ]
-
-  enabled_counts : (x m n : ℕ) (t : Turn S) → m < n → en (turn_at en next t m).state x ≡ true → 1 ≤ count en next x t n
-  enabled_counts x m zero t h on = absurd (omega arith)
-  enabled_counts x zero (suc n) t h on = (let one : one_if (en t.state x) ≡ 1 = rw on refl in omega arith)
-  enabled_counts x (suc m) (suc n) t h on = (let rest = enabled_counts x m n (turn en next t) (omega arith) on in omega arith)
+  length_later (suc n) t = length_later n (turn en next t) ∙ length_turn en next t
 
   -- where a turn of k steps on is one of the schedule's own
   taken_on : (x k n : ℕ) (t : Turn S) → Taken en next x (turn_at en next t k) n → (m : ℕ) × (k ≤ m) × (chosen en next (turn_at en next t m) ≡ Some x)
@@ -79,7 +44,7 @@ module _ {S : Type 0} (en : S → ℕ → Bool) (next : S → ℕ → S) where
       let long = length_later k t in
       elim (dec_le M (count en next x u M)) [
         | yes often ↦ (let taken = taken_on x k M t (served_often en next x M M u (elem_later k x t h) (omega arith) often) in (taken.0, taken.1, inl taken.2))
-        | no few ↦ (let off = disabled_before x M u (omega arith) in (k + off.0, omega arith, inr (subst (λ z. en z.state x ≡ false) (turn_more en next k off.0 t) off.2)))
+        | no few ↦ (let off = disabled_before en next x M u (omega arith) in (k + off.0, omega arith, inr (subst (λ z. en z.state x ≡ false) (turn_more en next k off.0 t) off.2)))
       ]
 
   module _ (M : Type 0 → Type 0) (pure : (A : Type 0) → A → M A) (bind : (A B : Type 0) → M A → (A → M B) → M B) (x : ℕ) (t : Turn S)
@@ -96,8 +61,8 @@ module _ {S : Type 0} (en : S → ℕ → Bool) (next : S → ℕ → S) where
         let place : k + n + b ≡ on.0 = (let h = on.1 in omega arith) in
         let there : turn_at en next (turn_at en next u n) b ≡ turn_at en next t on.0 =
         turn_more en next n b u ∙ turn_more en next k (n + b) t ∙ ap (turn_at en next t) (let e : k + (n + b) ≡ on.0 = omega arith in e) in
-        let one = enabled_counts x b (suc b) (turn_at en next u n) (omega arith) (subst (λ z. en z.state x ≡ true) (sym there) on.2) in
-        let sum = count_more x n (suc b) u in
+        let one = enabled_counts en next x b (suc b) (turn_at en next u n) (omega arith) (subst (λ z. en z.state x ≡ true) (sym there) on.2) in
+        let sum = count_more en next x n (suc b) u in
         let many = found.1 in
         (n + suc b, omega arith)
 

@@ -1,7 +1,8 @@
 //! The five tasks whose status is that of `step`.
 
 use crate::given::{Given, GivenText};
-use crate::streams::{write_remark, write_result};
+use crate::reports::{Account, Shown, shown_of, warned_of};
+use crate::streams::{Streams, Target, style_of, write_remark, write_result};
 use crate::trouble::Trouble;
 use milkhour_run::{Answer, Question, Status, answer};
 use milkhour_words::{Format, Options};
@@ -24,6 +25,15 @@ fn is_result(question: Question, status: Status) -> bool {
     }
 }
 
+/// Where an answer is told: the exact text, documents and pages where results go, and refusals for people on standard error.
+fn target_of<'a>(question: Question, options: &Options<'a>, status: Status) -> Target<'a> {
+    if options.format == Format::Text && !is_result(question, status) {
+        Target::Remark
+    } else {
+        Target::Result(options.output)
+    }
+}
+
 fn unreadable(alloc: Global, text: &GivenText<'_>) -> Result<Option<String>, AllocError> {
     match &text.bytes {
         Ok(_) => Ok(None),
@@ -34,50 +44,88 @@ fn unreadable(alloc: Global, text: &GivenText<'_>) -> Result<Option<String>, All
     }
 }
 
+/// Says why a file couldn't be read, where it couldn't.
+pub fn tell_unread<R: Runtime + AllocGlobal>(rt: &R, text: &GivenText<'_>) -> Result<(), Trouble> {
+    match unreadable(rt.alloc(), text)? {
+        Some(remark) => write_remark(rt, remark.as_str()),
+        None => Ok(()),
+    }
+}
+
 /// Says which files couldn't be read, and why.
 fn tell_unreadable<R: Runtime + AllocGlobal>(rt: &R, given: &Given<'_>) -> Result<(), Trouble> {
-    let alloc = rt.alloc();
     for text in [
         Some(&given.program),
         given.proof.as_ref(),
         given.third.as_ref(),
     ] {
         if let Some(text) = text {
-            if let Some(remark) = unreadable(alloc, text)? {
-                write_remark(rt, remark.as_str())?;
-            }
+            tell_unread(rt, text)?;
         }
     }
     Ok(())
 }
 
-/// Prints an answer where it belongs: results, and whatever is said in plain format, on standard output or in the file, and
-/// refusals on standard error.
+/// Writes what is shown of an answer, and behind it what is said beside.
+fn write_shown<R: Runtime + AllocGlobal>(
+    rt: &R,
+    target: Target<'_>,
+    shown: &Shown,
+) -> Result<(), Trouble> {
+    match target {
+        Target::Result(output) => write_result(rt, output, shown.text.as_slice())?,
+        Target::Remark => {
+            write_remark(rt, str::from_utf8(shown.text.as_slice()).unwrap_or(""))?;
+        }
+    }
+    match &shown.remark {
+        Some(remark) => write_remark(rt, remark.as_str()),
+        None => Ok(()),
+    }
+}
+
+/// Tells an answer in another form than that of `step`.
 fn tell<R: Runtime + AllocGlobal>(
     rt: &R,
+    streams: Streams,
     question: Question,
     given: &Given<'_>,
     options: &Options<'_>,
     answer: &Answer,
 ) -> Result<(), Trouble> {
-    if answer.status == Status::ReadFault && options.format == Format::Text {
-        return tell_unreadable(rt, given);
+    if answer.status == Status::ReadFault {
+        tell_unreadable(rt, given)?;
+        if options.format == Format::Text {
+            return Ok(());
+        }
     }
-    let text = answer.text.as_slice();
-    if options.format == Format::Text && !is_result(question, answer.status) {
-        return write_remark(rt, str::from_utf8(text).unwrap_or(""));
-    }
-    write_result(rt, options.output, text)
+    let target = target_of(question, options, answer.status);
+    let account = Account {
+        question,
+        given,
+        options,
+        answer,
+        style: style_of(rt, streams, target, options.colour),
+        remark_style: style_of(rt, streams, Target::Remark, options.colour),
+    };
+    let warnings = warned_of(rt.alloc(), &account)?;
+    let shown = shown_of(rt.alloc(), &account, warnings.as_slice())?;
+    write_shown(rt, target, &shown)
 }
 
 /// Answers a question over the texts. The status is that of the answer, whatever is said of it.
-pub fn answered<R: Runtime + AllocGlobal + Threads + Sync>(
+pub fn answer_question<R: Runtime + AllocGlobal + Threads + Sync>(
     rt: &R,
+    streams: Streams,
     question: Question,
     given: &Given<'_>,
     options: &Options<'_>,
 ) -> Result<u8, Trouble> {
     let answer = answer(rt, rt.alloc(), question, options.workers, &given.texts())?;
-    tell(rt, question, given, options, &answer)?;
+    if options.format == Format::Plain {
+        write_result(rt, options.output, answer.text.as_slice())?;
+    } else {
+        tell(rt, streams, question, given, options, &answer)?;
+    }
     Ok(answer.status.number())
 }

@@ -59,9 +59,28 @@ impl Given<'_> {
             third: bytes_of(&self.third),
         }
     }
+
+    pub fn third_name(&self) -> &str {
+        match &self.third {
+            Some(third) => third.name,
+            None => self.program.name,
+        }
+    }
+
+    pub fn proof_name(&self) -> &str {
+        match &self.proof {
+            Some(proof) => proof.name,
+            None => self.program.name,
+        }
+    }
 }
 
-fn read_text<'a, R: Runtime + AllocGlobal>(rt: &R, name: &'a str, most: u64) -> GivenText<'a> {
+/// A text of a program, a proof or a schedule.
+pub fn read_text<'a, R: Runtime + AllocGlobal>(rt: &R, name: &'a str) -> GivenText<'a> {
+    read_most(rt, name, MOST_OF_TEXT)
+}
+
+fn read_most<'a, R: Runtime + AllocGlobal>(rt: &R, name: &'a str, most: u64) -> GivenText<'a> {
     if name == INPUT {
         return GivenText {
             name: "<stdin>",
@@ -138,13 +157,13 @@ pub fn read_files<'a, R: Runtime + AllocGlobal>(
             "standard input is read once, so - can stand for one file alone",
         ));
     }
-    let program = read_text(rt, files.program, MOST_OF_TEXT);
+    let program = read_text(rt, files.program);
     let (program, proof) = match files.proof {
-        Some(name) => (program, Some(read_text(rt, name, MOST_OF_TEXT))),
+        Some(name) => (program, Some(read_text(rt, name))),
         None => parting(alloc, program)?,
     };
     let third = match files.third {
-        Some(name) => Some(read_text(rt, name, most_of_third(task))),
+        Some(name) => Some(read_most(rt, name, most_of_third(task))),
         None => None,
     };
     Ok(Given {

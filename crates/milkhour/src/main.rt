@@ -2,8 +2,14 @@
 #![tactic(auto)]
 
 mod answering;
+mod drawing;
 mod explaining;
+mod finding;
 mod given;
+mod laying;
+mod listing;
+mod reports;
+mod serving;
 mod stepping;
 mod streams;
 mod trouble;
@@ -12,28 +18,36 @@ mod working;
 use host_outside::given_words;
 use milkhour_run::Status;
 use milkhour_words::{Request, read_words};
+use std::io::IsTerminal;
 use std::process::ExitCode;
 use std::rt::Runtime;
 use std::thread::{Builder, Threads};
+use streams::Streams;
 use trouble::Trouble;
 
 /// Bytes of stack, as many as `step` has.
 const STACK: usize = 1 << 28;
 
 /// Does what the words ask for, and answers the status.
-fn run<R: Runtime + AllocGlobal + Threads + Sync>(rt: &R) -> Result<u8, Trouble> {
+fn run<R: Runtime + AllocGlobal + Threads + Sync>(rt: &R, streams: Streams) -> Result<u8, Trouble> {
     let words = given_words(rt)?;
     match read_words(rt.alloc(), words.as_slice()) {
         Ok(Request::Step) => Ok(stepping::step(rt, &words)),
         Ok(Request::Explain(word)) => explaining::explain(rt, word),
-        Ok(Request::Work(work)) => working::work(rt, &work),
+        Ok(Request::Layout(layout)) => laying::lay_out(rt, &layout),
+        Ok(Request::Serve) => serving::serve(rt),
+        Ok(Request::Work(work)) => working::work(rt, streams, &work),
         Err(refusal) => streams::refuse_words(rt, &refusal),
     }
 }
 
 fn main(rt: HostRuntime) -> ExitCode {
+    let streams = Streams {
+        is_output_terminal: rt.stdout().is_terminal(),
+        is_error_terminal: rt.stderr().is_terminal(),
+    };
     let work = move || -> u8 {
-        match run(&rt) {
+        match run(&rt, streams) {
             Ok(status) => status,
             Err(trouble) => streams::tell_trouble(&rt, &trouble),
         }

@@ -1,6 +1,9 @@
 //! The commands. Help is made of this table, and so can be completions and a man page.
 
-use crate::options::{FORMAT, OUTPUT, OptionRow, WORKERS};
+use crate::options::{
+    BUDGET, CHECK, COLOUR, FIRST, FORMAT, FOUND_FORMAT, LIMIT, ONLY, OUTPUT, OptionRow, SMT,
+    WORKERS,
+};
 
 /// The version of the program. The changelog has its date.
 pub static VERSION: &str = "0.6.0";
@@ -54,6 +57,20 @@ const SCHEDULED: FileRow = FileRow {
     help: "A program, a proof of it and a schedule; or one file with program and proof, parted by a line `proof`, and the schedule; - is standard input",
 };
 
+const TEXT: FileRow = FileRow {
+    least: 1,
+    most: 1,
+    usage: "FILE",
+    help: "A program, a proof, or one file with both; - is standard input",
+};
+
+const STREAMS: FileRow = FileRow {
+    least: 0,
+    most: 1,
+    usage: "[--stdio]",
+    help: "What editors add; it speaks over standard input and output in any case",
+};
+
 const WORD: FileRow = FileRow {
     least: 0,
     most: 1,
@@ -68,20 +85,20 @@ const WORDS: FileRow = FileRow {
     help: "The words of step",
 };
 
-pub static COMMANDS: [CommandRow; 7] = [
+pub static COMMANDS: [CommandRow; 12] = [
     CommandRow {
         name: "verify",
-        about: "Search for a certificate of each condition",
+        about: "Search for a proof of each condition, and explain those that have none",
         files: SOURCE,
-        options: &[FORMAT, OUTPUT, WORKERS],
+        options: &[FIRST, LIMIT, FORMAT, COLOUR, OUTPUT, WORKERS],
         usage: "milkhour verify [OPTIONS] PROGRAM [PROOF]",
-        example: "Examples:\n  milkhour verify peterson.spl peterson.proof\n  milkhour verify peterson.spl\n  milkhour verify - peterson.proof --format plain < peterson.spl",
+        example: "Examples:\n  milkhour verify peterson.spl peterson.proof\n  milkhour verify peterson.spl --first\n  milkhour verify - peterson.proof --format json < peterson.spl",
     },
     CommandRow {
         name: "check",
         about: "Check the certificates of a proof",
         files: CERTIFIED,
-        options: &[FORMAT, OUTPUT, WORKERS],
+        options: &[FORMAT, COLOUR, OUTPUT, WORKERS],
         usage: "milkhour check [OPTIONS] PROGRAM [PROOF] CERTIFICATES",
         example: "Example:\n  milkhour check peterson.spl peterson.proof peterson.certs",
     },
@@ -89,7 +106,7 @@ pub static COMMANDS: [CommandRow; 7] = [
         name: "prove",
         about: "Search as verify does, and write the certificates",
         files: SOURCE,
-        options: &[FORMAT, OUTPUT, WORKERS],
+        options: &[FIRST, LIMIT, FORMAT, COLOUR, OUTPUT, WORKERS],
         usage: "milkhour prove [OPTIONS] PROGRAM [PROOF]",
         example: "Example:\n  milkhour prove peterson.spl peterson.proof -o peterson.certs",
     },
@@ -97,7 +114,7 @@ pub static COMMANDS: [CommandRow; 7] = [
         name: "trace",
         about: "Play one run of a program, and judge each goal on it",
         files: SCHEDULED,
-        options: &[FORMAT, OUTPUT, WORKERS],
+        options: &[FORMAT, COLOUR, OUTPUT, WORKERS],
         usage: "milkhour trace [OPTIONS] PROGRAM [PROOF] SCHEDULE",
         example: "Example:\n  milkhour trace peterson.spl peterson.proof peterson.run",
     },
@@ -105,9 +122,49 @@ pub static COMMANDS: [CommandRow; 7] = [
         name: "invariants",
         about: "Find linear equations that hold on every run, as a proof text",
         files: PROGRAM,
-        options: &[FORMAT, OUTPUT, WORKERS],
+        options: &[FORMAT, COLOUR, OUTPUT, WORKERS],
         usage: "milkhour invariants [OPTIONS] PROGRAM",
         example: "Example:\n  milkhour invariants semaphore.spl -o semaphore.proof",
+    },
+    CommandRow {
+        name: "find",
+        about: "Find a proof of each claim, or a run on which it fails",
+        files: SOURCE,
+        options: &[BUDGET, FOUND_FORMAT, COLOUR, OUTPUT, WORKERS],
+        usage: "milkhour find [OPTIONS] PROGRAM [PROOF]",
+        example: "Example:\n  milkhour find peterson.spl claims.proof -o peterson.proof",
+    },
+    CommandRow {
+        name: "conditions",
+        about: "List the conditions of a proof, or write them for other solvers",
+        files: SOURCE,
+        options: &[ONLY, SMT, OUTPUT],
+        usage: "milkhour conditions [OPTIONS] PROGRAM [PROOF]",
+        example: "Examples:\n  milkhour conditions peterson.spl peterson.proof --only 'mutex keep l3 1'\n  milkhour conditions peterson.spl peterson.proof --smt | z3 -in",
+    },
+    CommandRow {
+        name: "draw",
+        about: "Draw the control graphs of a program, and the diagrams of a proof, for Graphviz",
+        files: SOURCE,
+        options: &[OUTPUT],
+        usage: "milkhour draw [OPTIONS] PROGRAM [PROOF]",
+        example: "Example:\n  milkhour draw peterson.spl peterson.proof | dot -Tsvg > peterson.svg",
+    },
+    CommandRow {
+        name: "fmt",
+        about: "Lay out a program or a proof; nothing of it changes but blanks",
+        files: TEXT,
+        options: &[CHECK, OUTPUT],
+        usage: "milkhour fmt [OPTIONS] FILE",
+        example: "Examples:\n  milkhour fmt peterson.spl\n  milkhour fmt peterson.spl -o peterson.spl\n  milkhour fmt --check peterson.spl",
+    },
+    CommandRow {
+        name: "lsp",
+        about: "Be a language server for an editor, over standard input and output",
+        files: STREAMS,
+        options: &[],
+        usage: "milkhour lsp [--stdio]",
+        example: "share/ has configurations for neovim, Emacs and VS Code.",
     },
     CommandRow {
         name: "explain",

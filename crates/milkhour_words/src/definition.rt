@@ -3,7 +3,7 @@
 use crate::commands::{COMMANDS, CommandRow, VERSION};
 use crate::options::{OptionRow, OptionValue};
 use clap::builder::ValueParser;
-use clap::{Arg, Command, value_parser};
+use clap::{Arg, ArgAction, Command, value_parser};
 use std::alloc::{AllocError, Global};
 
 const STATUSES: &str =
@@ -37,6 +37,7 @@ fn number_arg<'a>(arg: Arg<'a>, least: i64, most: i64, default: &'a str) -> Arg<
 fn option_arg<'a>(alloc: Global, row: &OptionRow) -> Arg<'a> {
     let arg = named_arg(alloc, row);
     match row.value {
+        OptionValue::Flag => arg.action(ArgAction::SetTrue),
         OptionValue::Word(name) => arg.value_name(name),
         OptionValue::Choice(name, choices, default) => choice_arg(arg, name, choices, default),
         OptionValue::Number(least, most, default) => number_arg(arg, least, most, default),

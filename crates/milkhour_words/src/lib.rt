@@ -10,4 +10,4 @@ mod request;
 pub use commands::{COMMANDS, CommandRow, FileRow, VERSION};
 pub use options::{OptionRow, OptionValue};
 pub use reading::read_words;
-pub use request::{FileNames, Format, Options, Request, Task, Work};
+pub use request::{Colour, FileNames, Format, Layout, Options, Request, Task, Work};

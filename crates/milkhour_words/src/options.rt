@@ -3,6 +3,8 @@
 /// What stands behind an option.
 #[derive(Clone, Copy)]
 pub enum OptionValue {
+    /// Nothing.
+    Flag,
     /// Any word; its name in help.
     Word(&'static str),
     /// One of these words, and the default; the first is their name in help.
@@ -30,8 +32,37 @@ pub const WORKERS: OptionRow = OptionRow {
 pub const FORMAT: OptionRow = OptionRow {
     long: "format",
     short: None,
-    value: OptionValue::Choice("FORMAT", &["text", "plain"], "text"),
+    value: OptionValue::Choice("FORMAT", &["text", "plain", "json", "html"], "text"),
     help: "How to write the report; plain is the exact text of step, on standard output whatever it says",
+};
+
+/// The form of what is found; `step` has no text for it.
+pub const FOUND_FORMAT: OptionRow = OptionRow {
+    long: "format",
+    short: None,
+    value: OptionValue::Choice("FORMAT", &["text", "json"], "text"),
+    help: "How to write what is found",
+};
+
+pub const COLOUR: OptionRow = OptionRow {
+    long: "color",
+    short: None,
+    value: OptionValue::Choice("WHEN", &["auto", "always", "never"], "auto"),
+    help: "When to use colours; auto is on terminals, unless NO_COLOR is set",
+};
+
+pub const LIMIT: OptionRow = OptionRow {
+    long: "limit",
+    short: None,
+    value: OptionValue::Number(1, 4294967295, "20"),
+    help: "Show at most N conditions",
+};
+
+pub const FIRST: OptionRow = OptionRow {
+    long: "first",
+    short: None,
+    value: OptionValue::Flag,
+    help: "Show the first condition that fails, and no other",
 };
 
 pub const OUTPUT: OptionRow = OptionRow {
@@ -39,4 +70,32 @@ pub const OUTPUT: OptionRow = OptionRow {
     short: Some('o'),
     value: OptionValue::Word("FILE"),
     help: "Write the result to FILE, whole or not at all, and nowhere else",
+};
+
+pub const ONLY: OptionRow = OptionRow {
+    long: "only",
+    short: None,
+    value: OptionValue::Word("NAME"),
+    help: "Show the condition of this name alone, or those of this step",
+};
+
+pub const SMT: OptionRow = OptionRow {
+    long: "smt",
+    short: None,
+    value: OptionValue::Flag,
+    help: "Write SMT-LIB 2, for z3 or cvc5",
+};
+
+pub const CHECK: OptionRow = OptionRow {
+    long: "check",
+    short: None,
+    value: OptionValue::Flag,
+    help: "Write nothing; end with status 1 where the text isn't laid out",
+};
+
+pub const BUDGET: OptionRow = OptionRow {
+    long: "budget",
+    short: None,
+    value: OptionValue::Number(1, 4294967295, "200000"),
+    help: "Give up after N questions to the prover",
 };

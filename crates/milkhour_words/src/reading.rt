@@ -1,7 +1,7 @@
 //! The reader of words.
 
 use crate::definition::command_line;
-use crate::request::{FileNames, Format, Options, Request, Task, Work};
+use crate::request::{Colour, FileNames, Format, Layout, Options, Request, Task, Work};
 use clap::error::ErrorKind;
 use clap::{ArgMatches, Error};
 use std::alloc::Global;
@@ -9,7 +9,17 @@ use std::alloc::Global;
 fn format_named(name: Option<&str>) -> Format {
     match name {
         Some("plain") => Format::Plain,
+        Some("json") => Format::Json,
+        Some("html") => Format::Html,
         _ => Format::Text,
+    }
+}
+
+fn colour_named(name: Option<&str>) -> Colour {
+    match name {
+        Some("always") => Colour::Always,
+        Some("never") => Colour::Never,
+        _ => Colour::Auto,
     }
 }
 
@@ -22,9 +32,19 @@ fn number(matches: &ArgMatches<'_>, id: &str, otherwise: u32) -> u32 {
 }
 
 fn options_of<'a>(matches: &ArgMatches<'a>) -> Options<'a> {
+    let limit = if matches.get_flag("first") {
+        1
+    } else {
+        number(matches, "limit", 20)
+    };
     Options {
         format: format_named(matches.get_str("format")),
+        colour: colour_named(matches.get_str("color")),
+        limit,
         workers: number(matches, "workers", 1).clamp(1, 64),
+        budget: number(matches, "budget", 200_000) as u64,
+        only: matches.get_str("only"),
+        smt: matches.get_flag("smt"),
         output: matches.get_str("output"),
     }
 }
@@ -36,6 +56,9 @@ fn task_named(name: &str) -> Option<Task> {
         "prove" => Some(Task::Prove),
         "trace" => Some(Task::Trace),
         "invariants" => Some(Task::Invariants),
+        "find" => Some(Task::Find),
+        "conditions" => Some(Task::Conditions),
+        "draw" => Some(Task::Draw),
         _ => None,
     }
 }
@@ -85,11 +108,29 @@ fn explained<'a>(matches: &ArgMatches<'a>) -> Request<'a> {
     Request::Explain(matches.get_str("files"))
 }
 
+fn layout_of<'a>(matches: &ArgMatches<'a>) -> Option<Layout<'a>> {
+    Some(Layout {
+        file: matches.get_str("files")?,
+        output: matches.get_str("output"),
+        check: matches.get_flag("check"),
+    })
+}
+
 fn request_in<'a>(matches: &ArgMatches<'a>) -> Option<Request<'a>> {
     match matches.subcommand() {
         Some(("explain", below)) => Some(explained(below)),
+        Some(("fmt", below)) => Some(Request::Layout(layout_of(below)?)),
         Some((name, below)) => Some(Request::Work(work_of(name, below)?)),
         None => None,
+    }
+}
+
+/// Whether the words ask for a language server, with what editors add.
+fn asks_to_serve(words: &[String]) -> bool {
+    match words {
+        [_, command] => command.as_str() == "lsp",
+        [_, command, stream] => command.as_str() == "lsp" && stream.as_str() == "--stdio",
+        _ => false,
     }
 }
 
@@ -100,6 +141,9 @@ pub fn read_words<'a>(alloc: Global, words: &'a [String]) -> Result<Request<'a>,
         if word.as_str() == "step" {
             return Ok(Request::Step);
         }
+    }
+    if asks_to_serve(words) {
+        return Ok(Request::Serve);
     }
     let mut line = command_line(alloc)?;
     let matches = line.try_get_matches_from_mut(words)?;

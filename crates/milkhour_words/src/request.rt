@@ -6,6 +6,17 @@ pub enum Format {
     Text,
     /// The exact text of `step`.
     Plain,
+    Json,
+    Html,
+}
+
+/// When colours are used.
+#[derive(Clone, Copy, Debug, PartialEq, Eq)]
+pub enum Colour {
+    /// Where the text goes to a terminal and `NO_COLOR` isn't set.
+    Auto,
+    Always,
+    Never,
 }
 
 /// The work that a command does.
@@ -16,6 +27,9 @@ pub enum Task {
     Prove,
     Trace,
     Invariants,
+    Find,
+    Conditions,
+    Draw,
 }
 
 /// The files that are named. Without the name of a proof, program and proof stand in one file.
@@ -31,7 +45,16 @@ pub struct FileNames<'a> {
 #[derive(Clone, Copy, Debug, PartialEq, Eq)]
 pub struct Options<'a> {
     pub format: Format,
+    pub colour: Colour,
+    /// The most conditions that are shown.
+    pub limit: u32,
     pub workers: u32,
+    /// The most questions that a search puts to the prover.
+    pub budget: u64,
+    /// The condition that is listed, or the first words of some; else all are.
+    pub only: Option<&'a str>,
+    /// Whether conditions are written as SMT-LIB 2.
+    pub smt: bool,
     /// The file that the result goes to, in place of standard output.
     pub output: Option<&'a str>,
 }
@@ -44,12 +67,25 @@ pub struct Work<'a> {
     pub options: Options<'a>,
 }
 
+/// A text that is to be laid out.
+#[derive(Clone, Copy, Debug, PartialEq, Eq)]
+pub struct Layout<'a> {
+    pub file: &'a str,
+    /// The file that the result goes to, in place of standard output.
+    pub output: Option<&'a str>,
+    /// Whether it is only seen if the text is laid out.
+    pub check: bool,
+}
+
 /// What words ask for.
 #[derive(Clone, Copy, Debug, PartialEq, Eq)]
 pub enum Request<'a> {
     Work(Work<'a>),
     /// The word that is to be explained, or a list of all.
     Explain(Option<&'a str>),
+    Layout(Layout<'a>),
+    /// A language server.
+    Serve,
     /// The exact program, over the words from this one on.
     Step,
 }

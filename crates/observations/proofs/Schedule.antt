@@ -45,14 +45,14 @@ module _ {S : Type 0} (en : S → ℕ → Bool) (next : S → ℕ → S) where
   Taken-later : (x : ℕ) (t : Turn S) (n : ℕ) → Taken x (turn t) n → Taken x t (suc n)
   Taken-later x t n h = (suc h.0, (let lt = h.1 in omega arith), h.2)
 
-  elem_turn : (x : ℕ) (t : Turn S) → IsTrue (elem x t.queue) → IsTrue (elem x (turn t).queue)
+  pub elem_turn : (x : ℕ) (t : Turn S) → IsTrue (elem x t.queue) → IsTrue (elem x (turn t).queue)
   elem_turn x t h = go (chosen t)
     where
       go : (c : Option ℕ) → IsTrue (elem x (turned c t).queue)
       go None = h
       go (Some y) = elem-rotated x y t.queue h
 
-  length_turn : (t : Turn S) → length (turn t).queue ≡ length t.queue
+  pub length_turn : (t : Turn S) → length (turn t).queue ≡ length t.queue
   length_turn t = go (chosen t) refl
     where
       go : (c : Option ℕ) → chosen t ≡ c → length (turned c t).queue ≡ length t.queue
@@ -90,14 +90,14 @@ module _ {S : Type 0} (en : S → ℕ → Bool) (next : S → ℕ → S) where
   turn_more zero b t = ap (turn_at t) (let e : b ≡ 0 + b = omega arith in e)
   turn_more (suc a) b t = turn_more a b (turn t) ∙ ap (turn_at t) (let e : suc (a + b) ≡ suc a + b = omega arith in e)
 
-  count_more : (x a b : ℕ) (t : Turn S) → count x t (a + b) ≡ count x t a + count x (turn_at t a) b
+  pub count_more : (x a b : ℕ) (t : Turn S) → count x t (a + b) ≡ count x t a + count x (turn_at t a) b
   count_more x zero b t = (let e : 0 + b ≡ b = omega arith in rw e (let z : count x t b ≡ 0 + count x t b = omega arith in z))
   count_more x (suc a) b t =
       let e : suc a + b ≡ suc (a + b) = omega arith in
       let rest = count_more x a b (turn t) in
       rw e (omega arith)
 
-  disabled_before : (x n : ℕ) (t : Turn S) → count x t n < n → (m : ℕ) × (m < n) × (en (turn_at t m).state x ≡ false)
+  pub disabled_before : (x n : ℕ) (t : Turn S) → count x t n < n → (m : ℕ) × (m < n) × (en (turn_at t m).state x ≡ false)
   disabled_before x zero t h = absurd (omega arith)
   disabled_before x (suc n) t h = elim (true_or_false (en t.state x)) [
     | inl on ↦ (let one : one_if (en t.state x) ≡ 1 = rw on refl in
@@ -106,7 +106,7 @@ module _ {S : Type 0} (en : S → ℕ → Bool) (next : S → ℕ → S) where
     | inr off ↦ (0, omega arith, off)
   ]
 
-  enabled_counts : (x m n : ℕ) (t : Turn S) → m < n → en (turn_at t m).state x ≡ true → 1 ≤ count x t n
+  pub enabled_counts : (x m n : ℕ) (t : Turn S) → m < n → en (turn_at t m).state x ≡ true → 1 ≤ count x t n
   enabled_counts x m zero t h on = absurd (omega arith)
   enabled_counts x zero (suc n) t h on = (let one : one_if (en t.state x) ≡ 1 = rw on refl in omega arith)
   enabled_counts x (suc m) (suc n) t h on = (let rest = enabled_counts x m n (turn t) (omega arith) on in omega arith)

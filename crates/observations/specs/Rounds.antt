@@ -1,8 +1,8 @@
 -- Rounds: stretches of a finite run in which fairness is paid.
 --
 -- Justice and compassion speak of infinite runs (Manna and Pnueli, *Temporal Verification of Reactive Systems: Safety*,
--- section 0.4). An infinite fair run is, from some position on, an endless sequence of rounds, so what holds within a
--- number of rounds holds eventually in the books' sense.
+-- section 0.4). A fair run has a position from which on rounds follow each other endlessly, and a run that has one is
+-- fair: fair_computations proves both. So what holds within a number of rounds holds eventually in the books' sense.
 use Rattle.std.specs.Prelude.{◌≡◌, ℕ, zero, suc, ◌≤◌, ◌<◌, ◌⊎◌}
 use Rattle.observations.specs.Observation.{Observation, last, IsEnabled, IsTaken, IsJust, IsCompassionate}
 

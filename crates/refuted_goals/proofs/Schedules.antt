@@ -1,9 +1,8 @@
 -- A schedule that is played gives the run that it stands for, and no other.
 use Rattle.std.proofs.Common.{◌≡◌, ℕ, Bool, true, false, List, [], ◌∷◌, map, refl, sym, ap, ◌∙◌, subst}
-use Rattle.std.specs.Prelude.{◌↔◌, not}
+use Rattle.std.specs.Prelude.{◌↔◌}
 use Rattle.st_form.specs.declared.conditions.TransName.{TransName}
 use Rattle.st_program.specs.declared.residuals.Datum.{Datum}
-use Rattle.st_program.specs.declared.residuals.Datum.TheVariants.{Number, Truth}
 use Rattle.st_program.specs.Programs.{WellFormed}
 use Rattle.spl_semantics.specs.Stores.{holds}
 use Rattle.spl_semantics.specs.Data.{store_of, types, StoreFits}
@@ -22,11 +21,7 @@ use Rattle.posed_conditions.specs.declared.translated.TranslatedProgram.{Transla
 use Rattle.posed_conditions.specs.Translated.{IsTranslated, typed_of}
 use Rattle.refuted_goals.specs.Refuted.{start_of, LastFails, FailsBy}
 use Rattle.refuted_goals.proofs.Answers.{through}
-
-types_are : (ds : List Datum) → types ds ≡ map (has_type true) ds
-types_are [] = refl
-types_are (Number z ∷ ds) = ap (λ l. not true ∷ l) (types_are ds)
-types_are (Truth b ∷ ds) = ap (λ l. true ∷ l) (types_are ds)
+use Rattle.trace_player.proofs.Fitting.{types_are}
 
 module _ (x : TranslatedProgram) (translated : IsTranslated x) where
   -- names are those of the program's variables, and the store of a schedule is one of the program

@@ -1,17 +1,12 @@
 -- The store of a schedule is one of the program.
 use Rattle.std.proofs.Common.{◌≡◌, ◌∙◌, Bool, true, not, List, [], ◌∷◌, map, refl, ap}
 use Rattle.st_program.specs.declared.residuals.Datum.{Datum}
-use Rattle.st_program.specs.declared.residuals.Datum.TheVariants.{Number, Truth}
 use Rattle.spl_semantics.specs.Data.{types, StoreFits}
 use Rattle.schedule_reader.specs.Values.{has_type}
 use Rattle.spl_typer.proofs.Tabled.{kinds_stand}
 use Rattle.posed_conditions.specs.declared.translated.TranslatedProgram.{TranslatedProgram}
 use Rattle.posed_conditions.specs.Translated.{IsTranslated, typed_of}
-
-types_are : (ds : List Datum) → types ds ≡ map (has_type true) ds
-types_are [] = refl
-types_are (Number z ∷ ds) = ap (λ l. not true ∷ l) (types_are ds)
-types_are (Truth b ∷ ds) = ap (λ l. true ∷ l) (types_are ds)
+use Rattle.trace_player.proofs.Fitting.{types_are}
 
 -- names are those of the program's variables
 pub names_are : (x : TranslatedProgram) → IsTranslated x → map (λ v. v.1) x.names.variables ≡ map (λ v. v.truth) x.program.variables

@@ -1,6 +1,6 @@
 -- A script over a program, with which a trace goes on, and what its schedule is.
 use Rattle.std.proofs.Common.{◌≡◌, ℕ, ◌≤◌, Bool, true, List, [], ◌∷◌, length, map, refl, sym, ap, ◌∙◌}
-use Rattle.std.specs.Prelude.{All, not, if◌then◌else◌, Option, Some, None, Ok, Err}
+use Rattle.std.specs.Prelude.{All, if◌then◌else◌, Option, Some, None, Ok, Err}
 use Rattle.st_reading.specs.Reading.{Stop, IsStop}
 use Rattle.st_reading.specs.Breaches.{Breach}
 use Rattle.temporal_goals.specs.Texts.{PlainStep}
@@ -9,7 +9,6 @@ use Rattle.spl_semantics.specs.Stores.{holds}
 use Rattle.spl_typer.specs.Programs.{Typed}
 use Rattle.spl_typer.proofs.Tabled.{kinds_stand}
 use Rattle.st_program.specs.declared.residuals.Datum.{Datum}
-use Rattle.st_program.specs.declared.residuals.Datum.TheVariants.{Number, Truth}
 use Rattle.schedule_reader.specs.Values.{has_type}
 use Rattle.schedule_reader.specs.Schedules.{PlainSchedule, schedule_spelled}
 use Rattle.trace_player.specs.Playing as playing
@@ -22,6 +21,7 @@ use Rattle.step_run.specs.Source.{IsSpelled}
 use Rattle.step_run.specs.Scheduled.{start_of, observed_of}
 use Rattle.step_run.specs.Traced.{Scripted, schedule_refused, IsEndOf, no_start, too_large_at, not_enabled, play_ended, schedule_played, schedule_ended, traced}
 use Rattle.step_run.proofs.Typed.{from_text}
+use Rattle.trace_player.proofs.Fitting.{types_are}
 
 -- with what a script is gone on
 abbrev pub next_of : Typed → List PlainStep → Plan Scripted
@@ -30,11 +30,6 @@ next_of p steps = goes_on (record { program = p; steps = steps })
 -- names are those of the program's variables
 pub names_are : (p : Typed) → IsSpelled p → map (λ v. v.1) p.names.variables ≡ map (λ v. v.truth) p.variables
 names_are p spelled = let f = from_text spelled.0 p spelled.1 in kinds_stand f.program p f.types
-
-types_are : (ds : List Datum) → types ds ≡ map (has_type true) ds
-types_are [] = refl
-types_are (Number z ∷ ds) = ap (λ l. not true ∷ l) (types_are ds)
-types_are (Truth b ∷ ds) = ap (λ l. true ∷ l) (types_are ds)
 
 -- the store of a schedule fits the program
 pub store_fits : (p : Typed) (ds : List Datum) → IsSpelled p → map (has_type true) ds ≡ map (λ v. v.1) p.names.variables → StoreFits p.variables ds

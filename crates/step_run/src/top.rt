@@ -31,7 +31,7 @@ pub fn step_run<R: Threads + Sync, F: Files, S: Sink, G: Gate + Sync>(
     ensures outcome { UnlessFault result (IfSome (outcome_of (F.told files.old) (plan_of (request_of (words_of words.now))))
         (IsReached result (S.taken out.old) (S.taken out.new))) }
 
-    // With status 0 the output names goals, which hold on every run of the program.
+    // With status 0 the output names goals, which hold on every finite run of the program, a response within its bound of rounds.
     ensures headline { result ≡ Status.Proved → Headline (F.told files.old) (λ text. S.taken out.new ≡ behind (S.taken out.old) text) (request_of (words_of words.now)) }
 
     // Status 0 comes exactly where the texts are well formed, and all conditions are discharged or decided.

@@ -1,0 +1,52 @@
+//! What is shown of an answer, in the form that is asked for: data first, and then its text, document or page.
+
+mod data;
+mod documents;
+mod pages;
+mod remarks;
+mod texts;
+
+use crate::given::Given;
+use crate::trouble::Trouble;
+use data::told_of;
+pub use documents::document;
+use milkhour_run::{Answer, Question};
+use milkhour_words::{Format, Options};
+use proof_reports::Fault;
+pub use remarks::warned_of;
+use screens::Style;
+use std::alloc::Global;
+
+/// An answer with all that a report may speak of.
+#[derive(Clone, Copy)]
+pub struct Account<'a> {
+    pub question: Question,
+    pub given: &'a Given<'a>,
+    pub options: &'a Options<'a>,
+    pub answer: &'a Answer,
+    pub style: Style,
+    pub remark_style: Style,
+}
+
+/// What is shown of an answer, and what is said beside it.
+#[derive(Drop)]
+pub struct Shown {
+    pub text: Vec<u8>,
+    pub remark: Option<String>,
+}
+
+/// What is shown of an answer, in another form than that of `step`.
+pub fn shown_of(
+    alloc: Global,
+    account: &Account<'_>,
+    warnings: &[Fault],
+) -> Result<Shown, Trouble> {
+    let told = told_of(alloc, account)?;
+    let remark = remarks::remark_of(alloc, account, &told, warnings)?;
+    let text = match account.options.format {
+        Format::Json => documents::document_of(alloc, &told, warnings)?,
+        Format::Html => pages::page_of(alloc, account, &told)?,
+        Format::Text | Format::Plain => texts::text_of(alloc, account, &told)?,
+    };
+    Ok(Shown { text, remark })
+}

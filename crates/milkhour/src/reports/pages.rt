@@ -1,0 +1,45 @@
+//! Reports as pages in HTML.
+
+use super::Account;
+use super::data::{Refusal, Told};
+use super::texts::refusal_text;
+use crate::trouble::Trouble;
+use html_pages::{PageTexts, equation_page, proof_page, run_page, text_page};
+use milkhour_run::Status;
+use screens::Style;
+use std::alloc::Global;
+
+fn page_texts<'b>(account: &Account<'b>) -> PageTexts<'b> {
+    let texts = account.given.texts();
+    PageTexts {
+        program: texts.program.unwrap_or(b"".as_slice()),
+        proof: texts.proof.unwrap_or(b"".as_slice()),
+        drawing: None,
+    }
+}
+
+/// The page of a refusal: its screen, without colours.
+fn refusal_page(
+    alloc: Global,
+    account: &Account<'_>,
+    refusal: &Refusal,
+) -> Result<Vec<u8>, Trouble> {
+    let style = Style {
+        colour: false,
+        width: account.style.width,
+    };
+    let text = refusal_text(alloc, refusal, style)?;
+    let is_good = account.answer.status == Status::Proved;
+    let given = account.given;
+    Ok(text_page(alloc, given.program.name, is_good, text.as_bytes())?)
+}
+
+/// The page of an answer.
+pub fn page_of(alloc: Global, account: &Account<'_>, told: &Told) -> Result<Vec<u8>, Trouble> {
+    match told {
+        Told::Proof(report) => Ok(proof_page(alloc, report, &page_texts(account))?),
+        Told::Run(report) => Ok(run_page(alloc, report, &page_texts(account))?),
+        Told::Equations(report) => Ok(equation_page(alloc, report, page_texts(account).program)?),
+        Told::Refusal(refusal) => refusal_page(alloc, account, refusal),
+    }
+}

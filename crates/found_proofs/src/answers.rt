@@ -16,8 +16,6 @@ pub enum Unfound {
     Wide,
     /// There would be more levels than may be.
     Levels,
-    /// A proof was found, and is refused: its joint conditions are too wide.
-    Refused,
     /// No chain was found for a response.
     Chain,
 }
@@ -33,6 +31,14 @@ pub struct Missing {
     pub so_far: Vec<u8>,
 }
 
+/// A text in which each goal has a proof.
+#[derive(Drop)]
+pub struct Proposal {
+    /// The name of the first goal that was asked for.
+    pub goal: String,
+    pub text: Vec<u8>,
+}
+
 /// A goal that fails.
 #[derive(Drop)]
 pub struct Failing {
@@ -46,8 +52,7 @@ pub struct Failing {
 /// What is found of the goals of a text.
 #[derive(Drop)]
 pub enum Found {
-    /// The text with a proof of each goal.
-    Proof(Vec<u8>),
+    Proof(Proposal),
     False(Failing),
     NotFound(Missing),
 }
@@ -112,10 +117,4 @@ impl<T: Drop> From<AllocFailed<T>> for FindFault {
     fn from(_: AllocFailed<T>) -> Self {
         FindFault::Memory
     }
-}
-
-/// Who decides whether a proof text is accepted.
-pub trait Verifier {
-    /// Whether each condition of a proof text over the program is decided valid.
-    fn accepts(&mut self, proof: &[u8]) -> Result<bool, Memory>;
 }

@@ -3,14 +3,15 @@
 
 /// What an attempt takes.
 #[derive(Clone, Copy, Debug, PartialEq, Eq)]
-pub(crate) struct Attempt {
+pub struct Attempt {
     /// Linear equations are known from the beginning.
     pub(crate) equations: bool,
     /// No equation stands in front of an arrow.
     pub(crate) plain: bool,
 }
 
-pub(crate) const ATTEMPTS: [Attempt; 3] = [
+/// The attempts, in the order in which they are made.
+pub const ATTEMPTS: [Attempt; 3] = [
     Attempt {
         equations: false,
         plain: false,
@@ -26,7 +27,7 @@ pub(crate) const ATTEMPTS: [Attempt; 3] = [
 ];
 
 /// How many queries an attempt may ask, of those that are left: half of them, and the last one all.
-pub(crate) fn share(number: usize, left: u64) -> u64 {
+pub fn share(number: usize, left: u64) -> u64 {
     if number.saturating_add(1) < ATTEMPTS.len() {
         left / 2
     } else {

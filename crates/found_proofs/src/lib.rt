@@ -23,5 +23,6 @@ mod shortening;
 mod steps;
 mod subject;
 
-pub use answers::{Failing, FindFault, Found, Missing, Unfound, Verifier};
-pub use finding::found;
+pub use answers::{Failing, FindFault, Found, Missing, Proposal, Unfound};
+pub use attempts::{ATTEMPTS, Attempt, share};
+pub use finding::{Attempted, attempted};

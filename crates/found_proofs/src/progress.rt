@@ -1,6 +1,6 @@
 //! The way through a text of requests: goals that stand together are proved together, behind the steps in front of them.
 
-use crate::answers::{Failing, Found, Missing, Unfound};
+use crate::answers::{Failing, Found, Missing, Proposal, Unfound};
 use crate::attempts::Attempt;
 use crate::insertions::{Insertion, between, ending, inserted, place_above, starts_line};
 use crate::naming::Naming;
@@ -345,8 +345,26 @@ fn is_scripted(wanted: &Wanted) -> bool {
     }
 }
 
+/// The name of the first goal that is asked for.
+fn first_goal(alloc: Global, request: &Request<'_>) -> Result<String, Memory> {
+    let mut next = 0usize;
+    for (_, wanted) in &request.steps {
+        match wanted {
+            Wanted::Nothing => next = next.saturating_add(1),
+            Wanted::Chain(leading) => return Ok(leading.name.clone()?),
+            Wanted::Proof => {
+                return match request.script.steps.get(next) {
+                    Some(step) => Ok(step.name.clone()?),
+                    None => Ok(String::new(alloc)),
+                };
+            }
+        }
+    }
+    Ok(String::new(alloc))
+}
+
 /// What an attempt finds of the goals of a text, with so many queries; and how many it asked.
-pub(crate) fn attempted<'t>(
+pub(crate) fn progressed<'t>(
     alloc: Global,
     subject: &Subject,
     text: &'t [u8],
@@ -368,6 +386,9 @@ pub(crate) fn attempted<'t>(
     if let Some(answer) = progress.settle(alloc)? {
         return Ok((answer, progress.queries));
     }
-    let whole = progress.text_to(alloc, text.len())?;
-    Ok((Found::Proof(whole), progress.queries))
+    let proposal = Proposal {
+        goal: first_goal(alloc, request)?,
+        text: progress.text_to(alloc, text.len())?,
+    };
+    Ok((Found::Proof(proposal), progress.queries))
 }

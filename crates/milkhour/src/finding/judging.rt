@@ -1,26 +1,17 @@
-//! Who judges what was found.
+//! Who judges what was found: `step` a proof, and a run is judged by the goal that fails on it.
 
-use found_proofs::Verifier;
 use milkhour_run::{Question, Status, Texts, answer};
 use refuted_goals::refutes;
 use st_memory::Memory;
 use std::alloc::Global;
 use std::thread::Threads;
 
-/// `step` as the judge of proofs of a program, and of runs on which a goal fails.
-#[derive(Drop)]
-pub struct Judge<'a, R: Threads + Sync> {
-    pub rt: &'a R,
+/// The program over which proofs and runs are judged.
+#[derive(Clone, Copy)]
+pub struct Subject<'a> {
     pub alloc: Global,
     pub workers: u32,
     pub program: &'a [u8],
-}
-
-impl<R: Threads + Sync> Judge<'_, R> {
-    /// Whether the last goal of a proof fails on the run that a schedule gives.
-    pub fn denies(&self, proof: &[u8], schedule: &[u8]) -> Result<bool, Memory> {
-        refutes(self.alloc, self.program, proof, schedule)
-    }
 }
 
 /// Whether `step` verifies a proof of a program.
@@ -40,8 +31,16 @@ fn verifies<'x, R: Threads + Sync>(
     Ok(answer.status == Status::Proved)
 }
 
-impl<R: Threads + Sync> Verifier for Judge<'_, R> {
-    fn accepts(&mut self, proof: &[u8]) -> Result<bool, Memory> {
-        verifies(self.rt, self.alloc, self.workers, self.program, proof)
-    }
+/// Whether `step` verifies a proof.
+pub fn is_proof<R: Threads + Sync>(
+    rt: &R,
+    subject: &Subject<'_>,
+    proof: &[u8],
+) -> Result<bool, Memory> {
+    verifies(rt, subject.alloc, subject.workers, subject.program, proof)
+}
+
+/// Whether the last goal of a proof fails on the run that a schedule gives.
+pub fn is_refuted(subject: &Subject<'_>, proof: &[u8], schedule: &[u8]) -> Result<bool, Memory> {
+    refutes(subject.alloc, subject.program, proof, schedule)
 }

@@ -1,8 +1,8 @@
 //! What is told of a search for a proof, as data.
 
-use super::judging::Judge;
+use super::judging::{Subject, is_proof, is_refuted};
 use crate::given::Given;
-use found_proofs::{Failing, Found, Missing, Unfound, Verifier};
+use found_proofs::{Failing, Found, Missing, Proposal, Unfound};
 use milkhour_run::Status;
 use run_reports::{RunReport, RunTexts, report_run};
 use serde::Serialize;
@@ -63,9 +63,10 @@ fn empty_report(alloc: Global, verdict: Verdict) -> Result<FindReport, AllocErro
     })
 }
 
-/// A report that nothing was found.
-fn unfound_report(alloc: Global, reason: &str) -> Result<FindReport, AllocError> {
+/// A report that nothing was found of a goal.
+fn unfound_report(alloc: Global, goal: &str, reason: &str) -> Result<FindReport, AllocError> {
     let mut report = empty_report(alloc, Verdict::NotFound)?;
+    report.goal = Some(String::from_str(alloc, goal)?);
     report.reason = Some(String::from_str(alloc, reason)?);
     Ok(report)
 }
@@ -75,14 +76,12 @@ fn reason_of(unfound: Unfound) -> &'static str {
         Unfound::Budget => "the budget is spent: --budget N allows more",
         Unfound::Wide => "a condition is too wide to be decided, or a number is too large",
         Unfound::Levels => "there would be too many levels",
-        Unfound::Refused => "what was found is too wide to be verified",
         Unfound::Chain => "no chain of helpers was found for the response",
     }
 }
 
 fn missing_report(alloc: Global, missing: &Missing) -> Result<FindReport, AllocError> {
-    let mut report = unfound_report(alloc, reason_of(missing.why))?;
-    report.goal = Some(missing.goal.clone()?);
+    let mut report = unfound_report(alloc, missing.goal.as_str(), reason_of(missing.why))?;
     report.proof = Some(text_of(alloc, missing.so_far.as_slice())?);
     if let Some(left) = &missing.left {
         report.left = Some(text_of(alloc, left.as_slice())?);
@@ -90,54 +89,57 @@ fn missing_report(alloc: Global, missing: &Missing) -> Result<FindReport, AllocE
     Ok(report)
 }
 
-/// A run on which the goal doesn't fail refutes nothing.
-fn unconfirmed_report(alloc: Global, failing: &Failing) -> Result<FindReport, AllocError> {
-    let mut report = unfound_report(alloc, "a run was found, and the goal doesn't fail on it")?;
-    report.goal = Some(failing.goal.clone()?);
-    Ok(report)
-}
-
 /// The run that refutes a goal, position by position.
-fn run_of<R: Threads + Sync>(
-    judge: &Judge<'_, R>,
+fn run_of(
+    subject: &Subject<'_>,
     given: &Given<'_>,
     failing: &Failing,
 ) -> Result<Option<RunReport>, Memory> {
     let texts = RunTexts {
         program_name: given.program.name,
-        program: judge.program,
+        program: subject.program,
         proof_name: given.proof_name(),
         proof: failing.proof.as_slice(),
         schedule: failing.schedule.as_slice(),
     };
-    report_run(judge.alloc, &texts)
+    report_run(subject.alloc, &texts)
 }
 
-fn failing_report<R: Threads + Sync>(
-    judge: &Judge<'_, R>,
+/// A run on which the goal doesn't fail refutes nothing.
+fn failing_report(
+    subject: &Subject<'_>,
     given: &Given<'_>,
     failing: &Failing,
 ) -> Result<FindReport, Memory> {
-    let alloc = judge.alloc;
-    if !judge.denies(failing.proof.as_slice(), failing.schedule.as_slice())? {
-        return Ok(unconfirmed_report(alloc, failing)?);
+    let alloc = subject.alloc;
+    let goal = failing.goal.as_str();
+    if !is_refuted(
+        subject,
+        failing.proof.as_slice(),
+        failing.schedule.as_slice(),
+    )? {
+        let reason = "a run was found, and the goal doesn't fail on it";
+        return Ok(unfound_report(alloc, goal, reason)?);
     }
     let mut report = empty_report(alloc, Verdict::False)?;
-    report.goal = Some(failing.goal.clone()?);
+    report.goal = Some(String::from_str(alloc, goal)?);
     report.proof = Some(text_of(alloc, failing.proof.as_slice())?);
     report.schedule = Some(text_of(alloc, failing.schedule.as_slice())?);
-    report.run = run_of(judge, given, failing)?;
+    report.run = run_of(subject, given, failing)?;
     Ok(report)
 }
 
-/// A proof is told as one only where `step` verifies the text that is told.
+/// A proof is told as one only where `step` verifies the text that is told: what is found may be too wide for it.
 fn proof_report<R: Threads + Sync>(
-    judge: &mut Judge<'_, R>,
-    text: &[u8],
+    rt: &R,
+    subject: &Subject<'_>,
+    proposal: &Proposal,
 ) -> Result<FindReport, Memory> {
-    let alloc = judge.alloc;
-    if !judge.accepts(text)? {
-        return Ok(unfound_report(alloc, "a proof was found that isn't verified")?);
+    let alloc = subject.alloc;
+    let text = proposal.text.as_slice();
+    if !is_proof(rt, subject, text)? {
+        let reason = "what was found is too wide to be verified";
+        return Ok(unfound_report(alloc, proposal.goal.as_str(), reason)?);
     }
     let mut report = empty_report(alloc, Verdict::Proved)?;
     report.proof = Some(text_of(alloc, text)?);
@@ -146,13 +148,21 @@ fn proof_report<R: Threads + Sync>(
 
 /// What is told of what was found.
 pub fn report_of<R: Threads + Sync>(
-    judge: &mut Judge<'_, R>,
+    rt: &R,
+    subject: &Subject<'_>,
     given: &Given<'_>,
     found: &Found,
 ) -> Result<FindReport, Memory> {
     match found {
-        Found::Proof(text) => proof_report(judge, text.as_slice()),
-        Found::False(failing) => failing_report(judge, given, failing),
-        Found::NotFound(missing) => Ok(missing_report(judge.alloc, missing)?),
+        Found::Proof(proposal) => proof_report(rt, subject, proposal),
+        Found::False(failing) => failing_report(subject, given, failing),
+        Found::NotFound(missing) => Ok(missing_report(subject.alloc, missing)?),
     }
+}
+
+/// What is told before the first attempt.
+pub fn untried_report(alloc: Global) -> Result<FindReport, Memory> {
+    let mut report = empty_report(alloc, Verdict::NotFound)?;
+    report.reason = Some(String::from_str(alloc, reason_of(Unfound::Budget))?);
+    Ok(report)
 }

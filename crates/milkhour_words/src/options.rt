@@ -40,7 +40,7 @@ pub const FORMAT: OptionRow = OptionRow {
 pub const FOUND_FORMAT: OptionRow = OptionRow {
     long: "format",
     short: None,
-    value: OptionValue::Choice("FORMAT", &["text", "json"], "text"),
+    value: OptionValue::Choice("FORMAT", &["text", "json", "html"], "text"),
     help: "How to write what is found",
 };
 

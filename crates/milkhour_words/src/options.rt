@@ -72,6 +72,13 @@ pub const OUTPUT: OptionRow = OptionRow {
     help: "Write the result to FILE, whole or not at all, and nowhere else",
 };
 
+pub const DRAWING: OptionRow = OptionRow {
+    long: "drawing",
+    short: None,
+    value: OptionValue::Word("SVG"),
+    help: "Show this drawing on the page of --format html, as dot -Tsvg makes it of what draw writes",
+};
+
 pub const ONLY: OptionRow = OptionRow {
     long: "only",
     short: None,

@@ -34,6 +34,7 @@ pre .line.spot { background: var(--mark); }
 .count { display: inline-block; min-width: 2.5em; padding-right: 1em; text-align: right; color: var(--faint); user-select: none; }
 mark { color: inherit; background: var(--mark); border-bottom: 2px solid var(--bad); }
 details { margin: .75em 0; padding: .4em .9em; border: 1px solid var(--line); border-radius: 6px; }
+details pre { white-space: pre-wrap; overflow-wrap: anywhere; }
 summary { cursor: pointer; overflow-wrap: anywhere; }
 .scroll { overflow-x: auto; }
 table { border-collapse: collapse; margin: .5em 0; }

@@ -12,20 +12,16 @@ fn push_cases(page: &mut Page, cases: &[Case]) -> Result<(), Memory> {
     if cases.is_empty() {
         return Ok(());
     }
-    page.markup("<p>none of what the rule allows is so:</p>\n<ol>\n")?;
+    page.markup("<p>the step has to lead to one of these, and leads to none:</p>\n<ul>\n")?;
     for case in cases {
         page.markup("<li>")?;
         page.sentence(&case.meaning)?;
         for missing in &case.missing {
-            page.inside(
-                "<br><span class=\"bad\">not <code>",
-                missing,
-                "</code></span>",
-            )?;
+            page.inside("<br><code class=\"bad\">", missing, "</code>")?;
         }
         page.markup("</li>\n")?;
     }
-    page.markup("</ol>\n")
+    page.markup("</ul>\n")
 }
 
 fn push_broken(page: &mut Page, broken: &[String]) -> Result<(), Memory> {

@@ -1,7 +1,8 @@
 //! Documents laid out.
 
+use crate::changes::TextEdit;
 use crate::places::position;
-use crate::protocol::{Position, Range, TextEdit};
+use crate::protocol::{Position, Range};
 use source_lines::Lines;
 use st_memory::Memory;
 use std::alloc::Global;

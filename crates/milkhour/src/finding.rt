@@ -4,6 +4,7 @@ mod judging;
 mod pages;
 mod reporting;
 mod telling;
+mod watching;
 
 use crate::given::Given;
 use crate::streams::Streams;
@@ -12,25 +13,33 @@ use found_proofs::{ATTEMPTS, FindFault, attempted, share};
 use judging::Subject;
 use milkhour_words::Options;
 use reporting::{FindReport, Verdict, report_of, untried_report};
-use std::rt::Runtime;
+use st_memory::Memory;
+use std::alloc::Global;
+use std::rt::{Eprint, Runtime};
 use std::thread::Threads;
+use std::time::Clock;
 use telling::tell;
+use watching::{Watch, say_attempt, watch};
+
+/// The most questions to the prover of a search that an editor asks for, which are as many as `milkhour find` asks by itself.
+const EDITOR_BUDGET: u64 = 200_000;
 
 /// What comes of the attempts: the first that proves or refutes, else the last.
-fn search<R: Threads + Sync>(
+fn search<R: Clock + Eprint + Threads + Sync>(
     rt: &R,
     subject: &Subject<'_>,
-    given: &Given<'_>,
     proof: &[u8],
     budget: u64,
+    watch: Watch,
 ) -> Result<FindReport, FindFault> {
     let mut left = budget;
     let mut report = untried_report(subject.alloc)?;
     for (number, attempt) in ATTEMPTS.iter().enumerate() {
+        say_attempt(rt, watch, number, budget.saturating_sub(left));
         let share = share(number, left);
         let tried = attempted(subject.alloc, subject.program, proof, *attempt, share)?;
         left = left.saturating_sub(tried.queries);
-        report = report_of(rt, subject, given, &tried.found)?;
+        report = report_of(rt, subject, &tried.found)?;
         if report.verdict != Verdict::NotFound {
             return Ok(report);
         }
@@ -53,12 +62,35 @@ pub fn find<R: Runtime + AllocGlobal + Threads + Sync>(
         alloc: rt.alloc(),
         workers: options.workers,
         program,
+        program_name: given.program.name,
+        proof_name: given.proof_name(),
     };
-    let report = match search(rt, &subject, given, proof, options.budget) {
+    let report = match search(rt, &subject, proof, options.budget, watch(rt, streams)) {
         Ok(report) => report,
         Err(FindFault::Memory) => return Err(Trouble::Memory),
         Err(_) => return Ok(None),
     };
     tell(rt, streams, given, options, &report)?;
     Ok(Some(report.status))
+}
+
+/// The text that `find` writes of a program and its claims, where it proves them.
+pub fn found_proof<R: Clock + Eprint + Threads + Sync>(
+    rt: &R,
+    alloc: Global,
+    program: &[u8],
+    proof: &[u8],
+) -> Result<Option<String>, Memory> {
+    let subject = Subject {
+        alloc,
+        workers: 1,
+        program,
+        program_name: "",
+        proof_name: "",
+    };
+    match search(rt, &subject, proof, EDITOR_BUDGET, Watch::silent()) {
+        Ok(report) if report.verdict == Verdict::Proved => Ok(report.proof),
+        Err(FindFault::Memory) => Err(Memory),
+        _ => Ok(None),
+    }
 }

@@ -1,7 +1,6 @@
 //! What is told of a search for a proof, as data.
 
 use super::judging::{Subject, is_proof, is_refuted};
-use crate::given::Given;
 use found_proofs::{Failing, Found, Missing, Proposal, Unfound};
 use milkhour_run::Status;
 use run_reports::{RunReport, RunTexts, report_run};
@@ -90,15 +89,11 @@ fn missing_report(alloc: Global, missing: &Missing) -> Result<FindReport, AllocE
 }
 
 /// The run that refutes a goal, position by position.
-fn run_of(
-    subject: &Subject<'_>,
-    given: &Given<'_>,
-    failing: &Failing,
-) -> Result<Option<RunReport>, Memory> {
+fn run_of(subject: &Subject<'_>, failing: &Failing) -> Result<Option<RunReport>, Memory> {
     let texts = RunTexts {
-        program_name: given.program.name,
+        program_name: subject.program_name,
         program: subject.program,
-        proof_name: given.proof_name(),
+        proof_name: subject.proof_name,
         proof: failing.proof.as_slice(),
         schedule: failing.schedule.as_slice(),
     };
@@ -106,11 +101,7 @@ fn run_of(
 }
 
 /// A run on which the goal doesn't fail refutes nothing.
-fn failing_report(
-    subject: &Subject<'_>,
-    given: &Given<'_>,
-    failing: &Failing,
-) -> Result<FindReport, Memory> {
+fn failing_report(subject: &Subject<'_>, failing: &Failing) -> Result<FindReport, Memory> {
     let alloc = subject.alloc;
     let goal = failing.goal.as_str();
     if !is_refuted(
@@ -125,7 +116,7 @@ fn failing_report(
     report.goal = Some(String::from_str(alloc, goal)?);
     report.proof = Some(text_of(alloc, failing.proof.as_slice())?);
     report.schedule = Some(text_of(alloc, failing.schedule.as_slice())?);
-    report.run = run_of(subject, given, failing)?;
+    report.run = run_of(subject, failing)?;
     Ok(report)
 }
 
@@ -150,12 +141,11 @@ fn proof_report<R: Threads + Sync>(
 pub fn report_of<R: Threads + Sync>(
     rt: &R,
     subject: &Subject<'_>,
-    given: &Given<'_>,
     found: &Found,
 ) -> Result<FindReport, Memory> {
     match found {
         Found::Proof(proposal) => proof_report(rt, subject, proposal),
-        Found::False(failing) => failing_report(subject, given, failing),
+        Found::False(failing) => failing_report(subject, failing),
         Found::NotFound(missing) => Ok(missing_report(subject.alloc, missing)?),
     }
 }

@@ -8,7 +8,7 @@ mod telling;
 use crate::given::Given;
 use crate::streams::Streams;
 use crate::trouble::Trouble;
-use found_proofs::{ATTEMPTS, FindFault, attempted, share};
+use found_proofs::{ATTEMPTS, FindFault, attempt_proofs, share};
 use judging::Subject;
 use milkhour_words::Options;
 use reporting::{FindReport, Verdict, report_of, untried_report};
@@ -28,7 +28,7 @@ fn search<R: Threads + Sync>(
     let mut report = untried_report(subject.alloc)?;
     for (number, attempt) in ATTEMPTS.iter().enumerate() {
         let share = share(number, left);
-        let tried = attempted(subject.alloc, subject.program, proof, *attempt, share)?;
+        let tried = attempt_proofs(subject.alloc, subject.program, proof, *attempt, share)?;
         left = left.saturating_sub(tried.queries);
         report = report_of(rt, subject, given, &tried.found)?;
         if report.verdict != Verdict::NotFound {

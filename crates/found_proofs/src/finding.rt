@@ -23,7 +23,7 @@ pub struct Attempted {
 ///
 /// # Errors
 /// The first fault of either text; want of memory.
-pub fn attempted(
+pub fn attempt_proofs(
     alloc: Global,
     program: &[u8],
     proof: &[u8],

@@ -25,4 +25,4 @@ mod subject;
 
 pub use answers::{Failing, FindFault, Found, Missing, Proposal, Unfound};
 pub use attempts::{ATTEMPTS, Attempt, share};
-pub use finding::{Attempted, attempted};
+pub use finding::{Attempted, attempt_proofs};

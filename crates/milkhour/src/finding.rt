@@ -9,7 +9,7 @@ mod watching;
 use crate::given::Given;
 use crate::streams::Streams;
 use crate::trouble::Trouble;
-use found_proofs::{ATTEMPTS, FindFault, attempted, share};
+use found_proofs::{ATTEMPTS, FindFault, attempt_proofs, share};
 use judging::Subject;
 use milkhour_words::Options;
 use reporting::{FindReport, Verdict, report_of, untried_report};
@@ -37,7 +37,7 @@ fn search<R: Clock + Eprint + Threads + Sync>(
     for (number, attempt) in ATTEMPTS.iter().enumerate() {
         say_attempt(rt, watch, number, budget.saturating_sub(left));
         let share = share(number, left);
-        let tried = attempted(subject.alloc, subject.program, proof, *attempt, share)?;
+        let tried = attempt_proofs(subject.alloc, subject.program, proof, *attempt, share)?;
         left = left.saturating_sub(tried.queries);
         report = report_of(rt, subject, &tried.found)?;
         if report.verdict != Verdict::NotFound {

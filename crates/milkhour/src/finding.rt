@@ -1,6 +1,7 @@
 //! `find`: what is found is judged by proved calls before it is told, a proof as `verify` does, and a run by the goal that fails on it.
 
 mod judging;
+mod pages;
 mod reporting;
 mod telling;
 
@@ -58,6 +59,6 @@ pub fn find<R: Runtime + AllocGlobal + Threads + Sync>(
         Err(FindFault::Memory) => return Err(Trouble::Memory),
         Err(_) => return Ok(None),
     };
-    tell(rt, streams, options, &report)?;
+    tell(rt, streams, given, options, &report)?;
     Ok(Some(report.status))
 }

@@ -41,6 +41,8 @@ pub struct Given<'a> {
     pub program: GivenText<'a>,
     pub proof: Option<GivenText<'a>>,
     pub third: Option<GivenText<'a>>,
+    /// What a page shows beside the texts.
+    pub drawing: Option<GivenText<'a>>,
 }
 
 fn bytes_of<'b>(text: &'b Option<GivenText<'_>>) -> Option<&'b [u8]> {
@@ -58,6 +60,11 @@ impl Given<'_> {
             proof: bytes_of(&self.proof),
             third: bytes_of(&self.third),
         }
+    }
+
+    /// The drawing that a page shows.
+    pub fn drawing(&self) -> Option<&[u8]> {
+        bytes_of(&self.drawing)
     }
 
     pub fn third_name(&self) -> &str {
@@ -102,7 +109,11 @@ fn inputs(files: &FileNames<'_>) -> u32 {
     let program = is_input(Some(files.program)) as u32;
     let proof = is_input(files.proof) as u32;
     let third = is_input(files.third) as u32;
-    program.saturating_add(proof).saturating_add(third)
+    let drawing = is_input(files.drawing) as u32;
+    program
+        .saturating_add(proof)
+        .saturating_add(third)
+        .saturating_add(drawing)
 }
 
 fn most_of_third(task: Task) -> u64 {
@@ -145,6 +156,23 @@ fn parting<'a>(
     Ok((program, Some(proof)))
 }
 
+/// The drawing of a page, which has to be there.
+fn read_drawing<'a, R: Runtime + AllocGlobal>(
+    rt: &R,
+    name: Option<&'a str>,
+) -> Result<Option<GivenText<'a>>, Trouble> {
+    let Some(name) = name else {
+        return Ok(None);
+    };
+    let drawing = read_text(rt, name);
+    match &drawing.bytes {
+        Ok(_) => Ok(Some(drawing)),
+        Err(error) => Err(Trouble::Reading(format!(in rt.alloc();
+            "{name}: can't be read: {error}"
+        )?)),
+    }
+}
+
 /// Reads the texts that a task names.
 pub fn read_files<'a, R: Runtime + AllocGlobal>(
     rt: &R,
@@ -171,5 +199,6 @@ pub fn read_files<'a, R: Runtime + AllocGlobal>(
         program,
         proof,
         third,
+        drawing: read_drawing(rt, files.drawing)?,
     })
 }

@@ -12,6 +12,9 @@ pub enum Trouble {
     /// The output, or the file that the result goes to, took no more.
     #[error("can't write: {0}")]
     Writing(io::Error),
+    /// A file beside the texts can't be read.
+    #[error("{0}")]
+    Reading(String),
     /// The words ask for what can't be done with these files.
     #[error("{0}")]
     Words(String),
@@ -23,6 +26,7 @@ impl Trouble {
         match self {
             Trouble::Memory => Status::Memory,
             Trouble::Writing(_) => Status::WriteFault,
+            Trouble::Reading(_) => Status::ReadFault,
             Trouble::Words(_) => Status::Words,
         }
     }

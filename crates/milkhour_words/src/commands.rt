@@ -1,8 +1,8 @@
 //! The commands. Help is made of this table, and so can be completions and a man page.
 
 use crate::options::{
-    BUDGET, CHECK, COLOUR, FIRST, FORMAT, FOUND_FORMAT, FROM, LIMIT, ONLY, OUTPUT, OptionRow, SMT,
-    STEP, WORKERS,
+    BUDGET, CHECK, COLOUR, DRAWING, FIRST, FORMAT, FOUND_FORMAT, FROM, LIMIT, ONLY, OUTPUT,
+    OptionRow, SMT, STEP, WORKERS,
 };
 
 /// The version of the program. The changelog has its date.
@@ -90,7 +90,7 @@ pub static COMMANDS: [CommandRow; 12] = [
         name: "verify",
         about: "Search for a proof of each condition, and explain those that have none",
         files: SOURCE,
-        options: &[FIRST, LIMIT, FORMAT, COLOUR, OUTPUT, WORKERS],
+        options: &[FIRST, LIMIT, FORMAT, DRAWING, COLOUR, OUTPUT, WORKERS],
         usage: "milkhour verify [OPTIONS] PROGRAM [PROOF]",
         example: "Examples:\n  milkhour verify peterson.spl peterson.proof\n  milkhour verify peterson.spl --first\n  milkhour verify - peterson.proof --format json < peterson.spl",
     },
@@ -98,7 +98,7 @@ pub static COMMANDS: [CommandRow; 12] = [
         name: "check",
         about: "Check the certificates of a proof",
         files: CERTIFIED,
-        options: &[FORMAT, COLOUR, OUTPUT, WORKERS],
+        options: &[FORMAT, DRAWING, COLOUR, OUTPUT, WORKERS],
         usage: "milkhour check [OPTIONS] PROGRAM [PROOF] CERTIFICATES",
         example: "Example:\n  milkhour check peterson.spl peterson.proof peterson.certs",
     },

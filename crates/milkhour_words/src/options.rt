@@ -40,7 +40,7 @@ pub const FORMAT: OptionRow = OptionRow {
 pub const FOUND_FORMAT: OptionRow = OptionRow {
     long: "format",
     short: None,
-    value: OptionValue::Choice("FORMAT", &["text", "json"], "text"),
+    value: OptionValue::Choice("FORMAT", &["text", "json", "html"], "text"),
     help: "How to write what is found",
 };
 
@@ -70,6 +70,13 @@ pub const OUTPUT: OptionRow = OptionRow {
     short: Some('o'),
     value: OptionValue::Word("FILE"),
     help: "Write the result to FILE, whole or not at all, and nowhere else",
+};
+
+pub const DRAWING: OptionRow = OptionRow {
+    long: "drawing",
+    short: None,
+    value: OptionValue::Word("SVG"),
+    help: "Show this drawing on the page of --format html, as dot -Tsvg makes it of what draw writes",
 };
 
 pub const ONLY: OptionRow = OptionRow {

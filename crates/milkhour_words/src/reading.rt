@@ -70,27 +70,35 @@ fn has_third(task: Task) -> bool {
     matches!(task, Task::Check | Task::Trace)
 }
 
-fn file_names<'a>(task: Task, names: &[&'a str]) -> Option<FileNames<'a>> {
+fn file_names<'a>(
+    task: Task,
+    names: &[&'a str],
+    drawing: Option<&'a str>,
+) -> Option<FileNames<'a>> {
     match (names, has_third(task)) {
         ([program], _) if task != Task::Check => Some(FileNames {
             program,
             proof: None,
             third: None,
+            drawing,
         }),
         ([program, proof], false) => Some(FileNames {
             program,
             proof: Some(proof),
             third: None,
+            drawing,
         }),
         ([program, third], true) => Some(FileNames {
             program,
             proof: None,
             third: Some(third),
+            drawing,
         }),
         ([program, proof, third], true) => Some(FileNames {
             program,
             proof: Some(proof),
             third: Some(third),
+            drawing,
         }),
         _ => None,
     }
@@ -98,7 +106,8 @@ fn file_names<'a>(task: Task, names: &[&'a str]) -> Option<FileNames<'a>> {
 
 fn work_of<'a>(name: &str, matches: &ArgMatches<'a>) -> Option<Work<'a>> {
     let task = task_named(name)?;
-    let files = file_names(task, matches.get_strs("files")?)?;
+    let drawing = matches.get_str("drawing");
+    let files = file_names(task, matches.get_strs("files")?, drawing)?;
     Some(Work {
         task,
         files,

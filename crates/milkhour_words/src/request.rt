@@ -39,6 +39,8 @@ pub struct FileNames<'a> {
     pub proof: Option<&'a str>,
     /// The certificates, or the schedule; a run is also asked for without one.
     pub third: Option<&'a str>,
+    /// What a page shows beside the texts.
+    pub drawing: Option<&'a str>,
 }
 
 /// The options, with their defaults where they aren't given or the command has none such.

@@ -8,3 +8,4 @@ pub mod Clear
 pub mod Verdicts
 pub mod Lengths
 pub mod Marking
+pub mod Fitting

@@ -1,7 +1,9 @@
 //! How what was found is told: the text of a proof as a result, a run that refutes a goal on standard output, and that nothing was
 //! found on standard error.
 
+use super::pages::page_of;
 use super::reporting::{FindReport, Verdict};
+use crate::given::Given;
 use crate::reports::document;
 use crate::streams::{Streams, Target, style_of, write_remark, write_result};
 use crate::trouble::Trouble;
@@ -70,17 +72,14 @@ fn tell_proof<R: Runtime + AllocGlobal>(
     }
 }
 
-/// Tells what was found.
-pub fn tell<R: Runtime + AllocGlobal>(
+/// Tells what was found as a text: a proof, a run, or why there is neither.
+fn tell_text<R: Runtime + AllocGlobal>(
     rt: &R,
     streams: Streams,
     options: &Options<'_>,
     report: &FindReport,
 ) -> Result<(), Trouble> {
     let alloc = rt.alloc();
-    if options.format == Format::Json {
-        return write_result(rt, options.output, document(alloc, report)?.as_slice());
-    }
     match report.verdict {
         Verdict::Proved => match &report.proof {
             Some(proof) => tell_proof(rt, options.output, proof),
@@ -92,4 +91,24 @@ pub fn tell<R: Runtime + AllocGlobal>(
         }
         Verdict::NotFound => write_remark(rt, unfound_text(alloc, report)?.as_str()),
     }
+}
+
+/// Tells what was found.
+pub fn tell<R: Runtime + AllocGlobal>(
+    rt: &R,
+    streams: Streams,
+    given: &Given<'_>,
+    options: &Options<'_>,
+    report: &FindReport,
+) -> Result<(), Trouble> {
+    let alloc = rt.alloc();
+    let whole = match options.format {
+        Format::Json => document(alloc, report)?,
+        Format::Html => {
+            let said = unfound_text(alloc, report)?;
+            page_of(alloc, given, report, said.as_str())?
+        }
+        Format::Text | Format::Plain => return tell_text(rt, streams, options, report),
+    };
+    write_result(rt, options.output, whole.as_slice())
 }

@@ -15,7 +15,7 @@ fn page_texts<'b>(account: &Account<'b>) -> PageTexts<'b> {
     PageTexts {
         program: texts.program.unwrap_or(b"".as_slice()),
         proof: texts.proof.unwrap_or(b"".as_slice()),
-        drawing: None,
+        drawing: account.given.drawing(),
     }
 }
 

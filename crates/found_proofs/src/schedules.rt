@@ -5,7 +5,8 @@ ghost use Rattle.std.specs.Prelude.{◌≡◌, length};
 use crate::subject::Subject;
 use clause_texts::Sentence;
 use invariant_search::Run;
-use st_form::{Part, TransName};
+use schedule_texts::{move_text, part_text};
+use st_form::TransName;
 use st_memory::Memory;
 use st_program::{Datum, NameTable};
 use std::alloc::Global;
@@ -33,30 +34,11 @@ fn value_text(
     Ok(out)
 }
 
-/// What stands behind the label of a statement for a part of it.
-fn part_text(part: Part) -> &'static str {
-    match part {
-        Part::Whole => "",
-        Part::Entry => ".entry",
-        Part::Exit => ".exit",
-    }
-}
-
-/// A move: the statement by its label or else by its number from 1, and its part.
-fn move_text(alloc: Global, names: &NameTable, name: TransName) -> Result<String, Memory> {
-    match name {
-        TransName::Idle => Ok(String::from_str(alloc, "-;")?),
-        TransName::Step { occ, part } => {
-            let part = part_text(part);
-            match names.statement_name(occ) {
-                Some(label) => Ok(format!(in alloc; "{label}{part};")?),
-                None => {
-                    let number = u64::from(occ) + 1;
-                    Ok(format!(in alloc; "{number}{part};")?)
-                }
-            }
-        }
-    }
+/// A move behind the values.
+fn move_unit(alloc: Global, names: &NameTable, name: TransName) -> Result<String, Memory> {
+    let mut text = move_text(alloc, names, name)?;
+    text.push_str(";")?;
+    Ok(text)
 }
 
 /// The schedule of a run of the program.
@@ -74,7 +56,7 @@ pub(crate) fn schedule_text(
     }
     out.push_unit(b"::")?;
     for step in &run.moves {
-        let text = move_text(alloc, &subject.names, step.name)?;
+        let text = move_unit(alloc, &subject.names, step.name)?;
         out.push_unit(text.as_bytes())?;
     }
     let mut text = out.text();

@@ -1,0 +1,6 @@
+//! Moves as schedules write them.
+#![tactic(auto)]
+
+mod moves;
+
+pub use moves::{move_text, part_text};

@@ -1,6 +1,6 @@
 -- Lines that are eliminated without a contradiction hold at a point in fractions: each stage of the elimination turns a point of
 -- the new list into one of the old.
-use Rattle.std.proofs.Common.{◌≡◌, ℕ, Some, List, [], ◌∷◌, map, refl, arith, length, ℤ, pos}
+use Rattle.std.proofs.Common.{◌≡◌, ℕ, ◌+◌, Some, List, [], ◌∷◌, map, refl, arith, length, ℤ, pos}
 use Rattle.std.specs.Prelude.{nat_lt}
 use Rattle.st_linear.specs.declared.rows.Line.{Line}
 use Rattle.elimination_laws.specs.Stages.{sifted, Use, at_rows, through, then_stages, stages, tracked, ending}

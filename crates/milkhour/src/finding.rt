@@ -14,7 +14,8 @@ use milkhour_words::Options;
 use reporting::{FindReport, Verdict, report_of, untried_report};
 use st_memory::Memory;
 use std::alloc::Global;
-use std::rt::{Eprint, Runtime};
+use std::io::Eprint;
+use std::rt::Runtime;
 use std::thread::Threads;
 use std::time::Clock;
 use telling::tell;
@@ -79,7 +80,7 @@ pub fn found_proof<R: Clock + Eprint + Threads + Sync>(
     alloc: Global,
     program: &[u8],
     proof: &[u8],
-) -> Result<Option<String>, Memory> {
+) -> Result<Option<Vec<u8>>, Memory> {
     let subject = Subject {
         alloc,
         workers: 1,
@@ -88,7 +89,7 @@ pub fn found_proof<R: Clock + Eprint + Threads + Sync>(
         proof_name: "",
     };
     match search(rt, &subject, proof, EDITOR_BUDGET, Watch::silent()) {
-        Ok(report) if report.verdict == Verdict::Proved => Ok(report.proof),
+        Ok(report) if report.verdict == Verdict::Proved => Ok(Some(report.text)),
         Err(FindFault::Memory) => Err(Memory),
         _ => Ok(None),
     }

@@ -19,7 +19,7 @@ use std::rt::Runtime;
 use std::thread::Threads;
 use std::time::Clock;
 use telling::tell;
-use watching::{Watch, say_attempt, watch};
+use watching::{Watch, begin_watch, say_attempt};
 
 /// The most questions to the prover of a search that an editor asks for, which are as many as `milkhour find` asks by itself.
 const EDITOR_BUDGET: u64 = 200_000;
@@ -65,7 +65,13 @@ pub fn find<R: Runtime + AllocGlobal + Threads + Sync>(
         program_name: given.program.name,
         proof_name: given.proof_name(),
     };
-    let report = match search(rt, &subject, proof, options.budget, watch(rt, streams)) {
+    let report = match search(
+        rt,
+        &subject,
+        proof,
+        options.budget,
+        begin_watch(rt, streams),
+    ) {
         Ok(report) => report,
         Err(FindFault::Memory) => return Err(Trouble::Memory),
         Err(_) => return Ok(None),

@@ -23,7 +23,7 @@ impl Watch {
 }
 
 /// Begins to watch a search, where standard error is a terminal and there is a clock.
-pub fn watch<R: Clock>(rt: &R, streams: Streams) -> Watch {
+pub fn begin_watch<R: Clock>(rt: &R, streams: Streams) -> Watch {
     let begun = match Instant::now(rt) {
         Ok(now) if streams.is_error_terminal => Some(now),
         _ => None,

@@ -5,7 +5,7 @@
 
 PROGRAM is another executable than the built one; with `--untimed` the table has no times, and each search is done once. Of each claim the table has the answer, the least clock time and the least time of the
 processors of N runs (3 if it isn't said), and how long what is found is: its lemmas, and its letters without blanks. Beside it stands
-what the example of that name has by hand for the claims of the same names: the lemmas that they cite, and those that these cite.
+what the example of that name has by hand for the claims of the same kinds and names: the lemmas that they cite, and those that these cite.
 """
 import argparse
 import os
@@ -22,7 +22,7 @@ ANSWERS = {0: "proved", 1: "nothing"}
 def steps(text):
     """The steps of a proof by their names, without comments and blanks in front."""
     bare = re.sub(r"%[^\n]*", "", text)
-    found = [it.strip() for it in re.findall(r"[^;]*;", bare)]
+    found = [it.strip() for it in re.findall(r"(?:\[[^\]]*\]|[^;\[])*;", bare)]
     return {it.split()[1].rstrip(":"): it for it in found if len(it.split()) > 1}
 
 
@@ -65,7 +65,7 @@ def row(program, folder, runs):
     own = size(steps(text), claims) if status == 0 else ""
     example = TOP / "examples" / name / "proof"
     by_hand = steps(example.read_text()) if example.is_file() else {}
-    shared = [it for it in claims if it in by_hand]
+    shared = [it for it in claims if it in by_hand and by_hand[it].split()[0] == claims[it].split()[0]]
     times = [f"{clock * 1e3:,.0f} ms", f"{processors * 1e3:,.0f} ms"] if runs else []
     return [name, answer, *times, own, size(by_hand, shared) if len(shared) == len(claims) else ""]
 

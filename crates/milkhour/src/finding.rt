@@ -30,13 +30,12 @@ fn search<R: Clock + Eprint + Threads + Sync>(
     rt: &R,
     subject: &Subject<'_>,
     proof: &[u8],
-    budget: u64,
     watch: Watch,
 ) -> Result<FindReport, FindFault> {
-    let mut left = budget;
-    let mut report = untried_report(subject.alloc)?;
+    let mut left = subject.budget;
+    let mut report = untried_report(subject)?;
     for (number, attempt) in ATTEMPTS.iter().enumerate() {
-        say_attempt(rt, watch, number, budget.saturating_sub(left));
+        say_attempt(rt, watch, number, subject.budget.saturating_sub(left));
         let share = share(number, left);
         let tried = attempt_proofs(subject.alloc, subject.program, proof, *attempt, share)?;
         left = left.saturating_sub(tried.queries);
@@ -62,17 +61,12 @@ pub fn find<R: Runtime + AllocGlobal + Threads + Sync>(
     let subject = Subject {
         alloc: rt.alloc(),
         workers: options.workers,
+        budget: options.budget,
         program,
         program_name: given.program.name,
         proof_name: given.proof_name(),
     };
-    let report = match search(
-        rt,
-        &subject,
-        proof,
-        options.budget,
-        begin_watch(rt, streams),
-    ) {
+    let report = match search(rt, &subject, proof, begin_watch(rt, streams)) {
         Ok(report) => report,
         Err(FindFault::Memory) => return Err(Trouble::Memory),
         Err(_) => return Ok(None),
@@ -91,11 +85,12 @@ pub fn found_proof<R: Clock + Eprint + Threads + Sync>(
     let subject = Subject {
         alloc,
         workers: 1,
+        budget: EDITOR_BUDGET,
         program,
         program_name: "",
         proof_name: "",
     };
-    match search(rt, &subject, proof, EDITOR_BUDGET, Watch::silent()) {
+    match search(rt, &subject, proof, Watch::silent()) {
         Ok(report) if report.verdict == Verdict::Proved => Ok(Some(report.text)),
         Err(FindFault::Memory) => Err(Memory),
         _ => Ok(None),

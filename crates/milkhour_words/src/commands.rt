@@ -132,7 +132,7 @@ pub static COMMANDS: [CommandRow; 12] = [
         files: SOURCE,
         options: &[BUDGET, FOUND_FORMAT, COLOUR, OUTPUT, WORKERS],
         usage: "milkhour find [OPTIONS] PROGRAM [PROOF]",
-        example: "Example:\n  milkhour find peterson.spl claims.proof -o peterson.proof",
+        example: "An invariance is claimed by `invariant NAME: p;`, a response by `response NAME: p leads q by find;`.\n\nExample:\n  milkhour find peterson.spl claims.proof -o peterson.proof",
     },
     CommandRow {
         name: "conditions",

@@ -73,17 +73,24 @@ fn unfound_report(alloc: Global, goal: &str, reason: &str) -> Result<FindReport,
     Ok(report)
 }
 
-fn reason_of(unfound: Unfound) -> &'static str {
+fn reason_of(alloc: Global, unfound: Unfound, budget: u64) -> Result<String, AllocError> {
     match unfound {
-        Unfound::Budget => "the budget is spent: --budget N allows more",
-        Unfound::Wide => "a condition is too wide to be decided, or a number is too large",
-        Unfound::Levels => "there would be too many levels",
-        Unfound::Chain => "no chain of helpers was found for the response",
+        Unfound::Budget => format!(in alloc;
+            "the budget of {budget} questions is spent: --budget N allows more"
+        ),
+        Unfound::Wide => String::from_str(
+            alloc,
+            "a condition is too wide to be decided, or a number is too large",
+        ),
+        Unfound::Levels => String::from_str(alloc, "there would be too many levels"),
+        Unfound::Chain => String::from_str(alloc, "no chain of helpers was found for the response"),
     }
 }
 
-fn missing_report(alloc: Global, missing: &Missing) -> Result<FindReport, AllocError> {
-    let mut report = unfound_report(alloc, missing.goal.as_str(), reason_of(missing.why))?;
+fn missing_report(subject: &Subject<'_>, missing: &Missing) -> Result<FindReport, AllocError> {
+    let alloc = subject.alloc;
+    let reason = reason_of(alloc, missing.why, subject.budget)?;
+    let mut report = unfound_report(alloc, missing.goal.as_str(), reason.as_str())?;
     report.proof = Some(text_of(alloc, missing.so_far.as_slice())?);
     if let Some(left) = &missing.left {
         report.left = Some(text_of(alloc, left.as_slice())?);
@@ -150,13 +157,14 @@ pub fn report_of<R: Threads + Sync>(
     match found {
         Found::Proof(proposal) => proof_report(rt, subject, proposal),
         Found::False(failing) => failing_report(subject, failing),
-        Found::NotFound(missing) => Ok(missing_report(subject.alloc, missing)?),
+        Found::NotFound(missing) => Ok(missing_report(subject, missing)?),
     }
 }
 
 /// What is told before the first attempt.
-pub fn untried_report(alloc: Global) -> Result<FindReport, Memory> {
+pub fn untried_report(subject: &Subject<'_>) -> Result<FindReport, Memory> {
+    let alloc = subject.alloc;
     let mut report = empty_report(alloc, Verdict::NotFound)?;
-    report.reason = Some(String::from_str(alloc, reason_of(Unfound::Budget))?);
+    report.reason = Some(reason_of(alloc, Unfound::Budget, subject.budget)?);
     Ok(report)
 }

@@ -161,7 +161,7 @@ pub(crate) fn help_instead(
     place: u64,
     wanted: &[String],
 ) -> Option<&'static str> {
-    let words = around(source, place);
+    let words = words_around(source, place);
     match reader {
         Reader::Program => in_program(words, wanted),
         Reader::Proof(_) => in_proof(words, wanted),

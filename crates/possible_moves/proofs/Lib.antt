@@ -1,3 +1,3 @@
 pub mod Leading
-pub mod Reaching
-pub mod Reporting
+pub mod Arrived
+pub mod Told

@@ -1,6 +1,6 @@
 use Rattle.std.proofs.lemmas.Result.{IfOk-weaker}
 use Rattle.st_program.specs.Plain.{plain_children}
-use Rattle.possible_moves.proofs.Reaching.{reached}
+use Rattle.possible_moves.proofs.Arrived.{reached}
 use Rattle.possible_moves.proofs.reaching.last_reached.Goals as goal
 
 pub returns-in-Some : goal.returns-in-Some

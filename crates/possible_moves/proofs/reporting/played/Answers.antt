@@ -1,5 +1,5 @@
 use Rattle.std.proofs.lemmas.Result.{IfOk-weaker}
-use Rattle.possible_moves.proofs.Reporting.{reported}
+use Rattle.possible_moves.proofs.Told.{reported}
 use Rattle.possible_moves.proofs.reporting.played.Goals as goal
 
 pub returns-in-Some : goal.returns-in-Some

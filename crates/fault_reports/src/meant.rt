@@ -38,7 +38,7 @@ struct Around<'a> {
     next: &'a str,
 }
 
-fn around<'a>(source: &Source<'a>, place: u64) -> Around<'a> {
+fn words_around<'a>(source: &Source<'a>, place: u64) -> Around<'a> {
     Around {
         earlier: source.word_before(place, 2),
         before: source.word_before(place, 1),

@@ -83,7 +83,7 @@ struct Parting {
     from: usize,
 }
 
-fn parting(old: &[u8], new: &[u8]) -> Parting {
+fn first_difference(old: &[u8], new: &[u8]) -> Parting {
     let mut parting = Parting { line: 0, from: 0 };
     for (place, (before, behind)) in old.iter().zip(new.iter()).enumerate() {
         if *before != *behind {
@@ -101,7 +101,7 @@ fn parting(old: &[u8], new: &[u8]) -> Parting {
 
 /// The edit that makes one text of the other, from the first line on in which they differ; none where the new text isn't UTF-8.
 fn edit(alloc: Global, old: &[u8], new: &[u8]) -> Result<Option<TextEdit>, Memory> {
-    let parting = parting(old, new);
+    let parting = first_difference(old, new);
     let Ok(rest) = str::from_utf8(new.split_at(parting.from.min(new.len())).1) else {
         return Ok(None);
     };

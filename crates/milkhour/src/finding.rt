@@ -15,11 +15,12 @@ use milkhour_words::Options;
 use reporting::{FindReport, Verdict, report_of, untried_report};
 use st_memory::Memory;
 use std::alloc::Global;
-use std::rt::{Eprint, Runtime};
+use std::io::Eprint;
+use std::rt::Runtime;
 use std::thread::Threads;
 use std::time::Clock;
 use telling::tell;
-use watching::{Watch, say_attempt, watch};
+use watching::{Watch, begin_watch, say_attempt};
 
 /// The most questions to the prover of a search that an editor asks for, which are as many as `milkhour find` asks by itself.
 const EDITOR_BUDGET: u64 = 200_000;
@@ -65,7 +66,7 @@ pub fn find<R: Runtime + AllocGlobal + Threads + Sync>(
         program_name: given.program.name,
         proof_name: given.proof_name(),
     };
-    let report = match search(rt, &subject, proof, watch(rt, streams)) {
+    let report = match search(rt, &subject, proof, begin_watch(rt, streams)) {
         Ok(report) => report,
         Err(FindFault::Memory) => return Err(Trouble::Memory),
         Err(_) => return Ok(None),
@@ -80,7 +81,7 @@ pub fn found_proof<R: Clock + Eprint + Threads + Sync>(
     alloc: Global,
     program: &[u8],
     proof: &[u8],
-) -> Result<Option<String>, Memory> {
+) -> Result<Option<Vec<u8>>, Memory> {
     let subject = Subject {
         alloc,
         workers: 1,
@@ -90,7 +91,7 @@ pub fn found_proof<R: Clock + Eprint + Threads + Sync>(
         proof_name: "",
     };
     match search(rt, &subject, proof, Watch::silent()) {
-        Ok(report) if report.verdict == Verdict::Proved => Ok(report.proof),
+        Ok(report) if report.verdict == Verdict::Proved => Ok(Some(report.text)),
         Err(FindFault::Memory) => Err(Memory),
         _ => Ok(None),
     }

@@ -58,7 +58,7 @@ fn make_searches<R: Runtime + AllocGlobal + Threads + Sync>(
             Some(wanted) => found_proof(rt, alloc, wanted.program, wanted.proof)?,
             None => break,
         };
-        session.give(alloc, found.as_deref().map(str::as_bytes), out)?;
+        session.give(alloc, found.as_deref(), out)?;
         session.feed(alloc, disk, b"", out)?;
     }
     Ok(())

@@ -55,11 +55,7 @@ fn surveyed(alloc: Global, program: &Program, state: State) -> Result<Option<Rea
 }
 
 /// The last state of a run that was played, and what may be done there.
-fn last_reached(
-    alloc: Global,
-    program: &Program,
-    played: Played,
-) -> Result<Option<Reached>, Memory>
+fn last_reached(alloc: Global, program: &Program, played: Played) -> Result<Option<Reached>, Memory>
     ensures { (initial : Formula) (store : Store) (names : List TransName) → IsRunOf (plain_children program.now.processes) initial store names played
         → IfOk result (λ o. IfSome o (IsReachedBy (plain_children program.now.processes) initial store names)) }
 {

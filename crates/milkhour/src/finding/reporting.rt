@@ -7,7 +7,6 @@ use run_reports::{RunReport, RunTexts, report_run};
 use serde::Serialize;
 use st_memory::Memory;
 use std::alloc::{AllocError, Global};
-use std::str;
 use std::thread::Threads;
 
 /// The version of the form of what is found.
@@ -38,10 +37,13 @@ pub struct FindReport {
     pub reason: Option<String>,
     /// What was left to be excluded, as a formula.
     pub left: Option<String>,
+    /// The text of the proof where it proves the claims, which need not be UTF-8 in its comments.
+    #[serde(skip)]
+    pub text: Vec<u8>,
 }
 
 fn text_of(alloc: Global, bytes: &[u8]) -> Result<String, AllocError> {
-    String::from_str(alloc, str::from_utf8(bytes).unwrap_or(""))
+    String::from_utf8_lossy(alloc, bytes)
 }
 
 fn empty_report(alloc: Global, verdict: Verdict) -> Result<FindReport, AllocError> {
@@ -59,6 +61,7 @@ fn empty_report(alloc: Global, verdict: Verdict) -> Result<FindReport, AllocErro
         run: None,
         reason: None,
         left: None,
+        text: Vec::new(alloc),
     })
 }
 
@@ -141,6 +144,7 @@ fn proof_report<R: Threads + Sync>(
     }
     let mut report = empty_report(alloc, Verdict::Proved)?;
     report.proof = Some(text_of(alloc, text)?);
+    report.text = Vec::from_slice(alloc, text)?;
     Ok(report)
 }
 

@@ -3,11 +3,11 @@
 
 use crate::streams::Streams;
 use found_proofs::ATTEMPTS;
-use std::rt::Eprint;
+use std::io::Eprint;
 use std::time::{Clock, Duration, Instant};
 
-/// A search that is shorter says nothing of how far it is.
-const PATIENCE: Duration = Duration::from_millis(500);
+/// How many milliseconds a search takes that says nothing of how far it is.
+const PATIENCE: u64 = 500;
 
 /// When a search began, where it is said how far it is.
 #[derive(Clone, Copy)]
@@ -23,7 +23,7 @@ impl Watch {
 }
 
 /// Begins to watch a search, where standard error is a terminal and there is a clock.
-pub fn watch<R: Clock>(rt: &R, streams: Streams) -> Watch {
+pub fn begin_watch<R: Clock>(rt: &R, streams: Streams) -> Watch {
     let begun = match Instant::now(rt) {
         Ok(now) if streams.is_error_terminal => Some(now),
         _ => None,
@@ -36,7 +36,7 @@ fn is_late<R: Clock>(rt: &R, watch: Watch) -> bool {
         return false;
     };
     match begun.elapsed(rt) {
-        Ok(gone) => PATIENCE < gone,
+        Ok(gone) => Duration::from_millis(PATIENCE) < gone,
         Err(_) => false,
     }
 }

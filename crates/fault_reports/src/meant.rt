@@ -38,7 +38,7 @@ struct Around<'a> {
     next: &'a str,
 }
 
-fn around<'a>(source: &Source<'a>, place: u64) -> Around<'a> {
+fn words_around<'a>(source: &Source<'a>, place: u64) -> Around<'a> {
     Around {
         earlier: source.word_before(place, 2),
         before: source.word_before(place, 1),
@@ -161,7 +161,7 @@ pub(crate) fn help_instead(
     place: u64,
     wanted: &[String],
 ) -> Option<&'static str> {
-    let words = around(source, place);
+    let words = words_around(source, place);
     match reader {
         Reader::Program => in_program(words, wanted),
         Reader::Proof(_) => in_proof(words, wanted),

@@ -13,7 +13,6 @@ ghost use Rattle.schedule_reader.specs.Values.{IsWritten};
 ghost use Rattle.possible_moves.specs.Moves.{AreMoves, IsAt, IsReachedBy, IsRunOf, way_of};
 
 use schedule_reader::Schedule;
-use spl_semantics::laws::steps_by_cases;
 use spl_semantics::{Move, MoveFault, moves, store_fits};
 use st_memory::Memory;
 use st_program::{Program, State};
@@ -33,7 +32,6 @@ fn moves_from(alloc: Global, program: &Program, state: &State) -> Result<Option<
     ensures { IfOk result (λ o. IfSome o (λ v. AreMoves (plain_children program.now.processes) (plain_state state.now) (map way_of v.items))) }
 {
     let _ = &program.processes;
-    steps_by_cases();
     match moves(alloc, program, state) {
         Ok(moves) => Ok(Some(moves)),
         Err(MoveFault::ValueLimit) => Ok(None),

@@ -7,7 +7,7 @@ use crate::formatting::edits;
 use crate::names::{completions, definition, hover};
 use crate::publishing::{publish, publish_pair};
 use crate::replies::{capabilities, fail, respond};
-use crate::texts::{Disk, Source, pair_of};
+use crate::texts::{Disk, Pair, Source, pair_of};
 use crate::verdicts::Verdicts;
 use serde_json::Value;
 use st_memory::Memory;
@@ -183,14 +183,11 @@ impl Server {
         let Some(pair) = pair_of(alloc, &self.documents, disk, uri)? else {
             return fail(alloc, out, id, REQUEST_FAILED, "the program can't be read");
         };
-        let Some(proof) = pair.proof else {
+        let Pair { program, proof } = pair;
+        let Some(proof) = proof else {
             return fail(alloc, out, id, REQUEST_FAILED, "there is no proof");
         };
-        self.search = Some(Search {
-            id,
-            program: pair.program,
-            proof,
-        });
+        self.search = Some(Search { id, program, proof });
         Ok(())
     }
 

@@ -1,6 +1,7 @@
 //! Conditions that aren't decided valid.
 
 use crate::page::Page;
+use crate::sources::ProofPlace;
 use crate::spots::push_spot;
 use crate::states::push_states;
 use crate::turns::push_turn;
@@ -55,11 +56,11 @@ fn push_summary(page: &mut Page, failure: &Failure) -> Result<(), Memory> {
     page.markup("</p>\n")
 }
 
-/// Appends a condition. `proof` is the name of the proof's file.
+/// Appends a condition. `proof` says where the proof stands.
 pub(crate) fn push_failure(
     alloc: Global,
     page: &mut Page,
-    proof: &str,
+    proof: ProofPlace<'_>,
     failure: &Failure,
 ) -> Result<(), Memory> {
     push_summary(page, failure)?;

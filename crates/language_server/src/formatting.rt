@@ -14,7 +14,7 @@ fn laid(alloc: Global, text: &[u8]) -> Result<Option<Vec<u8>>, Memory> {
     match laid_out(alloc, text) {
         Ok(text) => Ok(Some(text)),
         Err(LayoutFault::Memory) => Err(Memory),
-        Err(_) => Ok(None),
+        Err(LayoutFault::Token(_)) => Ok(None),
     }
 }
 

@@ -1,5 +1,5 @@
 -- What is told of a transition's modes, one after the other.
-use Rattle.std.proofs.Common.{◌≡◌, ℕ, zero, suc, ◌+◌, ◌<◌, ◌≤◌, Bool, true, false, List, [], ◌∷◌, length, map, take, get_or, refl, sym, ap, ◌∙◌, subst, add-one, arith}
+use Rattle.std.proofs.Common.{◌≡◌, ℕ, zero, suc, ◌+◌, ◌<◌, ◌≤◌, Bool, true, false, List, [], ◌∷◌, length, map, take, get_or, refl, sym, ap, ◌∙◌, subst, arith}
 use Rattle.std.specs.Prelude.{◌&&◌, ◌||◌, not}
 use Rattle.std.specs.List.{list_any}
 use Rattle.basic_laws.proofs.Truths.{or_false}
@@ -42,9 +42,10 @@ some_all f (n ∷ ms) (suc i) h = ap (λ b. f (plain_mode n) || b) (some_all f m
 
 pub goes_told : (p : Picture) (ms : List Mode) (i : ℕ) (m : Mode) → i < length ms → m ≡ get_or ms i m → wide_mode (plain_mode m) p ≡ false → can_go (plain_mode m) (seen p) ≡ true
     → ((not (some_mode (λ m. surely_goes m p) ms) && some_mode (λ m. wide_mode m p) ms) ≡ false) × (true ≡ some_mode (λ m. can_go m (seen p)) ms)
-goes_told p ms i m lt is narrow goes =
-    (ap (λ b. not b && some_mode (λ m. wide_mode m p) ms) (some_there (λ m. surely_goes m p) ms i m lt is (ap (λ b. not b && can_go (plain_mode m) (seen p)) narrow ∙ goes)),
-    sym (some_there (λ m. can_go m (seen p)) ms i m lt is goes))
+goes_told p ms i m lt is narrow goes = (
+  ap (λ b. not b && some_mode (λ m. wide_mode m p) ms) (some_there (λ m. surely_goes m p) ms i m lt is (ap (λ b. not b && can_go (plain_mode m) (seen p)) narrow ∙ goes)),
+  sym (some_there (λ m. can_go m (seen p)) ms i m lt is goes),
+)
 
 pub record SoFar (p : Picture) (ms : List Mode) (i : ℕ) (wide : Bool) : Type 0 where
   pub untold : some_mode (λ m. surely_goes m p) (take i ms) ≡ false
@@ -87,6 +88,7 @@ wide_told p ms i wide le h s =
 
 pub none_told : (p : Picture) (ms : List Mode) (i : ℕ) (wide : Bool) → length ms ≤ i → wide ≡ false → SoFar p ms i wide
     → ((not (some_mode (λ m. surely_goes m p) ms) && some_mode (λ m. wide_mode m p) ms) ≡ false) × (false ≡ some_mode (λ m. can_go m (seen p)) ms)
-none_told p ms i wide le h s =
-    (ap (λ b. not b && some_mode (λ m. wide_mode m p) ms) (sym (some_all (λ m. surely_goes m p) ms i le) ∙ s.untold) ∙ sym (some_all (λ m. wide_mode m p) ms i le) ∙ sym s.some_wide ∙ h,
-    sym (sym (some_all (λ m. can_go m (seen p)) ms i le) ∙ s.calm h))
+none_told p ms i wide le h s = (
+  ap (λ b. not b && some_mode (λ m. wide_mode m p) ms) (sym (some_all (λ m. surely_goes m p) ms i le) ∙ s.untold) ∙ sym (some_all (λ m. wide_mode m p) ms i le) ∙ sym s.some_wide ∙ h,
+  sym (sym (some_all (λ m. can_go m (seen p)) ms i le) ∙ s.calm h),
+)

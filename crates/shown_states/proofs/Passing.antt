@@ -75,9 +75,10 @@ module _ (k : ControlFacts) (m n : ℕ → Alternative) (c : ℕ) (leaves enters
   came d (child _ a o lt way act is) = by_test (a == c) refl (came a act)
     where
       by_old : a ≢ c → Active k.components m a → (Kid k m c a → ⊥) → Active k.components m d × (Kid k m c d → ⊥)
-      by_old other old none =
-          (child d a o lt way old (sym (p.others a old other none) ∙ is),
-          λ kid. other (same_pair a o c kid.0 (component_at ks d).around way kid.2).0)
+      by_old other old none = (
+        child d a o lt way old (sym (p.others a old other none) ∙ is),
+        λ kid. other (same_pair a o c kid.0 (component_at ks d).around way kid.2).0,
+      )
 
       by_test : (t : Bool) → (a == c) ≡ t → Kid k n c a ⊎ (Active k.components m a × (Kid k m c a → ⊥)) → Kid k n c d ⊎ (Active k.components m d × (Kid k m c d → ⊥))
       by_test true t h =

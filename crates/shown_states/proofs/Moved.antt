@@ -5,14 +5,12 @@ use Rattle.basic_laws.proofs.Numbers.{test_same, same_test, less, not_less}
 use Rattle.basic_laws.proofs.Truths.{or_parts}
 use Rattle.basic_laws.proofs.Types.{either, some_same}
 use Rattle.st_form.specs.Exchange.{Exchange, is_listed}
-use Rattle.st_form.specs.declared.conditions.Part.TheVariants.{Whole, Entry, Exit}
 use Rattle.st_form.specs.declared.conditions.TransName.{TransName}
-use Rattle.st_form.specs.declared.conditions.TransName.TheVariants.{Idle, Step}
 use Rattle.control_states.specs.declared.alternative.Alternative.{Alternative}
 use Rattle.control_states.specs.declared.alternative.Alternative.TheVariants.{Location, Inside}
-use Rattle.control_states.specs.Control.{ComponentFacts, ControlFacts, component_at, Active, process, child, IsControlState, IsAt, InControl}
+use Rattle.control_states.specs.Control.{ControlFacts, component_at, Active, process, child, InControl}
 use Rattle.shown_states.specs.Places.{place_of, is_owner, entered, inside_by, stayed, place_by, place_behind}
-use Rattle.shown_states.specs.Moving.{CanBe, HasOwnLocations, IsChild, OneOfEach, StandsAt, Leads, along, into, out_of, Moves, MovesControl, stays, moves, Lists, ShowsControl, CanLeave}
+use Rattle.shown_states.specs.Moving.{CanBe, HasOwnLocations, IsChild, StandsAt, Leads, along, into, out_of, MovesControl, stays, moves, Lists, ShowsControl, CanLeave}
 use Rattle.shown_states.specs.declared.pictures.Picture.{Picture}
 use Rattle.shown_states.specs.Pictures.{seen}
 use Rattle.shown_states.proofs.Storing.{FrontsBehind}

@@ -13,7 +13,7 @@ use Rattle.st_program.specs.declared.residuals.Datum.TheVariants.{Number, Truth}
 use Rattle.spl_semantics.specs.declared.faults.MoveFault.{MoveFault}
 use Rattle.spl_semantics.specs.declared.faults.MoveFault.TheVariants.{ValueLimit, Memory}
 use Rattle.spl_semantics.specs.Answers.{Fails}
-use Rattle.spl_semantics.specs.Data.{number_in, truth_in, store_of, seen_at, is_boolean, types}
+use Rattle.spl_semantics.specs.Data.{number_in, truth_in, seen_at, is_boolean, types}
 use Rattle.shown_states.specs.Behind.{GivesByType, formula_for, datum_given, datum_behind}
 
 pub fails_wide : (fault : MoveFault) (wide : Bool) → Fails fault wide → fault ≡ ValueLimit → wide ≡ true

@@ -1,6 +1,4 @@
 use Rattle.std.proofs.Common.{◌≡◌, ap, ◌∙◌, ◌++◌, [], ◌∷◌}
-use Rattle.st_form.specs.Plain.{plain_change}
-use Rattle.shown_states.specs.Places.{place_behind}
 use Rattle.shown_states.proofs.Rising.{rises_from, lists_push, lists_pass}
 use Rattle.shown_states.proofs.controls.control_behind.Goals as goal
 use Rattle.shown_states.proofs.controls.control_behind.Goals.{in-Some+in_ok-push-in-Some, in-None}

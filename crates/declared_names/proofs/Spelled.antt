@@ -1,13 +1,12 @@
 -- The names of a program that a text spells are names of texts.
-use Rattle.std.proofs.Common.{ℕ, zero, suc, Bool, true, false, List, [], ◌∷◌, ◌++◌, Some, None}
+use Rattle.std.proofs.Common.{ℕ, zero, suc, Bool, false, List, [], ◌∷◌, ◌++◌}
 use Rattle.st_tokens.specs.Stream.{Lexeme}
 use Rattle.st_reading.specs.declared.mark.Mark.{Mark}
 use Rattle.st_reading.specs.declared.mark.Mark.TheVariants as marks
-use Rattle.st_reading.specs.Reading.{Label}
 use Rattle.st_reading.specs.Spelling.{OneName, one_name, Items, no_items, item_more, Row, row, Row2, row2}
 use Rattle.expression_parser.specs.ExpressionTree.{Expr}
 use Rattle.expression_parser.specs.Grammar.{SpellsWithin}
-use Rattle.spl_parser.specs.ProgramTree.{Statement, stated, statements, Action, Branch, Body, bodies, Declaration, Process, Program}
+use Rattle.spl_parser.specs.ProgramTree.{Statement, statements, Body, bodies, Program}
 use Rattle.spl_parser.specs.Grammar.{IsBranch, without, with_else, IsBody, unnamed, ended, IsChild, child, IsBare, s_assign, s_assign_all, s_skip, s_critical, s_noncritical, s_await, s_request, s_release, s_if, s_while, s_loop, s_block, s_select, s_cooperate, s_group, IsStatement, unlabelled, labelled, Low, IsDeclaration, declaration, Declarations, no_declarations, declaration_more, IsProcess, process, IsProgram, program}
 use Rattle.spl_parser.specs.Theorems.{Spells}
 use Rattle.declared_names.proofs.Tokens.{NamesAre, parts, names_of_text}

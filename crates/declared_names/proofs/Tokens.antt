@@ -6,11 +6,11 @@ use Rattle.st_tokens.specs.declared.kind.TokenKind.TheVariants as kinds
 use Rattle.st_tokens.specs.declared.kind.Front.{Front}
 use Rattle.st_tokens.specs.declared.kind.Front.TheVariants as fronts
 use Rattle.st_tokens.specs.Text.{front, front_at, is_blank, is_letter, is_digit, is_word_byte, is_line_byte, is_keyword, value_of, symbol_len, numeral, symbol, word_kind}
-use Rattle.st_tokens.specs.Stream.{◌++>◌, Lexeme, Stream, ends, AreThere, text_stream}
+use Rattle.st_tokens.specs.Stream.{◌++>◌, Lexeme, ends, AreThere, text_stream}
 use Rattle.st_tokens.proofs.Shifting.{tokens_are_there}
 use Rattle.st_reading.specs.declared.sign.Sign.{Sign}
 use Rattle.st_reading.specs.declared.sign.Sign.TheVariants as signs
-use Rattle.st_reading.specs.Sign.{kind_sign, sign_of}
+use Rattle.st_reading.specs.Sign.{kind_sign}
 use Rattle.st_reading.specs.Reading.{is_name}
 use Rattle.st_reading.specs.Spelling.{IsName}
 use Rattle.typing_laws.proofs.Signs as of_signs

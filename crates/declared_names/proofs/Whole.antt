@@ -1,23 +1,22 @@
 -- The names of a typed program.
-use Rattle.std.proofs.Common.{◌≡◌, ℕ, Bool, true, false, cond, List, [], ◌∷◌, ◌++◌, Option, Result, Ok, Err, refl, sym, subst}
+use Rattle.std.proofs.Common.{◌≡◌, ℕ, Bool, true, false, cond, List, [], ◌∷◌, ◌++◌, Result, Ok, Err, refl, sym, subst}
 use Rattle.st_tokens.specs.declared.limit.LimitKind.TheVariants as limits
-use Rattle.st_program.specs.Names.{Names}
 use Rattle.st_program.specs.Names as tables
 use Rattle.spl_parser.specs.ProgramTree as raw
 use Rattle.expression_typer.specs.declared.fault.TypeFault.{TypeFault}
 use Rattle.expression_typer.specs.declared.fault.TypeFault.TheVariants as faults
 use Rattle.expression_typer.specs.Answers.{◌>>=◌}
 use Rattle.expression_typer.specs.Naming.{is_text}
-use Rattle.expression_typer.proofs.Holding.{Holds, bound, anyway, weaker, if_ok}
+use Rattle.expression_typer.proofs.Holding.{Holds, bound, anyway, if_ok}
 use Rattle.spl_typer.specs.declared.walk.Mark.{Mark}
 use Rattle.spl_typer.specs.declared.walk.Mark.TheVariants as marks
 use Rattle.spl_typer.specs.Walk.{Entry}
-use Rattle.spl_typer.specs.Programs.{Heading, nothing_met, declarations_in, processes_in, few_processes, heading_of, text_of, Variables, Labels, with_variable, with_label, variables_of, labels_of, few_names, names_of, Typed, typed_of, typing}
+use Rattle.spl_typer.specs.Programs.{Heading, nothing_met, declarations_in, processes_in, few_processes, heading_of, text_of, Variables, Labels, with_variable, with_label, variables_of, labels_of, few_names, names_of, Typed, typing}
 use Rattle.spl_typer.proofs.Apart.{names_apart}
 use Rattle.declared_names.specs.Words.{IsWord, AreWords, AreNames, NamesAreWords}
 use Rattle.declared_names.proofs.Raw.{Each, ProgramNamed}
 use Rattle.declared_names.proofs.Spelled.{spelled_named}
-use Rattle.declared_names.proofs.Walked.{EntryNamed, Good, Fine, declarations_fine, processes_fine}
+use Rattle.declared_names.proofs.Walked.{EntryNamed, Fine, declarations_fine, processes_fine}
 
 heading_fine : (p : raw.Program) → ProgramNamed p → Holds Fine (heading_of p)
 heading_fine p words = go (few_processes p.processes)

@@ -1,37 +1,33 @@
 -- Names, numbers and truth values as expressions.
-use Rattle.std.proofs.Common.{◌≡◌, ℕ, zero, suc, ◌<◌, ◌≤◌, ◌^◌, nat_lt, nat_le, Bool, true, false, cond, ◌&&◌, List, [], ◌∷◌, ◌++◌, length, refl, sym, ap, subst, ◌∙◌, arith, codes, Some, Ok, Option, ℤ, pos, negsuc, append-nil, unsigned_abs}
+use Rattle.std.proofs.Common.{◌≡◌, ℕ, ◌≤◌, ◌^◌, Bool, true, false, List, [], ◌∷◌, ◌++◌, refl, ap, arith, codes, Ok, ℤ, pos, unsigned_abs}
 use Rattle.std.specs.Fmt.{decimal}
-use Rattle.std.specs.Option.{option_map}
 use Rattle.std.proofs.lemmas.Bool.Decides.{nat_tests}
-use Rattle.st_tokens.specs.declared.kind.TokenKind.TheVariants.{Name, Keyword, Numeral, Symbol}
+use Rattle.st_tokens.specs.declared.kind.TokenKind.TheVariants.{Name, Keyword, Numeral}
 use Rattle.st_tokens.specs.declared.kind.Front.TheVariants.{Whole}
 use Rattle.st_tokens.specs.Text.{front, value_of}
 use Rattle.st_tokens.specs.Stream.{Lexeme}
-use Rattle.st_reading.specs.declared.sign.Sign.{Sign}
-use Rattle.st_reading.specs.declared.sign.Sign.TheVariants as signs
 use Rattle.st_reading.specs.Mark.{number}
 use Rattle.st_reading.specs.Sign.{sign_of, declaring_word}
 use Rattle.st_reading.specs.Reading.{label_of}
 use Rattle.expression_parser.specs.declared.sign.Front.TheVariants as fronts
 use Rattle.expression_parser.specs.Signs as parser
 use Rattle.expression_parser.specs.ExpressionTree.{Expr, node, numeral, truth, name, at}
-use Rattle.expression_parser.specs.Grammar.{Fronts, IsAtom, a_numeral, a_truth, a_name, a_place}
+use Rattle.expression_parser.specs.Grammar.{IsAtom, a_numeral, a_truth, a_name, a_place}
 use Rattle.expression_parser.specs.Reading.{Level}
 use Rattle.st_linear.specs.Linear as linear
 use Rattle.st_linear.specs.Linear.{Linear}
 use Rattle.st_form.specs.Formula as forms
-use Rattle.st_form.specs.Formula.{truth_value, bool_var}
+use Rattle.st_form.specs.Formula.{truth_value}
 use Rattle.st_program.specs.Tree as terms
 use Rattle.st_program.specs.Tree.{Term}
 use Rattle.st_program.specs.Names as tables
-use Rattle.st_program.specs.Groups.{is_written_number, are_written, is_written}
+use Rattle.st_program.specs.Groups.{is_written_number, are_written}
 use Rattle.expression_typer.specs.Naming.{names_of}
 use Rattle.expression_typer.specs.Scope.{Names}
 use Rattle.expression_typer.specs.Written.{is_writable, limited}
 use Rattle.expression_typer.specs.Typing.{typed_by, variable_term, named_by, placed_by}
 use Rattle.expression_typer.specs.Answers.{◌>>=◌}
 use Rattle.step_report.specs.Names.{variable_text, location_text}
-use Rattle.declared_names.specs.Words.{IsWord}
 use Rattle.printed_formulas.specs.Loose.{IsLoose}
 use Rattle.printed_formulas.specs.Printable.{IsNamed, IsPlace}
 use Rattle.printed_formulas.proofs.Pieces.{Anything, Piece, NoToken, OneToken, one_token, beside, seen_as, blank, token}

@@ -1,5 +1,5 @@
 -- Comparisons with 0 as they are printed.
-use Rattle.std.proofs.Common.{◌≡◌, ℕ, suc, Bool, true, false, cond, ◌&&◌, List, [], ◌∷◌, ◌++◌, refl, sym, ap, subst, ◌∙◌, arith, codes, Some, None, Ok, ℤ, pos, ◌+ℤ◌}
+use Rattle.std.proofs.Common.{◌≡◌, ℕ, suc, true, false, List, [], ◌∷◌, ◌++◌, refl, sym, ap, subst, ◌∙◌, arith, codes, Some, Ok, ℤ, pos, ◌+ℤ◌}
 use Rattle.std.proofs.lemmas.Int.{ints}
 use Rattle.st_tokens.specs.declared.kind.TokenKind.TheVariants.{Symbol}
 use Rattle.st_tokens.specs.Stream.{Lexeme}
@@ -11,7 +11,7 @@ use Rattle.expression_parser.specs.ExpressionTree.{Expr, joined}
 use Rattle.expression_parser.specs.Signs.{sum_sign, product_sign, comparison_sign}
 use Rattle.expression_parser.specs.Grammar.{Inside, IsAtom, IsComparison, sum, compare}
 use Rattle.st_linear.specs.Linear as linear
-use Rattle.st_linear.specs.Linear.{Linear, IsLinear, sum_of, fits, fitting}
+use Rattle.st_linear.specs.Linear.{Linear, IsLinear, sum_of, fitting}
 use Rattle.st_linear.specs.Simple.{negated}
 use Rattle.st_form.specs.Formula.{row, equal}
 use Rattle.st_program.specs.Names as tables

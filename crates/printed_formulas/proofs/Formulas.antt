@@ -1,5 +1,5 @@
 -- Formulas as they are printed, with parentheses round a conjunction or a disjunction inside another formula.
-use Rattle.std.proofs.Common.{◌≡◌, ℕ, zero, suc, Bool, true, false, List, [], ◌∷◌, ◌++◌, refl, sym, ap, subst, ◌∙◌, codes, Ok, append-nil, append_assoc}
+use Rattle.std.proofs.Common.{◌≡◌, ℕ, zero, suc, true, false, List, [], ◌∷◌, ◌++◌, refl, sym, ap, subst, ◌∙◌, codes, Ok, append-nil, append_assoc}
 use Rattle.st_tokens.specs.declared.kind.TokenKind.TheVariants.{Symbol}
 use Rattle.st_tokens.specs.Stream.{Lexeme}
 use Rattle.st_reading.specs.declared.mark.Mark.{Mark}
@@ -7,13 +7,12 @@ use Rattle.st_reading.specs.declared.mark.Mark.TheVariants as marks
 use Rattle.st_reading.specs.Mark.{number}
 use Rattle.st_reading.specs.Sign.{symbol_sign, is}
 use Rattle.st_reading.specs.Spelling.{Items, no_items, item_more, row2}
-use Rattle.expression_parser.specs.ExpressionTree.{Expr, node, kind_of, start_of, exprs}
+use Rattle.expression_parser.specs.ExpressionTree.{Expr, node, start_of, exprs}
 use Rattle.expression_parser.specs.ExpressionTree as raw
-use Rattle.expression_parser.specs.Grammar.{Inside, SpellsWithin, IsAtom, a_group, IsNegation, tilde, straight, IsConjunction, IsDisjunction, IsExpression, alone, chained, disjunction}
+use Rattle.expression_parser.specs.Grammar.{Inside, SpellsWithin, IsAtom, a_group, IsNegation, tilde, straight, IsConjunction, alone, chained, disjunction}
 use Rattle.st_form.specs.Formula.{Formula, Formulas, truth_value, row, equal, bool_var, at, negation, every, some, none, more}
 use Rattle.st_program.specs.Names as tables
 use Rattle.st_program.specs.Tree as terms
-use Rattle.st_program.specs.Tree.{Term}
 use Rattle.expression_typer.specs.Naming.{names_of}
 use Rattle.expression_typer.specs.Scope.{Names}
 use Rattle.expression_typer.specs.Typing.{typed_by, all_typed_by}

@@ -1,16 +1,16 @@
 -- What the names of a table stand for.
-use Rattle.std.proofs.Common.{◌≡◌, ℕ, zero, suc, ◌+◌, ◌<◌, nat_lt, Bool, true, false, not, cond, ◌&&◌, List, [], ◌∷◌, ◌++◌, length, refl, sym, ap, subst, ◌∙◌, arith, Option, Some, None}
+use Rattle.std.proofs.Common.{◌≡◌, ℕ, zero, suc, ◌+◌, ◌<◌, nat_lt, Bool, true, false, not, cond, List, [], ◌∷◌, ◌++◌, length, refl, sym, ap, subst, ◌∙◌, arith, Option, Some, None}
 use Rattle.std.specs.Prelude.{slice_get, slice_index_or, position, nat_eq, is_some}
 use Rattle.std.specs.Option.{option_map}
-use Rattle.std.specs.List.{position_or_len, prefix_len}
+use Rattle.std.specs.List.{prefix_len}
 use Rattle.std.specs.Str.{bytes_eq}
 use Rattle.std.proofs.lemmas.Bool.Decides.{nat_tests}
 use Rattle.std.proofs.lemmas.Slice.Eq.{bytes_eq-Decides}
 use Rattle.st_tokens.specs.Text.{is_letter, is_word_byte}
-use Rattle.st_program.specs.Names.{Names, IsNew, AreApart, names_in, named, label_of}
+use Rattle.st_program.specs.Names.{Names, IsNew, AreApart, names_in, label_of}
 use Rattle.expression_typer.specs.Naming.{is_text, variable_at, variable_named, location_named, names_of}
 use Rattle.declared_names.specs.Words.{AreWordBytes, IsWord, AreWords, AreNames}
-use Rattle.step_report.specs.Names.{variable_text, location_text, label_text}
+use Rattle.step_report.specs.Names.{variable_text, location_text}
 use Rattle.printed_formulas.specs.Printable.{IsNamed, IsPlace}
 
 -- names are ASCII

@@ -1,19 +1,18 @@
 -- Operands with operators between them, grouped from the left, as they are printed.
-use Rattle.std.proofs.Common.{◌≡◌, ℕ, true, false, Bool, List, [], ◌∷◌, ◌++◌, refl, sym, ap, subst, ◌∙◌, codes, Some, Ok, Option, append-nil, append_assoc}
+use Rattle.std.proofs.Common.{◌≡◌, ℕ, false, List, [], ◌∷◌, ◌++◌, refl, sym, ap, subst, Some, Ok, Option, append-nil}
 use Rattle.st_tokens.specs.declared.kind.TokenKind.TheVariants.{Symbol}
 use Rattle.st_tokens.specs.Stream.{Lexeme}
 use Rattle.st_reading.specs.declared.sign.Sign.{Sign}
-use Rattle.st_reading.specs.Sign.{symbol_sign, sign_of}
+use Rattle.st_reading.specs.Sign.{symbol_sign}
 use Rattle.expression_parser.specs.declared.raw.Operator.{Operator}
-use Rattle.expression_parser.specs.ExpressionTree.{Expr, node, joined}
+use Rattle.expression_parser.specs.ExpressionTree.{Expr, joined}
 use Rattle.expression_parser.specs.Grammar.{Behind, stop, go, IsGrouped, grouping}
 use Rattle.st_linear.specs.Linear.{Linear}
 use Rattle.st_program.specs.Tree as terms
 use Rattle.st_program.specs.Tree.{Term}
 use Rattle.expression_typer.specs.Scope.{Names}
-use Rattle.expression_typer.specs.Typing.{typed_by, as_number, combine, is_implication}
-use Rattle.expression_typer.specs.Answers.{◌>>=◌}
-use Rattle.printed_formulas.proofs.Pieces.{Anything, Piece, NoToken, no_token, OneToken, one_token, beside, seen_as, rewritten, nothing}
+use Rattle.expression_typer.specs.Typing.{typed_by, combine, is_implication}
+use Rattle.printed_formulas.proofs.Pieces.{Anything, Piece, NoToken, OneToken, one_token, beside, seen_as, rewritten, nothing}
 use Rattle.printed_formulas.proofs.Atoms.{Spells}
 
 module _ (s : Names) where

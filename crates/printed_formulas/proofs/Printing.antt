@@ -1,11 +1,11 @@
 -- The formula of an equation is printable where it is short and its locations have labels.
-use Rattle.std.proofs.Common.{◌≡◌, ℕ, zero, suc, ◌+◌, ◌<◌, ◌≤◌, ◌^◌, nat_le, nat_lt, Bool, true, false, cond, ◌&&◌, List, [], ◌∷◌, ◌++◌, length, map, refl, sym, ap, subst, ◌∙◌, arith, Option, Some, None, ℤ, pos, negsuc, ◌+ℤ◌, unsigned_abs}
+use Rattle.std.proofs.Common.{◌≡◌, ℕ, zero, suc, ◌+◌, ◌<◌, ◌≤◌, ◌^◌, nat_le, Bool, true, false, cond, ◌&&◌, List, [], ◌∷◌, ◌++◌, length, map, refl, subst, arith, Option, Some, None, ℤ, pos, negsuc, ◌+ℤ◌, unsigned_abs}
 use Rattle.std.specs.Prelude.{◌==◌, filter, flat_map, slice_get, slice_index_or, is_some}
 use Rattle.std.specs.Option.{option_map}
 use Rattle.std.specs.Ordering.{int_eq}
 use Rattle.std.proofs.lemmas.Bool.Decides.{nat_tests}
-use Rattle.st_linear.specs.Linear.{Linear, is_within, is_small}
-use Rattle.st_form.specs.Formula.{Formula, Formulas, equal, at, negation, formulas, none, more, atoms}
+use Rattle.st_linear.specs.Linear.{is_within, is_small}
+use Rattle.st_form.specs.Formula.{Formula, equal, at, negation, formulas, atoms}
 use Rattle.st_form.specs.Simple.{closed}
 use Rattle.st_program.specs.Names.{Names, label_of}
 use Rattle.st_program.specs.Groups.{is_written_number, are_written}
@@ -15,7 +15,7 @@ use Rattle.equation_laws.specs.Equations.{PlainEquation}
 use Rattle.equation_forms.specs.Formulas.{Terms, terms_of, with_terms, groups, classes, whereabouts, choices, case_of, groups_of, formula_of, is_slight, are_slight, cases_slight, is_short}
 use Rattle.equation_writer.specs.Sentences.{are_labelled}
 use Rattle.declared_names.specs.Words.{AreNames}
-use Rattle.printed_formulas.specs.Printable.{IsNamed, IsPlace, AreNumbers, IsPrintableSum, AreSeveral, IsPrintable, ArePrintable}
+use Rattle.printed_formulas.specs.Printable.{IsNamed, IsPlace, AreNumbers, IsPrintableSum, IsPrintable, ArePrintable}
 use Rattle.printed_formulas.specs.Theorems.{AreIntegers, ShortFormulasArePrintable}
 use Rattle.printed_formulas.proofs.Atoms.{writable}
 use Rattle.printed_formulas.proofs.Formulas.{weaker}

@@ -1,5 +1,5 @@
 -- An invariance as it is printed, behind a text that stands for steps.
-use Rattle.std.proofs.Common.{◌≡◌, ℕ, zero, suc, ◌+◌, ◌-◌, ◌<◌, ◌≤◌, ◌^◌, pred, Bool, true, false, List, [], ◌∷◌, ◌++◌, take, length, refl, sym, ap, subst, ◌∙◌, arith, codes, Ok, append-nil, append_assoc, length-append}
+use Rattle.std.proofs.Common.{◌≡◌, ℕ, zero, suc, ◌+◌, ◌-◌, ◌<◌, ◌≤◌, ◌^◌, pred, true, List, [], ◌∷◌, ◌++◌, take, length, refl, sym, ap, subst, ◌∙◌, arith, codes, append-nil, append_assoc}
 use Rattle.std.specs.Fmt.{decimal}
 use Rattle.std.specs.Str.Parse.{AllDigits}
 use Rattle.std.proofs.lemmas.Fmt.{decimal_is_IsNumeral}
@@ -14,11 +14,11 @@ use Rattle.st_reading.specs.declared.mark.Mark.TheVariants as marks
 use Rattle.st_reading.specs.Mark.{number}
 use Rattle.st_reading.specs.Sign.{declaring_word, basic_word, compound_word, step_word}
 use Rattle.st_reading.specs.Spelling.{Is}
-use Rattle.st_reading.specs.Phrases.{After, after_mark}
+use Rattle.st_reading.specs.Phrases.{after_mark}
 use Rattle.st_reading.proofs.Streams.{append_stream}
 use Rattle.expression_parser.specs.Grammar.{SpellsWithin}
 use Rattle.st_form.specs.Formula.{Formula}
-use Rattle.st_program.specs.Names.{Names, IsNew}
+use Rattle.st_program.specs.Names.{IsNew}
 use Rattle.st_program.specs.Tree as terms
 use Rattle.expression_typer.specs.Naming.{names_of}
 use Rattle.expression_typer.specs.Typing.{as_truth}
@@ -28,16 +28,14 @@ use Rattle.temporal_goals.specs.Texts.{PlainStep, invariant, basic}
 use Rattle.equation_writer.specs.Texts.{formula_text}
 use Rattle.equation_writer.specs.Sentences.{invariance_text}
 use Rattle.proof_script.specs.Listing.{Setting}
-use Rattle.proof_grammar.specs.Phrases.{Typed}
-use Rattle.proof_grammar.specs.Units.{IsFormula, IsNewName, new_name, names_of_steps}
-use Rattle.proof_grammar.specs.Grammar.{IsInvariance, by_itself, IsUsing, no_using, IsNamed, named_step, IsStep, invariance_step, IsScript, no_further_step, a_further_step, SpellsScript}
-use Rattle.proof_grammar.specs.Growing.{Stands}
+use Rattle.proof_grammar.specs.Units.{IsFormula, new_name, names_of_steps}
+use Rattle.proof_grammar.specs.Grammar.{by_itself, no_using, named_step, IsStep, invariance_step, IsScript, no_further_step, a_further_step}
 use Rattle.proof_grammar.specs.Theorems.{SpelledScriptsAreRead}
 use Rattle.declared_names.specs.Words.{AreWordBytes, IsWord}
 use Rattle.printed_formulas.specs.Loose.{IsLoose}
 use Rattle.printed_formulas.specs.Printable.{IsPrintable}
 use Rattle.printed_formulas.specs.Theorems.{PrintedFormulasAreSpelled, invariance_name, invariance, PrintedInvariancesAreRead}
-use Rattle.printed_formulas.proofs.Pieces.{Anything, Piece, NoToken, OneToken, one_token, beside, seen_as, rewritten, narrowed, blank, token}
+use Rattle.printed_formulas.proofs.Pieces.{Anything, Piece, NoToken, OneToken, one_token, beside, seen_as, rewritten, blank, token}
 use Rattle.printed_formulas.proofs.Words.{word_front, name_piece}
 use Rattle.printed_formulas.proofs.Numerals.{digit_word}
 use Rattle.printed_formulas.proofs.Symbols.{colon_piece, end_piece}

@@ -1,5 +1,5 @@
 -- Sums as they are printed: terms by rising variable, and the constant last.
-use Rattle.std.proofs.Common.{◌≡◌, ◌≢◌, ℕ, zero, suc, ◌+◌, ◌<◌, ◌≤◌, ◌^◌, nat_lt, Bool, true, false, cond, ◌&&◌, List, [], ◌∷◌, ◌++◌, refl, sym, ap, subst, ◌∙◌, arith, codes, Some, Ok, ℤ, pos, negsuc, ◌+ℤ◌, append-nil, append_assoc, unsigned_abs}
+use Rattle.std.proofs.Common.{◌≡◌, ◌≢◌, ℕ, zero, suc, ◌+◌, ◌<◌, ◌≤◌, ◌^◌, nat_lt, Bool, true, false, ◌&&◌, List, [], ◌∷◌, ◌++◌, refl, sym, ap, subst, ◌∙◌, arith, codes, Some, Ok, ℤ, pos, negsuc, ◌+ℤ◌, append-nil, append_assoc}
 use Rattle.std.specs.Fmt.{decimal, signed_decimal}
 use Rattle.std.proofs.lemmas.Int.{ints}
 use Rattle.std.proofs.lemmas.Bool.Decides.{nat_tests}
@@ -9,26 +9,24 @@ use Rattle.st_reading.specs.Sign.{symbol_sign}
 use Rattle.expression_parser.specs.declared.raw.Operator.TheVariants as operators
 use Rattle.expression_parser.specs.ExpressionTree.{Expr}
 use Rattle.expression_parser.specs.Signs.{sum_sign, product_sign}
-use Rattle.expression_parser.specs.Grammar.{Inside, IsUnary, IsSum}
+use Rattle.expression_parser.specs.Grammar.{Inside, IsSum}
 use Rattle.st_linear.specs.Linear as linear
 use Rattle.st_linear.specs.Linear.{Linear, AreEntries, AllAbove, joined, sum_of}
 use Rattle.st_linear.specs.Simple.{negated}
 use Rattle.st_program.specs.Names as tables
 use Rattle.st_program.specs.Tree as terms
-use Rattle.st_program.specs.Tree.{Term}
 use Rattle.st_program.specs.Groups.{is_written_number, are_written}
 use Rattle.expression_typer.specs.Naming.{names_of}
 use Rattle.expression_typer.specs.Scope.{Names}
 use Rattle.expression_typer.specs.Written.{is_writable, limited}
-use Rattle.expression_typer.specs.Typing.{combine}
 use Rattle.expression_typer.specs.Answers.{◌>>=◌}
 use Rattle.step_report.specs.Names.{variable_text}
 use Rattle.step_report.specs.Sums.{first_sign, next_sign, times_text, term_text, more_terms, constant_text, terms_text, sum_text}
 use Rattle.printed_formulas.specs.Loose.{IsLoose}
 use Rattle.printed_formulas.specs.Printable.{IsNamed, AreNumbers, IsPrintableSum}
-use Rattle.printed_formulas.proofs.Pieces.{Anything, Piece, OneToken, rewritten, seen_as}
+use Rattle.printed_formulas.proofs.Pieces.{Piece, rewritten}
 use Rattle.printed_formulas.proofs.Symbols.{plus_piece, less_piece}
-use Rattle.printed_formulas.proofs.Atoms.{Spells, written_zero, written_size, size_written, writable, limited_ok}
+use Rattle.printed_formulas.proofs.Atoms.{Spells, written_zero, written_size, writable, limited_ok}
 use Rattle.printed_formulas.proofs.Operands.{GoesOn, stop_piece, go_piece, last_piece, group_piece, lone_piece}
 use Rattle.printed_formulas.proofs.Terms.{term, Product, Unary, unary_number, minus_number, term_piece, minus_term_piece}
 

@@ -1,11 +1,9 @@
 -- Symbols as tokens.
-use Rattle.std.proofs.Common.{◌≡◌, ℕ, Bool, true, false, ◌==◌, List, [], ◌∷◌, ◌++◌, length, refl, sym, subst, arith, codes}
-use Rattle.std.proofs.lemmas.Bool.Decides.{nat_tests}
+use Rattle.std.proofs.Common.{◌≡◌, ℕ, false, ◌==◌, List, [], ◌∷◌, ◌++◌, refl, sym, subst, arith, codes}
 use Rattle.st_tokens.specs.declared.kind.TokenKind.TheVariants.{Symbol}
 use Rattle.st_tokens.specs.declared.kind.Front.TheVariants.{Whole}
-use Rattle.st_tokens.specs.Text.{front, is_word_byte}
+use Rattle.st_tokens.specs.Text.{front}
 use Rattle.st_tokens.specs.Stream.{Lexeme}
-use Rattle.printed_formulas.specs.Loose.{IsLoose}
 use Rattle.printed_formulas.proofs.Pieces.{Anything, Piece, NoToken, no_token, OneToken, one_token, beside, blank, token}
 
 -- symbols that no symbol goes on with

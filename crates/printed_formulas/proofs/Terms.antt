@@ -1,5 +1,5 @@
 -- Terms of sums: a variable with its coefficient.
-use Rattle.std.proofs.Common.{◌≡◌, ◌≢◌, ℕ, zero, suc, ◌+◌, ◌*◌, ◌<◌, ◌≤◌, ◌^◌, Bool, true, false, cond, ◌&&◌, ◌==◌, List, [], ◌∷◌, ◌++◌, length, refl, sym, ap, subst, ◌∙◌, arith, codes, Some, Ok, Option, ℤ, pos, negsuc, ◌*ℤ◌, append-nil, append_assoc, unsigned_abs}
+use Rattle.std.proofs.Common.{◌≡◌, ◌≢◌, ℕ, zero, suc, ◌+◌, ◌*◌, ◌<◌, ◌≤◌, ◌^◌, Bool, true, false, cond, ◌==◌, List, [], ◌∷◌, ◌++◌, length, refl, sym, ap, subst, ◌∙◌, arith, codes, Some, Ok, ℤ, pos, negsuc, ◌*ℤ◌, append_assoc}
 use Rattle.std.specs.Fmt.{decimal}
 use Rattle.std.proofs.lemmas.Int.{ints}
 use Rattle.std.proofs.lemmas.Bool.Decides.{nat_tests}
@@ -13,8 +13,8 @@ use Rattle.st_reading.specs.Mark.{number}
 use Rattle.st_reading.specs.Sign.{symbol_sign}
 use Rattle.expression_parser.specs.declared.raw.Operator.TheVariants as operators
 use Rattle.expression_parser.specs.ExpressionTree.{Expr, node, negative}
-use Rattle.expression_parser.specs.Signs.{product_sign, sum_sign}
-use Rattle.expression_parser.specs.Grammar.{Inside, IsAtom, IsUnary, minus, plain, IsProduct, IsSum}
+use Rattle.expression_parser.specs.Signs.{product_sign}
+use Rattle.expression_parser.specs.Grammar.{Inside, IsAtom, IsUnary, minus, plain, IsProduct}
 use Rattle.st_linear.specs.Linear as linear
 use Rattle.st_linear.specs.Linear.{Linear, scaled, variable, with_entry}
 use Rattle.st_program.specs.Names as tables
@@ -23,18 +23,18 @@ use Rattle.st_program.specs.Tree.{Term}
 use Rattle.st_program.specs.Groups.{is_written_number}
 use Rattle.expression_typer.specs.Naming.{names_of}
 use Rattle.expression_typer.specs.Scope.{Names}
-use Rattle.expression_typer.specs.Written.{is_writable, limited, product}
-use Rattle.expression_typer.specs.Typing.{typed_by, as_number, combine}
+use Rattle.expression_typer.specs.Written.{is_writable}
+use Rattle.expression_typer.specs.Typing.{combine}
 use Rattle.expression_typer.specs.Answers.{◌>>=◌}
 use Rattle.step_report.specs.Names.{variable_text}
-use Rattle.step_report.specs.Sums.{first_sign, times_text, term_text}
+use Rattle.step_report.specs.Sums.{times_text}
 use Rattle.declared_names.specs.Words.{IsWord}
 use Rattle.printed_formulas.specs.Loose.{IsLoose}
 use Rattle.printed_formulas.specs.Printable.{IsNamed}
-use Rattle.printed_formulas.proofs.Pieces.{Anything, Piece, OneToken, one_token, beside, seen_as, rewritten}
+use Rattle.printed_formulas.proofs.Pieces.{Piece, OneToken, one_token, beside, seen_as, rewritten}
 use Rattle.printed_formulas.proofs.Symbols.{IsTame, minus_piece, times_piece}
-use Rattle.printed_formulas.proofs.Atoms.{Spells, number_atom, variable_atom, written_zero, written_size, size_written, writable, limited_ok}
-use Rattle.printed_formulas.proofs.Operands.{GoesOn, group_piece, lone_piece, last_piece}
+use Rattle.printed_formulas.proofs.Atoms.{Spells, number_atom, variable_atom, written_zero, size_written, writable, limited_ok}
+use Rattle.printed_formulas.proofs.Operands.{group_piece, lone_piece, last_piece}
 
 -- one variable with a coefficient
 abbrev pub term : ℕ → ℤ → Linear

@@ -1,11 +1,11 @@
 -- A name, or a keyword, is one token where no letter, digit or underscore follows.
-use Rattle.std.proofs.Common.{◌≡◌, ℕ, zero, suc, ◌+◌, ◌<◌, Bool, true, false, cond, ◌==◌, List, [], ◌∷◌, ◌++◌, take, length, refl, sym, ap, ◌∙◌, arith}
+use Rattle.std.proofs.Common.{◌≡◌, ℕ, ◌+◌, ◌<◌, Bool, true, false, cond, ◌==◌, List, [], ◌∷◌, ◌++◌, take, length, refl, ap, ◌∙◌, arith}
 use Rattle.std.specs.List.{prefix_len}
 use Rattle.std.proofs.Math.Seq.{take-append_seam}
 use Rattle.std.proofs.lemmas.Bool.Decides.{nat_tests}
 use Rattle.st_tokens.specs.declared.kind.TokenKind.TheVariants.{Name, Keyword}
 use Rattle.st_tokens.specs.declared.kind.Front.TheVariants.{Whole}
-use Rattle.st_tokens.specs.Text.{front, is_letter, is_digit, is_blank, is_word_byte, is_keyword, word_kind}
+use Rattle.st_tokens.specs.Text.{front, is_letter, is_blank, is_word_byte, word_kind}
 use Rattle.declared_names.specs.Words.{AreWordBytes, IsWord}
 use Rattle.printed_formulas.specs.Loose.{IsLoose}
 use Rattle.printed_formulas.proofs.Pieces.{Piece, OneToken, token}

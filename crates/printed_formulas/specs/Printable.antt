@@ -1,5 +1,5 @@
 -- Formulas whose text is read as them.
-use Rattle.std.specs.Prelude.{◌≡◌, ℕ, zero, suc, Bool, true, false, List, [], ◌∷◌, Option, Some, ℤ, ⊤}
+use Rattle.std.specs.Prelude.{◌≡◌, ℕ, zero, suc, Bool, true, false, List, [], ◌∷◌, Some, ℤ, ⊤}
 use Rattle.st_linear.specs.Linear.{Linear, IsLinear}
 use Rattle.st_form.specs.Formula.{Formula, Formulas, truth_value, row, equal, bool_var, at, negation, every, some, none, more}
 use Rattle.st_program.specs.Names.{Names}

@@ -1,0 +1,5 @@
+pub mod Tokens
+pub mod Raw
+pub mod Spelled
+pub mod Walked
+pub mod Whole

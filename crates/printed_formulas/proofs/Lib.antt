@@ -1,0 +1,13 @@
+pub mod Pieces
+pub mod Words
+pub mod Numerals
+pub mod Symbols
+pub mod Atoms
+pub mod Operands
+pub mod Terms
+pub mod Sums
+pub mod Comparisons
+pub mod Formulas
+pub mod Steps
+pub mod Named
+pub mod Printing

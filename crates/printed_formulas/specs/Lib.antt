@@ -1,0 +1,3 @@
+pub mod Loose
+pub mod Printable
+pub mod Theorems

@@ -85,7 +85,8 @@ const WORDS: FileRow = FileRow {
     help: "The words of step",
 };
 
-pub static COMMANDS: [CommandRow; 12] = [
+/// What `step` answers too.
+pub static QUESTIONS: [CommandRow; 5] = [
     CommandRow {
         name: "verify",
         about: "Search for a proof of each condition, and explain those that have none",
@@ -126,6 +127,10 @@ pub static COMMANDS: [CommandRow; 12] = [
         usage: "milkhour invariants [OPTIONS] PROGRAM",
         example: "Example:\n  milkhour invariants semaphore.spl -o semaphore.proof",
     },
+];
+
+/// What else there is.
+pub static TOOLS: [CommandRow; 7] = [
     CommandRow {
         name: "find",
         about: "Find a proof of each claim, or a run on which it fails",

@@ -1,6 +1,6 @@
 //! The table of commands as it is defined for clap.
 
-use crate::commands::{COMMANDS, CommandRow, VERSION};
+use crate::commands::{CommandRow, QUESTIONS, TOOLS, VERSION};
 use crate::options::{OptionRow, OptionValue};
 use clap::builder::ValueParser;
 use clap::{Arg, ArgAction, Command, value_parser};
@@ -64,17 +64,35 @@ fn subcommand<'a>(alloc: Global, row: &CommandRow) -> Result<Command<'a>, AllocE
     Ok(command)
 }
 
+/// A command line with these commands too.
+fn with_commands<'a>(
+    alloc: Global,
+    line: Command<'a>,
+    rows: &[CommandRow],
+) -> Result<Command<'a>, AllocError> {
+    let mut line = line;
+    for row in rows {
+        line = line.subcommand(subcommand(alloc, row)?)?;
+    }
+    Ok(line)
+}
+
+fn with_questions<'a>(alloc: Global, line: Command<'a>) -> Result<Command<'a>, AllocError> {
+    with_commands(alloc, line, QUESTIONS.as_slice())
+}
+
+fn with_tools<'a>(alloc: Global, line: Command<'a>) -> Result<Command<'a>, AllocError> {
+    with_commands(alloc, line, TOOLS.as_slice())
+}
+
 /// The command line, with all commands.
 pub fn command_line<'a>(alloc: Global) -> Result<Command<'a>, AllocError> {
-    let mut line = Command::new(alloc, "milkhour")
+    let line = Command::new(alloc, "milkhour")
         .bin_name("milkhour")?
         .version(VERSION)
         .about("A deductive prover for concurrent programs")
         .after_help(STATUSES)
         .subcommand_required(true)
         .arg_required_else_help(true);
-    for row in COMMANDS.as_slice() {
-        line = line.subcommand(subcommand(alloc, row)?)?;
-    }
-    Ok(line)
+    with_tools(alloc, with_questions(alloc, line)?)
 }

@@ -7,7 +7,7 @@ mod options;
 mod reading;
 mod request;
 
-pub use commands::{COMMANDS, CommandRow, FileRow, VERSION};
+pub use commands::{CommandRow, FileRow, QUESTIONS, TOOLS, VERSION};
 pub use options::{OptionRow, OptionValue};
 pub use reading::read_words;
 pub use request::{Colour, FileNames, Format, Layout, Options, Request, Task, Work};

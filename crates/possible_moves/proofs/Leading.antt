@@ -1,9 +1,9 @@
 -- The moves in order are exactly the ways on from the state.
-use Rattle.std.proofs.Common.{◌≡◌, ℕ, Bool, true, false, cond, List, [], ◌∷◌, map, refl, ap, ◌∙◌, sym, subst}
+use Rattle.std.proofs.Common.{◌≡◌, ℕ, Bool, true, false, cond, List, [], ◌∷◌, map, ap, ◌∙◌, sym, subst}
 use Rattle.std.specs.List.{filter}
 use Rattle.st_form.specs.declared.conditions.Part.{Part}
 use Rattle.st_form.specs.declared.conditions.TransName.{TransName}
-use Rattle.st_form.specs.declared.conditions.TransName.TheVariants.{Idle, Step}
+use Rattle.st_form.specs.declared.conditions.TransName.TheVariants.{Step}
 use Rattle.st_program.specs.Member.{Member, here, there}
 use Rattle.st_program.specs.Residuals.{Rests}
 use Rattle.st_program.specs.Spots.{IsNumbered}

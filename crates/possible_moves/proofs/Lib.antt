@@ -1,3 +1,4 @@
 pub mod Leading
 pub mod Arrived
-pub mod Told
+pub mod Reports
+pub mod Listed

@@ -3,7 +3,7 @@
 ghost use Rattle.std.specs.Prelude.{◌≡◌, ◌<◌, ◌^◌, ℕ, List, length, IfOk, IfSome};
 ghost use Rattle.posed_conditions.specs.Translated.{IsTranslated, IsOfText};
 ghost use Rattle.run_reports.specs.Playable.{IsPlayable, Spells};
-ghost use Rattle.possible_moves.specs.Reports.{IsReportOf, IsTold};
+ghost use Rattle.possible_moves.specs.Reports.{IsReportOf, IsTold, LeadsTo};
 
 use crate::reaching::{Reached, reach};
 use crate::schedules::schedule_text;
@@ -110,6 +110,23 @@ fn reported(
     Ok(Some(report(alloc, &ground, schedule, reached)?))
 }
 
+/// The report of the state to which a schedule leads.
+fn told(
+    alloc: Global,
+    texts: &MoveTexts<'_>,
+    source: &TranslatedProgram,
+    schedule: &Schedule,
+    reached: &Reached,
+) -> Result<Option<MovesReport>, Memory>
+    requires translated { IsTranslated source.now }
+    requires typed { IsOfText texts.now.program.now source.now }
+    requires spells { Spells source.now texts.now.schedule.now schedule.now }
+    requires leads { LeadsTo source.now schedule.now reached.now }
+    ensures { IfOk result (λ o. IfSome o (IsReportOf texts.now.program.now texts.now.schedule.now)) }
+{
+    reported(alloc, texts, source, schedule, reached)
+}
+
 /// The report of the state to which a schedule leads that can be played.
 fn played(
     alloc: Global,
@@ -119,10 +136,12 @@ fn played(
 ) -> Result<Option<MovesReport>, Memory>
     requires translated { IsTranslated source.now }
     requires playable { IsPlayable source.now schedule.now }
-    ensures { (program text : List ℕ) → IsOfText program source.now → Spells source.now text schedule.now → IfOk result (λ o. IfSome o (IsReportOf program text)) }
+    requires typed { IsOfText texts.now.program.now source.now }
+    requires spells { Spells source.now texts.now.schedule.now schedule.now }
+    ensures { IfOk result (λ o. IfSome o (IsReportOf texts.now.program.now texts.now.schedule.now)) }
 {
     match reach(alloc, &source.program, schedule)? {
-        Some(reached) => reported(alloc, texts, source, schedule, &reached),
+        Some(reached) => told(alloc, texts, source, schedule, &reached),
         None => Ok(None),
     }
 }

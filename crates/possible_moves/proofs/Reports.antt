@@ -1,5 +1,5 @@
 -- A report of what was reached is one of the two texts.
-use Rattle.std.proofs.Common.{◌≡◌, ℕ, List, Option, Some, None, IfSome}
+use Rattle.std.proofs.Common.{ℕ, List, Option, Some, None, IfSome}
 use Rattle.schedule_reader.specs.declared.schedule.Schedule.{Schedule}
 use Rattle.posed_conditions.specs.declared.translated.TranslatedProgram.{TranslatedProgram}
 use Rattle.posed_conditions.specs.Translated.{IsOfText}

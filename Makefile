@@ -1,5 +1,5 @@
-# Installs the built program `milkhour`, with its man page, completions for bash and zsh, and syntax for vim and pygments. The exact
-# program is `milkhour step`.
+# Installs the built program `milkhour`, with its man page, completions for bash and zsh, syntax for vim and pygments, what editors need
+# to start its language server, and the schemas of its documents. The exact program is `milkhour step`.
 #
 #   make                      builds the programs, as README does
 #   make install              PREFIX=/usr/local by default; DESTDIR stands before all paths

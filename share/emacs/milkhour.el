@@ -1,6 +1,7 @@
 ;;; milkhour.el --- Programs and proofs of milkhour  -*- lexical-binding: t -*-
 
-;; A mode for programs and proofs, with `milkhour lsp' by eglot (Emacs 29 or newer): (require 'milkhour), then M-x eglot.
+;; A mode for programs and proofs, with `milkhour lsp' by eglot, which Emacs 29 has and Emacs 28 takes as a package: (require 'milkhour),
+;; then M-x eglot.
 
 ;;; Code:
 
@@ -14,7 +15,8 @@
   (setq-local indent-tabs-mode nil))
 
 ;;;###autoload
-(add-to-list 'auto-mode-alist '("\\.\\(spl\\|proof\\)\\'" . milkhour-mode))
+(dolist (names '("\\.\\(spl\\|proof\\)\\'" "/\\(program\\|proof\\)\\'"))
+  (add-to-list 'auto-mode-alist (cons names 'milkhour-mode)))
 
 (add-to-list 'eglot-server-programs '(milkhour-mode . ("milkhour" "lsp")))
 

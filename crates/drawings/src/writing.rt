@@ -10,9 +10,8 @@ use std::fmt::Write;
 const STYLE: &str =
     "  labelloc=t; fontname=\"monospace\"; fontsize=12; rankdir=TB;\n  node [fontname=\"monospace\", fontsize=11];\n  edge [fontname=\"monospace\", fontsize=10];\n";
 
-/// Appends a text between quotation marks.
-fn push_quoted(out: &mut String, text: &str) -> Result<(), Memory> {
-    out.push('"')?;
+/// Appends a text as it stands between quotation marks.
+fn push_escaped(out: &mut String, text: &str) -> Result<(), Memory> {
     for letter in text.chars() {
         match letter {
             '"' => out.push_str("\\\"")?,
@@ -20,6 +19,25 @@ fn push_quoted(out: &mut String, text: &str) -> Result<(), Memory> {
             '\n' => out.push_str("\\n")?,
             other => out.push(other)?,
         }
+    }
+    Ok(())
+}
+
+/// Appends a text between quotation marks.
+fn push_quoted(out: &mut String, text: &str) -> Result<(), Memory> {
+    out.push('"')?;
+    push_escaped(out, text)?;
+    out.push('"')?;
+    Ok(())
+}
+
+/// Appends the label of an edge: lines that begin at the left behind a blank, so that no letter stands on the edge.
+fn push_edge_label(out: &mut String, label: &str) -> Result<(), Memory> {
+    out.push_str(", label=\"")?;
+    for line in label.split('\n') {
+        out.push(' ')?;
+        push_escaped(out, line)?;
+        out.push_str("\\l")?;
     }
     out.push('"')?;
     Ok(())
@@ -60,8 +78,7 @@ fn push_edge(out: &mut String, edge: &Edge) -> Result<(), Memory> {
         line_text(edge.line)
     )?;
     if !edge.label.is_empty() {
-        out.push_str(", label=")?;
-        push_quoted(out, &edge.label)?;
+        push_edge_label(out, &edge.label)?;
     }
     out.push_str("];\n")?;
     Ok(())
@@ -75,9 +92,12 @@ fn push_closed(out: &mut String, count: usize) -> Result<(), Memory> {
     Ok(())
 }
 
-/// Appends the beginning of a frame, with its nodes.
+/// Appends the beginning of a frame, with its nodes. Its label stands at the left, beside the way in.
 fn push_opened(out: &mut String, number: usize, cluster: &Cluster) -> Result<(), Memory> {
-    write!(out, "  subgraph cluster_{number} {{\n    label=")?;
+    write!(
+        out,
+        "  subgraph cluster_{number} {{\n    labeljust=l; label="
+    )?;
     push_quoted(out, &cluster.label)?;
     out.push_str(";\n   ")?;
     for node in &cluster.nodes {

@@ -1,6 +1,7 @@
 -- What a report tells of a proof over a program: the numbers of all conditions that aren't decided valid, and the first of them explained.
-use Rattle.std.specs.Prelude.{◌≡◌, ◌<◌, ℕ, ◌+◌, ◌-◌, ◌^◌, List, length, map, min, take, slice_get, Some}
+use Rattle.std.specs.Prelude.{◌≡◌, ◌<◌, ℕ, ◌+◌, ◌-◌, ◌^◌, List, [], length, map, min, take, slice_get, Some, string_bytes}
 use Rattle.st_form.specs.declared.conditions.Condition.{Condition}
+use Rattle.temporal_goals.specs.declared.scripts.Step.{Step}
 use Rattle.farkas_check.specs.Problem.{Setting}
 use Rattle.farkas_check.specs.PlainProblem.{setting}
 use Rattle.discharge.specs.declared.marks.Undecided.{Undecided}
@@ -13,6 +14,7 @@ use Rattle.posed_conditions.specs.Translated.{IsOfText}
 use Rattle.posed_conditions.specs.Posed.{IsPosedBy}
 use Rattle.proof_reports.specs.declared.proofs.Failure.{Failure}
 use Rattle.proof_reports.specs.declared.proofs.Report.{Report}
+use Rattle.proof_reports.specs.declared.proofs.StepReport.{StepReport}
 
 -- what conditions of a program are about
 abbrev pub setting_of : TranslatedProgram → Setting
@@ -33,6 +35,14 @@ number_of u = number (place_of u)
 abbrev pub number_in : Failure → ℕ
 number_in f = f.number
 
+-- what a step is called
+abbrev pub name_of : Step → List ℕ
+name_of s = string_bytes s.name
+
+-- what the step is called that is told of
+abbrev pub named_in : StepReport → List ℕ
+named_in r = string_bytes r.name
+
 -- a condition of a step stands at the place
 abbrev pub Stands : PosedScript → Undecided → Type 0
 Stands p u = (c : Condition) × (slice_get p.conditions.items u.place ≡ Some c) × (c.name.step < length p.script.steps.items)
@@ -40,14 +50,27 @@ Stands p u = (c : Condition) × (slice_get p.conditions.items u.place ≡ Some c
 abbrev pub AllStand : PosedScript → List Undecided → Type 0
 AllStand p us = (i : ℕ) (u : Undecided) → slice_get us i ≡ Some u → Stands p u
 
--- the report tells of the proof that one text spells over the program of another: all conditions that aren't decided valid, how
--- many they are of how many, and the first so many of them explained
+-- the report tells of the proof that one text spells over the program of another: its steps, how many conditions it has, all of them
+-- that aren't decided valid, how many they are, and the first so many of them explained
 pub record IsExplained (program proof : List ℕ) (limit : ℕ) (r : Report) : Type 0 where
   pub source : TranslatedProgram
   pub posed : PosedScript
   pub of : IsOfText program source
   pub by : IsPosedBy proof source posed
+  pub steps : map named_in r.steps.items ≡ map name_of posed.script.steps.items
   pub conditions : r.conditions ≡ length posed.conditions.items
   pub all : r.numbers.items ≡ map number (open_places source posed)
   pub failing : r.failing ≡ length r.numbers.items
   pub first : map number_in r.failures.items ≡ take limit r.numbers.items
+
+-- the report tells of the proof that one text spells over the program of another, and of no condition that fails
+pub record IsOutlined (program proof : List ℕ) (r : Report) : Type 0 where
+  pub source : TranslatedProgram
+  pub posed : PosedScript
+  pub of : IsOfText program source
+  pub by : IsPosedBy proof source posed
+  pub steps : map named_in r.steps.items ≡ map name_of posed.script.steps.items
+  pub conditions : r.conditions ≡ length posed.conditions.items
+  pub none : r.numbers.items ≡ []
+  pub failing : r.failing ≡ 0
+  pub unexplained : map number_in r.failures.items ≡ []

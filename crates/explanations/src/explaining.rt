@@ -1,34 +1,26 @@
 //! All open conditions of a proof over a program, explained.
 
-ghost use Rattle.std.specs.Prelude.{◌≡◌, IfOk, IfSome, length, map, take};
+ghost use Rattle.std.specs.Prelude.{◌≡◌, IfOk, IfSome, None, length, map, take};
 ghost use Rattle.discharge.specs.Marked.{place_of};
 ghost use Rattle.open_conditions.specs.Open.{AreOpen};
 ghost use Rattle.posed_conditions.specs.Translated.{IsOfText, IsTranslated};
 ghost use Rattle.posed_conditions.specs.Posed.{IsPosed, IsPosedBy};
-ghost use Rattle.explanations.specs.Explained.{AllStand, IsExplained, number_in, number_of, open_places, setting_of};
+ghost use Rattle.explanations.specs.Explained.{AllStand, IsExplained, IsOutlined, name_of, named_in, number_in, number_of, open_places, setting_of};
+ghost use Rattle.explanations.specs.Refused.{AreRefused};
 
-use crate::sources::{Places, Sources, Texts, number, posed};
+use crate::sources::{Places, Sources, Texts, number, posed, raw_program};
 use open_conditions::{Undecided, open_conditions};
 use posed_conditions::PosedProof;
 use program_words::vocabulary;
 use proof_reports::{Failure, Report};
 use source_lines::Lines;
 use source_places::{statement_places, step_places};
-use spl_parser::{ParseFault, RawProgram, parse_program};
+use spl_parser::RawProgram;
 use st_memory::Memory;
 use std::alloc::Global;
 
 /// The version of the form of reports.
 const SCHEMA: &str = "milkhour.verify/1";
-
-/// The raw program, in which the places are; none where the text is refused.
-fn raw_program<'a>(alloc: Global, text: &'a [u8]) -> Result<Option<RawProgram<'a>>, Memory> {
-    match parse_program(alloc, text) {
-        Ok(raw) => Ok(Some(raw)),
-        Err(ParseFault::Memory) => Err(Memory),
-        Err(_) => Ok(None),
-    }
-}
 
 /// The first so many.
 fn first(left: &[Undecided], limit: usize) -> &[Undecided]
@@ -76,6 +68,7 @@ fn report(
     ensures numbers { IfOk result (λ r. r.numbers.items ≡ map number_of left.now) }
     ensures failing { IfOk result (λ r. r.failing ≡ length left.now) }
     ensures first { IfOk result (λ r. map number_in r.failures.items ≡ map number_of (take limit left.now)) }
+    ensures steps { IfOk result (λ r. map named_in r.steps.items ≡ map name_of sources.now.posed.now.script.steps.items) }
 {
     let texts = &sources.texts;
     Ok(Report {
@@ -104,23 +97,22 @@ fn places(alloc: Global, texts: &Texts<'_>, raw: &RawProgram<'_>) -> Result<Plac
 fn reported(
     alloc: Global,
     texts: &Texts<'_>,
+    raw: &RawProgram<'_>,
     posed: &PosedProof,
     left: &[Undecided],
     limit: usize,
-) -> Result<Option<Report>, Memory>
+) -> Result<Report, Memory>
     requires translated { IsTranslated posed.now.source }
     requires stand { AllStand posed.now.proof left.now }
-    ensures conditions { IfOk result (λ o. IfSome o (λ r. r.conditions ≡ length posed.now.proof.conditions.items)) }
-    ensures numbers { IfOk result (λ o. IfSome o (λ r. r.numbers.items ≡ map number_of left.now)) }
-    ensures failing { IfOk result (λ o. IfSome o (λ r. r.failing ≡ length left.now)) }
-    ensures first { IfOk result (λ o. IfSome o (λ r. map number_in r.failures.items ≡ map number_of (take limit left.now))) }
+    ensures conditions { IfOk result (λ r. r.conditions ≡ length posed.now.proof.conditions.items) }
+    ensures numbers { IfOk result (λ r. r.numbers.items ≡ map number_of left.now) }
+    ensures failing { IfOk result (λ r. r.failing ≡ length left.now) }
+    ensures first { IfOk result (λ r. map number_in r.failures.items ≡ map number_of (take limit left.now)) }
+    ensures steps { IfOk result (λ r. map named_in r.steps.items ≡ map name_of posed.now.proof.script.steps.items) }
 {
-    let Some(raw) = raw_program(alloc, texts.program)? else {
-        return Ok(None);
-    };
     let program = Lines::new(alloc, texts.program)?;
     let proof = Lines::new(alloc, texts.proof)?;
-    let places = places(alloc, texts, &raw)?;
+    let places = places(alloc, texts, raw)?;
     let source = &posed.source;
     let words = vocabulary(alloc, source, &raw.processes, &program, &places.statements)?;
     let sources = Sources {
@@ -132,7 +124,7 @@ fn reported(
         source,
         posed: &posed.proof,
     };
-    Ok(Some(report(alloc, &sources, left, limit)?))
+    report(alloc, &sources, left, limit)
 }
 
 /// The conditions of what is posed that aren't decided valid.
@@ -156,33 +148,58 @@ fn open_of(alloc: Global, posed: &PosedProof) -> Result<Vec<Undecided>, Memory>
 fn decided(
     alloc: Global,
     texts: &Texts<'_>,
+    raw: &RawProgram<'_>,
     posed: &PosedProof,
     limit: usize,
-) -> Result<Option<Report>, Memory>
+) -> Result<Report, Memory>
     requires of { IsOfText texts.now.program.now posed.now.source }
     requires by { IsPosedBy texts.now.proof.now posed.now.source posed.now.proof }
-    ensures { IfOk result (λ o. IfSome o (IsExplained texts.now.program.now texts.now.proof.now limit)) }
+    ensures { IfOk result (IsExplained texts.now.program.now texts.now.proof.now limit) }
 {
     let left = open_of(alloc, posed)?;
-    reported(alloc, texts, posed, &left, limit)
+    reported(alloc, texts, raw, posed, &left, limit)
+}
+
+/// The report of what is posed by two texts, no condition decided.
+fn outlined(
+    alloc: Global,
+    texts: &Texts<'_>,
+    raw: &RawProgram<'_>,
+    posed: &PosedProof,
+) -> Result<Report, Memory>
+    requires of { IsOfText texts.now.program.now posed.now.source }
+    requires by { IsPosedBy texts.now.proof.now posed.now.source posed.now.proof }
+    ensures { IfOk result (IsOutlined texts.now.program.now texts.now.proof.now) }
+{
+    reported(alloc, texts, raw, posed, &[], 0)
 }
 
 /// What is told of a proof that isn't proved: its steps, the numbers of all conditions that aren't decided valid, and the first so
 /// many of them explained. `None` where one of the texts is refused.
 pub fn explain(alloc: Global, texts: &Texts<'_>, limit: usize) -> Result<Option<Report>, Memory>
-    ensures { IfOk result (λ o. IfSome o (IsExplained texts.now.program.now texts.now.proof.now limit)) }
+    ensures told { IfOk result (λ o. IfSome o (IsExplained texts.now.program.now texts.now.proof.now limit)) }
+    ensures refused { IfOk result (λ o. o ≡ None → AreRefused texts.now.program.now texts.now.proof.now) }
 {
+    let Some(raw) = raw_program(alloc, texts.program)? else {
+        return Ok(None);
+    };
     match posed(alloc, texts)? {
-        Some(posed) => decided(alloc, texts, &posed, limit),
+        Some(posed) => Ok(Some(decided(alloc, texts, &raw, &posed, limit)?)),
         None => Ok(None),
     }
 }
 
 /// What is told of a proof that is proved: its steps and their conditions. Nothing is decided. `None` where one of the texts is
 /// refused.
-pub fn outline(alloc: Global, texts: &Texts<'_>) -> Result<Option<Report>, Memory> {
+pub fn outline(alloc: Global, texts: &Texts<'_>) -> Result<Option<Report>, Memory>
+    ensures told { IfOk result (λ o. IfSome o (IsOutlined texts.now.program.now texts.now.proof.now)) }
+    ensures refused { IfOk result (λ o. o ≡ None → AreRefused texts.now.program.now texts.now.proof.now) }
+{
+    let Some(raw) = raw_program(alloc, texts.program)? else {
+        return Ok(None);
+    };
     match posed(alloc, texts)? {
-        Some(posed) => reported(alloc, texts, &posed, &[], 0),
+        Some(posed) => Ok(Some(outlined(alloc, texts, &raw, &posed)?)),
         None => Ok(None),
     }
 }

@@ -9,6 +9,7 @@ mod failures;
 mod mentions;
 mod nets;
 mod parts;
+mod refusing;
 mod sentences;
 mod sources;
 mod spots;

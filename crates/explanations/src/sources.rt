@@ -1,15 +1,18 @@
 //! What explanations are made from: two texts, what is posed by them, and where things stand in them.
 
-ghost use Rattle.std.specs.Prelude.{◌≡◌, IfOk, IfSome};
+ghost use Rattle.std.specs.Prelude.{◌≡◌, ℕ, List, IfOk, IfSome, None};
 ghost use Rattle.posed_conditions.specs.Translated.{IsOfText};
 ghost use Rattle.posed_conditions.specs.Posed.{IsPosedBy};
 ghost use Rattle.explanations.specs.Explained.{number_of};
+ghost use Rattle.explanations.specs.Refused.{AreRefused};
 
+use crate::refusing::{is_of_texts, is_stop};
 use formula_words::Vocabulary;
 use open_conditions::Undecided;
-use posed_conditions::{PosedProof, PosedScript, PosingFault, TranslatedProgram, pose};
+use posed_conditions::{PosedProof, PosedScript, TranslatedProgram, pose};
 use source_lines::Lines;
 use source_places::{StatementPlace, StepPlaces};
+use spl_parser::{RawProgram, parse_program};
 use st_memory::Memory;
 use std::alloc::Global;
 
@@ -41,14 +44,39 @@ pub(crate) struct Sources<'a> {
     pub posed: &'a PosedScript,
 }
 
+/// The raw program, in which the places are: `None` where the text is refused.
+pub(crate) fn raw_program<'a>(
+    alloc: Global,
+    text: &'a [u8],
+) -> Result<Option<RawProgram<'a>>, Memory>
+    ensures { IfOk result (λ o. o ≡ None → (proof : List ℕ) → AreRefused text.now proof) }
+{
+    match parse_program(alloc, text) {
+        Ok(raw) => Ok(Some(raw)),
+        Err(fault) => {
+            if is_stop(fault) {
+                Ok(None)
+            } else {
+                Err(Memory)
+            }
+        }
+    }
+}
+
 /// Two texts, read: `None` where one of them is refused.
 pub(crate) fn posed(alloc: Global, texts: &Texts<'_>) -> Result<Option<PosedProof>, Memory>
-    ensures { IfOk result (λ o. IfSome o (λ p. IsOfText texts.now.program.now p.source × IsPosedBy texts.now.proof.now p.source p.proof)) }
+    ensures read { IfOk result (λ o. IfSome o (λ p. IsOfText texts.now.program.now p.source × IsPosedBy texts.now.proof.now p.source p.proof)) }
+    ensures refused { IfOk result (λ o. o ≡ None → AreRefused texts.now.program.now texts.now.proof.now) }
 {
     match pose(alloc, texts.program, texts.proof) {
         Ok(posed) => Ok(Some(posed)),
-        Err(PosingFault::Memory) => Err(Memory),
-        Err(_) => Ok(None),
+        Err(fault) => {
+            if is_of_texts(fault) {
+                Ok(None)
+            } else {
+                Err(Memory)
+            }
+        }
     }
 }
 

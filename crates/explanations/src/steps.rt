@@ -1,5 +1,8 @@
 //! The steps of a proof, each with its rule and how many of its conditions hold.
 
+ghost use Rattle.std.specs.Prelude.{◌≡◌, IfOk, map};
+ghost use Rattle.explanations.specs.Explained.{name_of, named_in};
+
 use crate::sources::Sources;
 use formula_words::sum;
 use open_conditions::{Condition, Undecided};
@@ -117,7 +120,9 @@ impl Sources<'_> {
         step: &Step,
         conditions: u64,
         failing: u64,
-    ) -> Result<StepReport, Memory> {
+    ) -> Result<StepReport, Memory>
+        ensures { IfOk result (λ r. named_in r ≡ name_of step.now) }
+    {
         let verdict = if failing == 0 { "proved" } else { "not proved" };
         Ok(StepReport {
             name: step.name.clone()?,
@@ -137,16 +142,32 @@ impl Sources<'_> {
         &self,
         alloc: Global,
         open: &[Undecided],
-    ) -> Result<Vec<StepReport>, Memory> {
+    ) -> Result<Vec<StepReport>, Memory>
+        ensures { IfOk result (λ v. map named_in v.items ≡ map name_of self.now.posed.now.script.steps.items) }
+    {
         let steps = &self.posed.script.steps;
         let all = counts(alloc, steps.len(), &self.posed.conditions)?;
         let left = failing(alloc, steps.len(), &self.posed.conditions, open)?;
-        let mut out = Vec::new(alloc);
-        for (number, step) in steps.iter().enumerate() {
-            let conditions = all.get(number).copied().unwrap_or(0);
-            let failing = left.get(number).copied().unwrap_or(0);
-            out.push(self.step_report(alloc, number, step, conditions, failing)?)?;
-        }
-        Ok(out)
+        reports(alloc, self, steps, &all, &left)
     }
+}
+
+/// The steps, with how many conditions each has, and how many of them are left.
+fn reports(
+    alloc: Global,
+    sources: &Sources<'_>,
+    steps: &[Step],
+    all: &[u64],
+    left: &[u64],
+) -> Result<Vec<StepReport>, Memory>
+    ensures { IfOk result (λ v. map named_in v.items ≡ map name_of steps.now) }
+{
+    let mut out = Vec::new(alloc);
+    for step in steps {
+        let number = out.len();
+        let conditions = all.get(number).copied().unwrap_or(0);
+        let failing = left.get(number).copied().unwrap_or(0);
+        out.push(sources.step_report(alloc, number, step, conditions, failing)?)?;
+    }
+    Ok(out)
 }

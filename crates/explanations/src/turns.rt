@@ -70,16 +70,27 @@ impl Sources<'_> {
         }
     }
 
-    /// The transitions but idling that may be taken in a state.
+    /// The transitions but idling that can be taken in a state, as far as no number is too large to tell.
     fn enabled(&self, alloc: Global, state: &Picture) -> Result<Vec<String>, Memory> {
         let source = self.source;
         let mut out = Vec::new(alloc);
         for transition in &source.system.transitions {
-            if transition.name != TransName::Idle && state.is_enabled(transition) {
+            if transition.name != TransName::Idle && state.is_enabled(transition) == Ok(true) {
                 out.push(self.words.transition(alloc, transition.name)?)?;
             }
         }
         Ok(out)
+    }
+
+    /// Whether no transition but idling can be taken in a state.
+    fn is_stuck(&self, state: &Picture) -> bool {
+        let source = self.source;
+        for transition in &source.system.transitions {
+            if transition.name != TransName::Idle && state.is_enabled(transition) != Ok(false) {
+                return false;
+            }
+        }
+        true
     }
 
     fn item(
@@ -149,7 +160,7 @@ impl Sources<'_> {
         let number = name.node.map(|node| item_number(&step.rule, node));
         let current = number.and_then(|number| numbered(&items, number));
         let enabled = self.enabled(alloc, passage.before)?;
-        let stuck = enabled.is_empty() && name.premise != Premise::Move;
+        let stuck = name.premise != Premise::Move && self.is_stuck(passage.before);
         Ok(Some(Turn {
             item: number,
             helper: self.helper(alloc, current)?,

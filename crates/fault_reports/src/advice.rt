@@ -24,9 +24,10 @@ const NO_QUANTIFIERS: &str = "there are no quantifiers";
 const NO_DIVISION: &str = "there is no division: the language is linear";
 
 /// What stands before a token at which a text breaks off, the token, and the help.
-const PAIRS: [(&str, &str, &str); 12] = [
+const PAIRS: [(&str, &str, &str); 13] = [
     ("=", "=", "equality is `=`, one sign"),
     ("=", ">", IMPLIES),
+    ("<", ">", "unequal is `!=`"),
     (
         "<",
         "->",

@@ -5,7 +5,8 @@ ghost use Rattle.fault_reports.specs.Told.{first_spot};
 
 use crate::advice::help_for_bytes;
 use crate::lemmas::{declared, is_boolean, labelled, steps};
-use crate::names::nearest;
+use crate::meant::help_for_name;
+use crate::names::{labels_like, nearest};
 use crate::refusal::{Kind, Refusal};
 use crate::source::{Source, broken_at, word_of};
 use crate::syntax::syntax_words;
@@ -125,20 +126,28 @@ fn undeclared(
     near_help(alloc, fault, nearest(alloc, word, &variables)?)
 }
 
-/// A name behind `at` that is no label.
+/// A name behind `at` that is no label: a near one, or those that there are.
 fn no_label(alloc: Global, setting: &Setting, word: &str, fault: &mut Fault) -> Result<(), Memory> {
     fault.sentence = format!(in alloc; "the program has no label `{word}`")?;
     let labels = labelled(alloc, setting.program)?;
-    near_help(alloc, fault, nearest(alloc, word, &labels)?)
+    if let Some(near) = nearest(alloc, word, &labels)? {
+        return near_help(alloc, fault, Some(near));
+    }
+    fault.help.clear();
+    match labels_like(alloc, word, &labels)? {
+        Some(help) => helped(alloc, fault, &help),
+        None => Ok(()),
+    }
 }
 
 /// A name in a formula that is no variable.
 fn no_variable(
     alloc: Global,
     setting: &Setting,
-    word: &str,
+    place: u64,
     fault: &mut Fault,
 ) -> Result<(), Memory> {
+    let word = setting.source.word_at(place);
     let labels = labelled(alloc, setting.program)?;
     let label = word.strip_prefix("at_").unwrap_or(word);
     if let (Reader::Schedule(_), true) = (
@@ -158,8 +167,8 @@ fn no_variable(
         return helped(alloc, fault, &help);
     }
     fault.sentence = format!(in alloc; "the program has no variable `{word}`")?;
-    if word == "not" {
-        return helped(alloc, fault, "not is `~`");
+    if let Some(help) = help_for_name(setting.source.word_before(place, 1), word) {
+        return helped(alloc, fault, help);
     }
     let variables = declared(alloc, setting.program)?;
     near_help(alloc, fault, nearest(alloc, word, &variables)?)
@@ -172,7 +181,7 @@ fn unknown(alloc: Global, setting: &Setting, place: u64, fault: &mut Fault) -> R
         _ => if setting.source.word_before(place, 1) == "at" {
             no_label(alloc, setting, word, fault)
         } else {
-            no_variable(alloc, setting, word, fault)
+            no_variable(alloc, setting, place, fault)
         },
     }
 }

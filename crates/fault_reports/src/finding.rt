@@ -40,6 +40,11 @@ fn is_later(faults: &[Fault], place: u64) -> bool {
     }
 }
 
+/// Whether a response is `by find` at a place, which is no fault where a proof is looked for.
+fn asks_for_chain(source: &Source, place: u64) -> bool {
+    source.word_at(place) == "by" && source.word(source.index_at(place).saturating_add(1)) == "find"
+}
+
 /// The bytes before a place.
 fn before(text: &[u8], place: u64) -> &[u8] {
     text.split_at(text.len().min(place as usize)).0
@@ -69,7 +74,7 @@ fn with_further(
             break;
         };
         let there = unmended(whole, &text, found);
-        if !is_later(&out, there.place) {
+        if !is_later(&out, there.place) || asks_for_chain(source, there.place) {
             break;
         }
         out.push(described(alloc, setting, before(&text, found.place), there)?)?;

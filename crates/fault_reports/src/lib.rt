@@ -8,6 +8,7 @@ mod describing;
 mod expected;
 mod finding;
 mod lemmas;
+mod meant;
 mod mending;
 mod names;
 mod reading;

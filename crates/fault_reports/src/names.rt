@@ -36,3 +36,53 @@ pub(crate) fn nearest<'a>(
     }
     Ok(found)
 }
+
+/// How many names are listed.
+const LISTED: usize = 8;
+
+/// What stands behind the first letter.
+fn tail(word: &str) -> &[u8] {
+    match word.as_bytes().split_first() {
+        Some((_, tail)) => tail,
+        None => b"".as_slice(),
+    }
+}
+
+/// Names in a list, in which `..` stands for those past the eighth.
+fn listed(alloc: Global, names: &[&str]) -> Result<String, Memory> {
+    let mut out = String::new(alloc);
+    for (index, name) in names.iter().enumerate() {
+        if index < LISTED {
+            let separator = if index == 0 { "" } else { ", " };
+            let quoted = format!(in alloc; "{separator}`{name}`")?;
+            out.push_str(&quoted)?;
+        }
+    }
+    if LISTED < names.len() {
+        out.push_str(" ..")?;
+    }
+    Ok(out)
+}
+
+/// Help for a label that a program doesn't have: those that are like it behind the first letter, or else all.
+pub(crate) fn labels_like(
+    alloc: Global,
+    word: &str,
+    labels: &[&str],
+) -> Result<Option<String>, Memory> {
+    let mut like = Vec::new(alloc);
+    for label in labels {
+        if tail(label) == tail(word) {
+            like.push(*label)?;
+        }
+    }
+    if !like.is_empty() {
+        let listed = listed(alloc, &like)?;
+        return Ok(Some(format!(in alloc; "labels like it: {listed}")?));
+    }
+    if labels.is_empty() {
+        return Ok(None);
+    }
+    let listed = listed(alloc, labels)?;
+    Ok(Some(format!(in alloc; "its labels are {listed}")?))
+}

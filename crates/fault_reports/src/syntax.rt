@@ -2,6 +2,7 @@
 
 use crate::advice::{KEYWORDS, help_behind, help_for_comparison, help_for_pair};
 use crate::expected::expected;
+use crate::meant::{help_instead, wants};
 use crate::names::nearest;
 use crate::source::Source;
 use crate::texts::Reader;
@@ -54,11 +55,6 @@ fn sentence(alloc: Global, found: &str, wanted: &[String]) -> Result<String, Mem
     Ok(format!(in alloc; "expected {listed}, found {found}")?)
 }
 
-/// Whether a word is among those that may stand there.
-fn wants(wanted: &[String], word: &str) -> bool {
-    wanted.iter().any(|other| other.as_str() == word)
-}
-
 /// Whether the two texts may have been exchanged.
 fn exchanged(reader: &Reader, source: &Source, place: u64) -> Option<&'static str> {
     if source.index_at(place) != 0 {
@@ -87,7 +83,15 @@ fn exchanged(reader: &Reader, source: &Source, place: u64) -> Option<&'static st
 }
 
 /// The help from the tables.
-fn from_tables(source: &Source, place: u64, wanted: &[String]) -> Option<&'static str> {
+fn from_tables(
+    reader: &Reader,
+    source: &Source,
+    place: u64,
+    wanted: &[String],
+) -> Option<&'static str> {
+    if let Some(help) = help_instead(reader, source, place, wanted) {
+        return Some(help);
+    }
     let before = source.word_before(place, 1);
     let found = source.word_at(place);
     if found == "=" && wants(wanted, "`:=`") {
@@ -105,7 +109,8 @@ fn from_tables(source: &Source, place: u64, wanted: &[String]) -> Option<&'stati
     }
     match help_behind(before, found) {
         Some(help) => Some(help),
-        None => help_for_comparison(found),
+        None if wants(wanted, "an operator") => help_for_comparison(found),
+        None => None,
     }
 }
 
@@ -201,7 +206,7 @@ fn help(
 ) -> Result<Option<String>, Memory> {
     let table = match exchanged(reader, source, place) {
         Some(help) => Some(help),
-        None => from_tables(source, place, wanted),
+        None => from_tables(reader, source, place, wanted),
     };
     if let Some(help) = table {
         return Ok(Some(String::from_str(alloc, help)?));

@@ -40,6 +40,7 @@ pub fn equation_page(
         &report.program,
         program,
         &[],
+        1,
     )?;
     page.markup("</section>\n<section>\n<h2>Equations</h2>\n")?;
     for equation in &report.equations {

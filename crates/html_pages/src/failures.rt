@@ -1,6 +1,7 @@
 //! Conditions that aren't decided valid.
 
 use crate::page::Page;
+use crate::sources::ProofPlace;
 use crate::spots::push_spot;
 use crate::states::push_states;
 use crate::turns::push_turn;
@@ -12,20 +13,16 @@ fn push_cases(page: &mut Page, cases: &[Case]) -> Result<(), Memory> {
     if cases.is_empty() {
         return Ok(());
     }
-    page.markup("<p>none of what the rule allows is so:</p>\n<ol>\n")?;
+    page.markup("<p>the step has to lead to one of these, and leads to none:</p>\n<ul>\n")?;
     for case in cases {
         page.markup("<li>")?;
         page.sentence(&case.meaning)?;
         for missing in &case.missing {
-            page.inside(
-                "<br><span class=\"bad\">not <code>",
-                missing,
-                "</code></span>",
-            )?;
+            page.inside("<br><code class=\"bad\">", missing, "</code>")?;
         }
         page.markup("</li>\n")?;
     }
-    page.markup("</ol>\n")
+    page.markup("</ul>\n")
 }
 
 fn push_broken(page: &mut Page, broken: &[String]) -> Result<(), Memory> {
@@ -59,11 +56,11 @@ fn push_summary(page: &mut Page, failure: &Failure) -> Result<(), Memory> {
     page.markup("</p>\n")
 }
 
-/// Appends a condition. `proof` is the name of the proof's file.
+/// Appends a condition. `proof` says where the proof stands.
 pub(crate) fn push_failure(
     alloc: Global,
     page: &mut Page,
-    proof: &str,
+    proof: ProofPlace<'_>,
     failure: &Failure,
 ) -> Result<(), Memory> {
     push_summary(page, failure)?;

@@ -3,7 +3,7 @@
 use crate::failures::push_failure;
 use crate::frame::{push_end, push_head, push_headline};
 use crate::page::Page;
-use crate::sources::{Role, push_source};
+use crate::sources::{ProofPlace, Role, proof_place, push_source};
 use crate::steps::push_steps;
 use base64::engine::general_purpose::STANDARD;
 use proof_reports::Report;
@@ -18,21 +18,27 @@ pub struct PageTexts<'a> {
     pub drawing: Option<&'a [u8]>,
 }
 
+/// What a report is of: one file with both texts, or a proof over a program.
+fn subject(alloc: Global, report: &Report) -> Result<String, Memory> {
+    let Report { program, proof, .. } = report;
+    if program.as_str() == proof.as_str() {
+        return Ok(proof.clone()?);
+    }
+    Ok(format!(in alloc; "{proof} over {program}")?)
+}
+
 /// The headline of a report.
 fn headline(alloc: Global, report: &Report) -> Result<String, Memory> {
+    let subject = subject(alloc, report)?;
     let Report {
-        program,
-        proof,
         conditions,
         failing,
         ..
     } = report;
     if *failing == 0 {
-        return Ok(format!(in alloc; "{proof} over {program}: proved, by {conditions} conditions")?);
+        return Ok(format!(in alloc; "{subject}: proved, by {conditions} conditions")?);
     }
-    Ok(format!(in alloc;
-        "{proof} over {program}: not proved, {failing} of {conditions} conditions fail"
-    )?)
+    Ok(format!(in alloc; "{subject}: not proved, {failing} of {conditions} conditions fail")?)
 }
 
 /// The lines of a file that are told of.
@@ -69,6 +75,7 @@ fn push_texts(
     page: &mut Page,
     report: &Report,
     texts: &PageTexts<'_>,
+    proof: ProofPlace<'_>,
 ) -> Result<(), Memory> {
     let told = told_lines(alloc, report, &report.program)?;
     push_source(
@@ -78,18 +85,32 @@ fn push_texts(
         &report.program,
         texts.program,
         &told,
+        1,
     )?;
     let told = told_lines(alloc, report, &report.proof)?;
-    push_source(alloc, page, Role::Proof, &report.proof, texts.proof, &told)
+    push_source(
+        alloc,
+        page,
+        Role::Proof,
+        &report.proof,
+        texts.proof,
+        &told,
+        proof.first,
+    )
 }
 
-fn push_failures(alloc: Global, page: &mut Page, report: &Report) -> Result<(), Memory> {
+fn push_failures(
+    alloc: Global,
+    page: &mut Page,
+    report: &Report,
+    proof: ProofPlace<'_>,
+) -> Result<(), Memory> {
     if report.failures.is_empty() {
         return Ok(());
     }
     page.markup("<h2>Conditions that fail</h2>\n")?;
     for failure in &report.failures {
-        push_failure(alloc, page, &report.proof, failure)?;
+        push_failure(alloc, page, proof, failure)?;
     }
     Ok(())
 }
@@ -101,15 +122,16 @@ pub fn proof_page(
     texts: &PageTexts<'_>,
 ) -> Result<Vec<u8>, Memory> {
     let title = headline(alloc, report)?;
+    let proof = proof_place(alloc, &report.program, &report.proof, texts.proof)?;
     let mut page = Page::new(alloc);
     push_head(&mut page, &title)?;
     push_headline(&mut page, report.failing == 0, &title)?;
     page.markup("<main>\n<section>\n")?;
-    push_texts(alloc, &mut page, report, texts)?;
+    push_texts(alloc, &mut page, report, texts, proof)?;
     push_drawing(alloc, &mut page, texts.drawing)?;
     page.markup("</section>\n<section>\n")?;
     push_steps(&mut page, &report.steps)?;
-    push_failures(alloc, &mut page, report)?;
+    push_failures(alloc, &mut page, report, proof)?;
     page.markup("</section>\n</main>\n")?;
     push_end(&mut page)?;
     Ok(page.finish())

@@ -3,7 +3,7 @@
 use crate::frame::{push_end, push_head, push_headline};
 use crate::page::Page;
 use crate::proofs::PageTexts;
-use crate::sources::{Role, push_link, push_source};
+use crate::sources::{Role, proof_place, push_link, push_source};
 use proof_reports::{Cell, GoalReport, Position, RunReport};
 use st_memory::Memory;
 use std::alloc::Global;
@@ -124,7 +124,9 @@ pub fn run_page(
         &report.program,
         texts.program,
         &taken,
+        1,
     )?;
+    let proof = proof_place(alloc, &report.program, &report.proof, texts.proof)?;
     push_source(
         alloc,
         &mut page,
@@ -132,6 +134,7 @@ pub fn run_page(
         &report.proof,
         texts.proof,
         &[],
+        proof.first,
     )?;
     page.markup("</section>\n</main>\n")?;
     push_end(&mut page)?;

@@ -20,6 +20,50 @@ fn anchor(role: Role) -> &'static str {
     }
 }
 
+/// Where the proof stands: its file, and its first line there. In one file with both texts the program stands in front of it.
+#[derive(Clone, Copy)]
+pub(crate) struct ProofPlace<'a> {
+    file: &'a str,
+    pub first: usize,
+}
+
+impl ProofPlace<'_> {
+    /// Which of the two texts a line of a file is in.
+    pub(crate) fn role(self, file: &str, line: u64) -> Role {
+        if file == self.file && self.first as u64 <= line {
+            Role::Proof
+        } else {
+            Role::Program
+        }
+    }
+}
+
+/// The first line in which there is more than blanks, and else the last.
+fn first_line(alloc: Global, text: &[u8]) -> Result<usize, Memory> {
+    let lines = Lines::new(alloc, text)?;
+    for number in 1..lines.count() {
+        if lines.line(number).iter().any(|byte| *byte != b' ') {
+            return Ok(number);
+        }
+    }
+    Ok(lines.count())
+}
+
+/// Where the proof stands, by the names of both files and its text: of one file with both texts, blanks stand before it.
+pub(crate) fn proof_place<'a>(
+    alloc: Global,
+    program: &str,
+    proof: &'a str,
+    text: &[u8],
+) -> Result<ProofPlace<'a>, Memory> {
+    let first = if program == proof {
+        first_line(alloc, text)?
+    } else {
+        1
+    };
+    Ok(ProofPlace { file: proof, first })
+}
+
 /// Appends a link to a line: its beginning, up to the text.
 pub(crate) fn push_link(page: &mut Page, role: Role, line: u64) -> Result<(), Memory> {
     page.markup("<a href=\"#")?;
@@ -60,7 +104,7 @@ pub(crate) fn marks(alloc: Global, lines: &Lines<'_>, told: &[u64]) -> Result<Ve
     Ok(marks)
 }
 
-/// Appends a file: its name, and its lines, of which those told of are marked.
+/// Appends a file: its name, and its lines from the first on that is shown, of which those told of are marked.
 pub(crate) fn push_source(
     alloc: Global,
     page: &mut Page,
@@ -68,6 +112,7 @@ pub(crate) fn push_source(
     name: &str,
     text: &[u8],
     told: &[u64],
+    first: usize,
 ) -> Result<(), Memory> {
     let lines = Lines::new(alloc, text)?;
     let marks = marks(alloc, &lines, told)?;
@@ -75,7 +120,7 @@ pub(crate) fn push_source(
     for (place, marked) in marks.iter().enumerate() {
         let number = place.saturating_add(1);
         let line = lines.line(number);
-        if number < marks.len() || !line.is_empty() {
+        if first <= number && (number < marks.len() || !line.is_empty()) {
             push_line(page, role, number, *marked, line)?;
         }
     }

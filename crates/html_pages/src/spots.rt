@@ -1,7 +1,7 @@
 //! Places in texts, each with its line, in which what is meant is marked.
 
 use crate::page::Page;
-use crate::sources::{Role, push_link};
+use crate::sources::{ProofPlace, push_link};
 use proof_reports::Spot;
 use source_lines::Lines;
 use st_memory::Memory;
@@ -31,18 +31,14 @@ fn push_source_line(alloc: Global, page: &mut Page, spot: &Spot) -> Result<(), M
     push_marked(page, line, from, to)
 }
 
-/// Appends a place: where it is, what is told of it, and its line. `proof` is the name of the proof's file.
+/// Appends a place: where it is, what is told of it, and its line. `proof` says where the proof stands.
 pub(crate) fn push_spot(
     alloc: Global,
     page: &mut Page,
-    proof: &str,
+    proof: ProofPlace<'_>,
     spot: &Spot,
 ) -> Result<(), Memory> {
-    let role = if spot.file.as_str() == proof {
-        Role::Proof
-    } else {
-        Role::Program
-    };
+    let role = proof.role(&spot.file, spot.line);
     page.markup("<div class=\"faint\">")?;
     push_link(page, role, spot.line)?;
     page.text(&spot.file)?;

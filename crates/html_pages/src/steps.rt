@@ -1,4 +1,4 @@
-//! The steps of a proof with their verdicts, as a table.
+//! The steps of a proof with their verdicts, as a table. The verdict stands in front, so that it is seen on a narrow page too.
 
 use crate::page::Page;
 use crate::sources::{Role, push_link};
@@ -28,20 +28,20 @@ fn push_step(page: &mut Page, step: &StepReport) -> Result<(), Memory> {
     page.markup("<tr><td>")?;
     push_link(page, Role::Proof, step.line)?;
     page.text(&step.name)?;
-    page.inside("</a></td><td>", &step.kind, "</td>")?;
+    page.markup("</a></td>")?;
+    push_verdict(page, step)?;
+    page.inside("<td>", &step.kind, "</td>")?;
     page.inside("<td>", &step.rule, "</td><td>")?;
     push_using(page, &step.using)?;
     page.markup("</td><td>")?;
     page.number(step.conditions)?;
-    page.markup("</td>")?;
-    push_verdict(page, step)?;
-    page.markup("</tr>\n")
+    page.markup("</td></tr>\n")
 }
 
 /// Appends the steps.
 pub(crate) fn push_steps(page: &mut Page, steps: &[StepReport]) -> Result<(), Memory> {
     page.markup(
-        "<h2>Steps</h2>\n<div class=\"scroll\"><table>\n<tr><th>step</th><th></th><th>rule</th><th>using</th><th>conditions</th><th>verdict</th></tr>\n",
+        "<h2>Steps</h2>\n<div class=\"scroll\"><table>\n<tr><th>step</th><th>verdict</th><th></th><th>rule</th><th>using</th><th>conditions</th></tr>\n",
     )?;
     for step in steps {
         push_step(page, step)?;

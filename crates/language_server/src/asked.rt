@@ -17,10 +17,12 @@ pub enum Method {
     Definition,
     Completion,
     Formatting,
+    Actions,
+    Resolve,
     Other,
 }
 
-const METHODS: [(&str, Method); 11] = [
+const METHODS: [(&str, Method); 13] = [
     ("initialize", Method::Initialize),
     ("shutdown", Method::Shutdown),
     ("exit", Method::Exit),
@@ -32,6 +34,8 @@ const METHODS: [(&str, Method); 11] = [
     ("textDocument/definition", Method::Definition),
     ("textDocument/completion", Method::Completion),
     ("textDocument/formatting", Method::Formatting),
+    ("textDocument/codeAction", Method::Actions),
+    ("codeAction/resolve", Method::Resolve),
 ];
 
 /// The method of a message; `None` where it is no request and no notification.
@@ -62,10 +66,23 @@ pub fn text(message: &Value) -> Option<&str> {
     changes.last()?.get("text")?.as_str()
 }
 
-pub fn position(message: &Value) -> Option<Position> {
-    let at = message.get("params")?.get("position")?;
+fn position_in(at: &Value) -> Option<Position> {
     Some(Position {
         line: at.get("line")?.as_u64()?,
         character: at.get("character")?.as_u64()?,
     })
+}
+
+/// The position that is asked of, or the begin of the range that is.
+pub fn position(message: &Value) -> Option<Position> {
+    let params = message.get("params")?;
+    match params.get("range") {
+        Some(range) => position_in(range.get("start")?),
+        None => position_in(params.get("position")?),
+    }
+}
+
+/// The document of an action that is to be resolved.
+pub fn action_uri(message: &Value) -> Option<&str> {
+    message.get("params")?.get("data")?.get("uri")?.as_str()
 }

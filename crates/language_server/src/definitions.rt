@@ -5,6 +5,7 @@ use source_places::Span;
 use st_memory::Memory;
 use st_tokens::{Token, TokenKind};
 use std::alloc::Global;
+use text_layouts::{closes, opens};
 
 /// What a name stands for.
 #[derive(Clone, Copy, Debug, PartialEq, Eq)]
@@ -40,24 +41,6 @@ fn is(token: &Token<'_>, text: &[u8]) -> bool {
     token.text == text
 }
 
-fn opens(token: &Token<'_>) -> bool {
-    is(token, b"[")
-        || is(token, b"(")
-        || is(token, b"{")
-        || is(token, b"<<")
-        || is(token, b"if")
-        || is(token, b"cobegin")
-}
-
-fn closes(token: &Token<'_>) -> bool {
-    is(token, b"]")
-        || is(token, b")")
-        || is(token, b"}")
-        || is(token, b">>")
-        || is(token, b"fi")
-        || is(token, b"coend")
-}
-
 fn begins_declaration(token: &Token<'_>) -> bool {
     is(token, b"local") || is(token, b"in") || is(token, b"out")
 }
@@ -80,12 +63,12 @@ fn last_of_part<'a, 'b>(tokens: &'b [Token<'a>]) -> Option<&'b Token<'a>> {
     let mut depth = 0usize;
     let mut last = None;
     for token in tokens {
-        if depth == 0 && (ends_part(token) || closes(token)) {
+        if depth == 0 && (ends_part(token) || closes(token.text)) {
             break;
         }
-        if opens(token) {
+        if opens(token.text) {
             depth = depth.saturating_add(1);
-        } else if closes(token) {
+        } else if closes(token.text) {
             depth = depth.saturating_sub(1);
         }
         last = Some(token);

@@ -5,7 +5,7 @@ use crate::protocol::{Diagnostic, Location, Related};
 use crate::texts::{Pair, Source};
 use explanations::{Texts, explain};
 use fault_reports::{TextFile, faults_of_program, faults_of_proof, warnings};
-use proof_reports::{Failure, Fault, Severity, Spot};
+use proof_reports::{Failure, Fault, Severity, Spot, StepReport};
 use source_lines::Lines;
 use st_memory::Memory;
 use std::alloc::Global;
@@ -30,6 +30,8 @@ pub struct Ground<'a> {
 pub struct Told {
     pub program: Vec<Diagnostic>,
     pub proof: Vec<Diagnostic>,
+    /// What became of each step, where the conditions were decided.
+    pub steps: Option<Vec<StepReport>>,
 }
 
 impl<'a> Ground<'a> {
@@ -189,7 +191,7 @@ fn push_warnings(alloc: Global, ground: &Ground<'_>, told: &mut Told) -> Result<
     Ok(())
 }
 
-/// The conditions that are open; none where a text is refused.
+/// The conditions that are open, and what became of each step; neither where a text is refused.
 fn push_open(alloc: Global, ground: &Ground<'_>, told: &mut Told) -> Result<(), Memory> {
     let Some(proof) = ground.proof else {
         return Ok(());
@@ -204,6 +206,7 @@ fn push_open(alloc: Global, ground: &Ground<'_>, told: &mut Told) -> Result<(), 
         for failure in &report.failures {
             push_failure(alloc, ground, told, failure)?;
         }
+        told.steps = Some(report.steps);
     }
     Ok(())
 }
@@ -214,6 +217,7 @@ pub fn tell(alloc: Global, pair: &Pair, conditions: bool) -> Result<Told, Memory
     let mut told = Told {
         program: Vec::new(alloc),
         proof: Vec::new(alloc),
+        steps: None,
     };
     let faults = faults(alloc, pair)?;
     for fault in &faults {

@@ -1,7 +1,8 @@
 //! Documents laid out.
 
+use crate::changes::TextEdit;
 use crate::places::position;
-use crate::protocol::{Position, Range, TextEdit};
+use crate::protocol::{Position, Range};
 use source_lines::Lines;
 use st_memory::Memory;
 use std::alloc::Global;
@@ -13,7 +14,7 @@ fn laid(alloc: Global, text: &[u8]) -> Result<Option<Vec<u8>>, Memory> {
     match laid_out(alloc, text) {
         Ok(text) => Ok(Some(text)),
         Err(LayoutFault::Memory) => Err(Memory),
-        Err(_) => Ok(None),
+        Err(LayoutFault::Token(_)) => Ok(None),
     }
 }
 

@@ -2,7 +2,9 @@
 //! 3.17).
 #![tactic(auto)]
 
+mod actions;
 mod asked;
+mod changes;
 mod definitions;
 mod diagnostics;
 mod documents;
@@ -11,11 +13,13 @@ mod framing;
 mod names;
 mod places;
 mod protocol;
+mod publishing;
 mod replies;
 mod server;
 mod session;
 mod texts;
+mod verdicts;
 
 pub use server::Stage;
-pub use session::Session;
+pub use session::{Session, Wanted};
 pub use texts::Disk;

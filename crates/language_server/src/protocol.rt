@@ -97,6 +97,13 @@ pub struct CompletionOptions {
 
 #[derive(Serialize, Drop)]
 #[serde(rename_all = "camelCase")]
+pub struct CodeActionOptions {
+    pub code_action_kinds: [&'static str; 1],
+    pub resolve_provider: bool,
+}
+
+#[derive(Serialize, Drop)]
+#[serde(rename_all = "camelCase")]
 pub struct Capabilities {
     pub position_encoding: &'static str,
     pub text_document_sync: Synchronization,
@@ -104,6 +111,7 @@ pub struct Capabilities {
     pub definition_provider: bool,
     pub document_formatting_provider: bool,
     pub completion_provider: CompletionOptions,
+    pub code_action_provider: CodeActionOptions,
 }
 
 #[derive(Serialize, Drop)]
@@ -128,13 +136,6 @@ pub struct Markup {
 pub struct Hover {
     pub contents: Markup,
     pub range: Range,
-}
-
-#[derive(Serialize, Drop)]
-#[serde(rename_all = "camelCase")]
-pub struct TextEdit {
-    pub range: Range,
-    pub new_text: String,
 }
 
 /// `kind` is 6 for a variable, 14 for a keyword, 18 for what is referred to.

@@ -1,9 +1,10 @@
 //! Messages that are sent.
 
+use crate::actions::KIND;
 use crate::framing::push_message;
 use crate::protocol::{
-    Capabilities, CompletionOptions, ErrorObject, Failure, Initialized, Notification, Response,
-    ServerInfo, Synchronization, VERSION,
+    Capabilities, CodeActionOptions, CompletionOptions, ErrorObject, Failure, Initialized,
+    Notification, Response, ServerInfo, Synchronization, VERSION,
 };
 use serde::Serialize;
 use serde_json::{Value, to_vec};
@@ -76,6 +77,10 @@ pub fn capabilities() -> Initialized {
             document_formatting_provider: true,
             completion_provider: CompletionOptions {
                 resolve_provider: false,
+            },
+            code_action_provider: CodeActionOptions {
+                code_action_kinds: [KIND],
+                resolve_provider: true,
             },
         },
         server_info: ServerInfo { name: "milkhour" },

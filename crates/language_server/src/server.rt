@@ -1,13 +1,14 @@
 //! The server: messages go in, and messages come out. It reads and writes nothing itself.
 
-use crate::asked::{Method, method_of, position, text, uri};
-use crate::diagnostics::tell;
+use crate::actions::{actions, resolved};
+use crate::asked::{Method, action_uri, method_of, position, text, uri};
 use crate::documents::Documents;
 use crate::formatting::edits;
 use crate::names::{completions, definition, hover};
-use crate::protocol::{Diagnostic, Published};
-use crate::replies::{capabilities, fail, notify, respond};
-use crate::texts::{Disk, Pair, pair_of};
+use crate::publishing::{publish, publish_pair};
+use crate::replies::{capabilities, fail, respond};
+use crate::texts::{Disk, Pair, Source, pair_of};
+use crate::verdicts::Verdicts;
 use serde_json::Value;
 use st_memory::Memory;
 use std::alloc::Global;
@@ -16,6 +17,13 @@ use std::alloc::Global;
 const PARSE_ERROR: i64 = -32700;
 
 const METHOD_NOT_FOUND: i64 = -32601;
+
+const INVALID_PARAMS: i64 = -32602;
+
+/// The protocol's code of a request that is well formed and comes to nothing.
+const REQUEST_FAILED: i64 = -32803;
+
+const NOTHING_FOUND: &str = "no proof was found: `milkhour find` says why";
 
 /// How far the session is.
 #[derive(Clone, Copy, Debug, PartialEq, Eq)]
@@ -29,51 +37,29 @@ pub enum Stage {
     BrokenOff,
 }
 
+/// A request that waits for a search.
+#[derive(Drop)]
+pub struct Search {
+    id: Value,
+    pub program: Source,
+    pub proof: Source,
+}
+
 /// A session with an editor.
 #[derive(Drop)]
 pub struct Server {
     documents: Documents,
+    verdicts: Verdicts,
+    search: Option<Search>,
     stage: Stage,
-}
-
-fn publish(
-    alloc: Global,
-    out: &mut Vec<u8>,
-    uri: &str,
-    diagnostics: Vec<Diagnostic>,
-) -> Result<(), Memory> {
-    let params = Published {
-        uri: String::from_str(alloc, uri)?,
-        diagnostics,
-    };
-    notify(alloc, out, "textDocument/publishDiagnostics", params)
-}
-
-/// Tells all of a pair of texts. Where both stand in one file, it is told of this file at once.
-fn publish_pair(
-    alloc: Global,
-    out: &mut Vec<u8>,
-    pair: &Pair,
-    conditions: bool,
-) -> Result<(), Memory> {
-    let mut told = tell(alloc, pair, conditions)?;
-    match &pair.proof {
-        Some(proof) if proof.uri.as_str() != pair.program.uri.as_str() => {
-            publish(alloc, out, proof.uri.as_str(), told.proof)?;
-        }
-        _ => {
-            for diagnostic in told.proof {
-                told.program.push(diagnostic)?;
-            }
-        }
-    }
-    publish(alloc, out, pair.program.uri.as_str(), told.program)
 }
 
 impl Server {
     pub fn new(alloc: Global) -> Server {
         Server {
             documents: Documents::new(alloc),
+            verdicts: Verdicts::new(alloc),
+            search: None,
             stage: Stage::Running,
         }
     }
@@ -95,18 +81,27 @@ impl Server {
         };
     }
 
-    /// What is told of the texts to which a file belongs.
+    /// Tells what there is to tell of the texts to which a file belongs. Behind it the verdicts are those of these texts, if their
+    /// conditions are asked for.
     fn tell<D: Disk>(
-        &self,
+        &mut self,
         alloc: Global,
         disk: &mut D,
         uri: &str,
         conditions: bool,
         out: &mut Vec<u8>,
     ) -> Result<(), Memory> {
-        match pair_of(alloc, &self.documents, disk, uri)? {
-            Some(pair) => publish_pair(alloc, out, &pair, conditions),
-            None => Ok(()),
+        let Some(pair) = pair_of(alloc, &self.documents, disk, uri)? else {
+            return Ok(());
+        };
+        let steps = publish_pair(alloc, out, &pair, conditions)?;
+        match (&pair.proof, steps) {
+            (Some(proof), Some(steps)) => self.verdicts.put(alloc, proof.uri.as_str(), steps),
+            (Some(proof), None) if conditions => {
+                self.verdicts.forget(proof.uri.as_str());
+                Ok(())
+            }
+            _ => Ok(()),
         }
     }
 
@@ -127,6 +122,7 @@ impl Server {
         }
         if method == Method::Close {
             self.documents.close(uri);
+            self.verdicts.forget(uri);
             return publish(alloc, out, uri, Vec::new(alloc));
         }
         let conditions = method == Method::Open || method == Method::Save;
@@ -159,10 +155,64 @@ impl Server {
         let Some(at) = position(message) else {
             return respond(alloc, out, id, Value::Null);
         };
-        if method == Method::Hover {
-            respond(alloc, out, id, hover(alloc, &pair, uri, at)?)
-        } else {
-            respond(alloc, out, id, definition(alloc, &pair, uri, at)?)
+        match method {
+            Method::Hover => {
+                let told = hover(alloc, &pair, &self.verdicts, uri, at)?;
+                respond(alloc, out, id, told)
+            }
+            Method::Actions => {
+                let offered = actions(alloc, &pair, &self.verdicts, uri, at)?;
+                respond(alloc, out, id, offered)
+            }
+            _ => respond(alloc, out, id, definition(alloc, &pair, uri, at)?),
+        }
+    }
+
+    /// Begins a search for the edit of an action.
+    fn begin_search<D: Disk>(
+        &mut self,
+        alloc: Global,
+        disk: &mut D,
+        message: &Value,
+        id: Value,
+        out: &mut Vec<u8>,
+    ) -> Result<(), Memory> {
+        let Some(uri) = action_uri(message) else {
+            return fail(alloc, out, id, INVALID_PARAMS, "no action of this server");
+        };
+        let Some(pair) = pair_of(alloc, &self.documents, disk, uri)? else {
+            return fail(alloc, out, id, REQUEST_FAILED, "the program can't be read");
+        };
+        let Pair { program, proof } = pair;
+        let Some(proof) = proof else {
+            return fail(alloc, out, id, REQUEST_FAILED, "there is no proof");
+        };
+        self.search = Some(Search { id, program, proof });
+        Ok(())
+    }
+
+    /// The search that is waited for.
+    pub fn search(&self) -> Option<&Search> {
+        self.search.as_ref()
+    }
+
+    /// Ends the search that is waited for: its request is answered with the edit that makes the found text of the proof.
+    pub fn end_search(
+        &mut self,
+        alloc: Global,
+        found: Option<&[u8]>,
+        out: &mut Vec<u8>,
+    ) -> Result<(), Memory> {
+        let Some(search) = self.search.take() else {
+            return Ok(());
+        };
+        let action = match found {
+            Some(found) => resolved(alloc, &search.proof, found)?,
+            None => None,
+        };
+        match action {
+            Some(action) => respond(alloc, out, search.id, action),
+            None => fail(alloc, out, search.id, REQUEST_FAILED, NOTHING_FOUND),
         }
     }
 
@@ -182,9 +232,12 @@ impl Server {
                 self.stage = Stage::ShutDown;
                 respond(alloc, out, id, Value::Null)
             }
-            Method::Hover | Method::Definition | Method::Completion | Method::Formatting => {
-                self.answer(alloc, disk, method, message, id, out)
-            }
+            Method::Hover
+            | Method::Definition
+            | Method::Completion
+            | Method::Formatting
+            | Method::Actions => self.answer(alloc, disk, method, message, id, out),
+            Method::Resolve => self.begin_search(alloc, disk, message, id, out),
             Method::Exit
             | Method::Open
             | Method::Change
@@ -196,7 +249,7 @@ impl Server {
 
     /// Takes a message, and appends what is sent for it.
     ///
-    /// Requests are answered in their order, each once; what isn't known is refused where it asks for an answer, and else passed over.
+    /// Requests are answered in their order, each once, but for one that waits for a search; what isn't known is refused where it asks for an answer, and else passed over.
     pub fn receive<D: Disk>(
         &mut self,
         alloc: Global,

@@ -6,14 +6,21 @@ use crate::texts::Disk;
 use st_memory::Memory;
 use std::alloc::Global;
 
-/// A session with an editor, and the bytes of a message that isn't whole.
+/// A session with an editor, and the bytes of a message that isn't whole, or that waits.
 #[derive(Drop)]
 pub struct Session {
     server: Server,
     held: Vec<u8>,
 }
 
-/// Takes the whole messages at the front of the bytes, and says how many bytes they took.
+/// The texts of a search that a client waits for.
+#[derive(Clone, Copy, Debug)]
+pub struct Wanted<'a> {
+    pub program: &'a [u8],
+    pub proof: &'a [u8],
+}
+
+/// Takes the whole messages at the front of the bytes, up to one that waits for a search, and says how many bytes they took.
 fn take_messages<D: Disk>(
     alloc: Global,
     server: &mut Server,
@@ -24,6 +31,9 @@ fn take_messages<D: Disk>(
     let mut taken = 0usize;
     // No message has fewer bytes than one.
     for _ in 0..bytes.len() {
+        if server.search().is_some() {
+            break;
+        }
         match next_frame(bytes.split_at(taken.min(bytes.len())).1) {
             Frame::Whole {
                 content,
@@ -52,6 +62,25 @@ impl Session {
 
     pub fn stage(&self) -> Stage {
         self.server.stage()
+    }
+
+    /// The search that a client waits for. No message behind its own is taken before it has ended.
+    pub fn wanted(&self) -> Option<Wanted<'_>> {
+        let search = self.server.search()?;
+        Some(Wanted {
+            program: search.program.text.as_slice(),
+            proof: search.proof.text.as_slice(),
+        })
+    }
+
+    /// Ends the search that a client waits for, with the text of a proof or without: appends what is sent to it.
+    pub fn give(
+        &mut self,
+        alloc: Global,
+        found: Option<&[u8]>,
+        out: &mut Vec<u8>,
+    ) -> Result<(), Memory> {
+        self.server.end_search(alloc, found, out)
     }
 
     /// Takes bytes of the client, and appends what is sent to it.

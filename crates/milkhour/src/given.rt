@@ -10,7 +10,7 @@ use std::io;
 use std::rt::{Files, Runtime};
 
 /// The name that stands for standard input.
-const INPUT: &str = "-";
+pub const INPUT: &str = "-";
 
 /// One byte more than a program, a proof or a schedule may have, so that a longer one is seen to be longer.
 const MOST_OF_TEXT: u64 = (1 << 22) + 1;
@@ -124,7 +124,8 @@ fn most_of_third(task: Task) -> u64 {
     }
 }
 
-fn refusal(alloc: Global, text: &str) -> Trouble {
+/// What the words ask for can't be done.
+pub fn refusal(alloc: Global, text: &str) -> Trouble {
     match String::from_str(alloc, text) {
         Ok(text) => Trouble::Words(text),
         Err(_) => Trouble::Memory,

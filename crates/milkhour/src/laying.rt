@@ -7,7 +7,6 @@ use crate::trouble::Trouble;
 use milkhour_run::Status;
 use milkhour_words::Layout;
 use source_lines::Lines;
-use std::alloc::Global;
 use std::rt::Runtime;
 use text_layouts::{LayoutFault, TokenFault, laid_out};
 
@@ -44,12 +43,6 @@ fn tell_fault<R: Runtime + AllocGlobal>(
     Ok(Status::ProgramRefused.number())
 }
 
-fn changed(alloc: Global, name: &str) -> Result<Trouble, Trouble> {
-    Ok(Trouble::Words(format!(in alloc;
-        "{name} would be read as another text if it were laid out, so it isn't"
-    )?))
-}
-
 /// Writes what was laid out; or, where it is only to be seen, says by the status whether it is as the text was.
 fn give<R: Runtime + AllocGlobal>(
     rt: &R,
@@ -74,7 +67,6 @@ pub fn lay_out<R: Runtime + AllocGlobal>(rt: &R, layout: &Layout<'_>) -> Result<
     match laid_out(rt.alloc(), bytes) {
         Ok(laid) => give(rt, layout, bytes, laid.as_slice()),
         Err(LayoutFault::Token(fault)) => tell_fault(rt, &text, bytes, fault),
-        Err(LayoutFault::Changed) => Err(changed(rt.alloc(), layout.file)?),
         Err(LayoutFault::Memory) => Err(Trouble::Memory),
     }
 }

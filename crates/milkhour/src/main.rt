@@ -8,9 +8,11 @@ mod finding;
 mod given;
 mod laying;
 mod listing;
+mod listing_moves;
 mod reports;
 mod serving;
 mod stepping;
+mod stepping_through;
 mod streams;
 mod trouble;
 mod working;
@@ -43,6 +45,7 @@ fn run<R: Runtime + AllocGlobal + Threads + Sync>(rt: &R, streams: Streams) -> R
 
 fn main(rt: HostRuntime) -> ExitCode {
     let streams = Streams {
+        is_input_terminal: rt.stdin().is_terminal(),
         is_output_terminal: rt.stdout().is_terminal(),
         is_error_terminal: rt.stderr().is_terminal(),
     };

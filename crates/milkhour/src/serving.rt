@@ -1,5 +1,6 @@
 //! `lsp`: a language server over standard input and output.
 
+use crate::finding::found_proof;
 use crate::trouble::Trouble;
 use host_outside::file_text;
 use language_server::{Disk, Session, Stage};
@@ -8,6 +9,7 @@ use percent_encoding::percent_decode_str;
 use st_memory::Memory;
 use std::io::{self, Read, Write};
 use std::rt::Runtime;
+use std::thread::Threads;
 
 /// The most bytes of a file that are looked at.
 const MOST_OF_FILE: u64 = (1 << 22) + 1;
@@ -43,8 +45,27 @@ fn is_over(stage: Stage) -> bool {
     matches!(stage, Stage::Ended | Stage::BrokenOff)
 }
 
+/// Makes the searches that the client waits for, and goes on with what came behind each.
+fn make_searches<R: Runtime + AllocGlobal + Threads + Sync>(
+    rt: &R,
+    session: &mut Session,
+    disk: &mut HostDisk<'_, R>,
+    out: &mut Vec<u8>,
+) -> Result<(), Memory> {
+    let alloc = rt.alloc();
+    for _ in 0..u64::MAX {
+        let found = match session.wanted() {
+            Some(wanted) => found_proof(rt, alloc, wanted.program, wanted.proof)?,
+            None => break,
+        };
+        session.give(alloc, found.as_deref(), out)?;
+        session.feed(alloc, disk, b"", out)?;
+    }
+    Ok(())
+}
+
 /// Serves an editor until it ends.
-pub fn serve<R: Runtime + AllocGlobal>(rt: &R) -> Result<u8, Trouble> {
+pub fn serve<R: Runtime + AllocGlobal + Threads + Sync>(rt: &R) -> Result<u8, Trouble> {
     let alloc = rt.alloc();
     let mut session = Session::new(alloc);
     let mut disk = HostDisk { rt };
@@ -61,6 +82,7 @@ pub fn serve<R: Runtime + AllocGlobal>(rt: &R) -> Result<u8, Trouble> {
         }
         let mut out = Vec::new(alloc);
         session.feed(alloc, &mut disk, bytes, &mut out)?;
+        make_searches(rt, &mut session, &mut disk, &mut out)?;
         if let Err(error) = io::writer(rt).write_all(out.as_slice()) {
             return Err(Trouble::Writing(error));
         }

@@ -14,6 +14,7 @@ use std::rt::{Env, Files};
 /// What is known of the streams when the run begins: which of them are terminals.
 #[derive(Clone, Copy)]
 pub struct Streams {
+    pub is_input_terminal: bool,
     pub is_output_terminal: bool,
     pub is_error_terminal: bool,
 }
@@ -25,6 +26,13 @@ pub enum Target<'a> {
     Result(Option<&'a str>),
     /// Standard error.
     Remark,
+}
+
+impl Streams {
+    /// Whether somebody types and sees what is answered.
+    pub fn are_interactive(self) -> bool {
+        self.is_input_terminal && self.is_output_terminal
+    }
 }
 
 impl Target<'_> {

@@ -5,6 +5,7 @@ use crate::drawing::draw;
 use crate::finding::find;
 use crate::given::{Given, read_files};
 use crate::listing::list_conditions;
+use crate::listing_moves::{asks_for_moves, trace_moves};
 use crate::streams::Streams;
 use crate::trouble::Trouble;
 use milkhour_run::Question;
@@ -66,6 +67,9 @@ pub fn work<R: Runtime + AllocGlobal + Threads + Sync>(
     streams: Streams,
     work: &Work<'_>,
 ) -> Result<u8, Trouble> {
+    if asks_for_moves(work) {
+        return trace_moves(rt, streams, work);
+    }
     let given = read_files(rt, work.task, &work.files)?;
     if lacks_proof(work.task, &given) {
         return Err(no_proof(rt.alloc(), given.program.name)?);

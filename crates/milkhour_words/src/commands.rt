@@ -1,8 +1,8 @@
 //! The commands. Help is made of this table, and so can be completions and a man page.
 
 use crate::options::{
-    BUDGET, CHECK, COLOUR, DRAWING, FIRST, FORMAT, FOUND_FORMAT, LIMIT, ONLY, OUTPUT, OptionRow,
-    SMT, WORKERS,
+    BUDGET, CHECK, COLOUR, DRAWING, FIRST, FORMAT, FOUND_FORMAT, FROM, LIMIT, ONLY, OUTPUT,
+    OptionRow, SMT, STEP, WORKERS,
 };
 
 /// The version of the program. The changelog has its date.
@@ -51,10 +51,10 @@ const CERTIFIED: FileRow = FileRow {
 };
 
 const SCHEDULED: FileRow = FileRow {
-    least: 2,
+    least: 1,
     most: 3,
-    usage: "PROGRAM [PROOF] SCHEDULE",
-    help: "A program, a proof of it and a schedule; or one file with program and proof, parted by a line `proof`, and the schedule; - is standard input",
+    usage: "PROGRAM [PROOF] [SCHEDULE]",
+    help: "A program, a proof of it and a schedule; or one file with program and proof, parted by a line `proof`, and the schedule; with --from or --step a program alone; - is standard input",
 };
 
 const TEXT: FileRow = FileRow {
@@ -112,11 +112,11 @@ pub static COMMANDS: [CommandRow; 12] = [
     },
     CommandRow {
         name: "trace",
-        about: "Play one run of a program, and judge each goal on it",
+        about: "Play one run of a program, and judge each goal on it; or show which moves may be taken",
         files: SCHEDULED,
-        options: &[FORMAT, COLOUR, OUTPUT, WORKERS],
-        usage: "milkhour trace [OPTIONS] PROGRAM [PROOF] SCHEDULE",
-        example: "Example:\n  milkhour trace peterson.spl peterson.proof peterson.run",
+        options: &[FROM, STEP, FORMAT, COLOUR, OUTPUT, WORKERS],
+        usage: "milkhour trace [OPTIONS] PROGRAM [PROOF] SCHEDULE\n       milkhour trace [OPTIONS] PROGRAM [--from SCHEDULE] [--step]",
+        example: "Examples:\n  milkhour trace peterson.spl peterson.proof peterson.run\n  milkhour trace peterson.spl --from 'y1 = false; y2 = false; s = 1; :: l0; l1;'\n  milkhour trace peterson.spl --step -o peterson.run",
     },
     CommandRow {
         name: "invariants",
@@ -132,7 +132,7 @@ pub static COMMANDS: [CommandRow; 12] = [
         files: SOURCE,
         options: &[BUDGET, FOUND_FORMAT, COLOUR, OUTPUT, WORKERS],
         usage: "milkhour find [OPTIONS] PROGRAM [PROOF]",
-        example: "Example:\n  milkhour find peterson.spl claims.proof -o peterson.proof",
+        example: "An invariance is claimed by `invariant NAME: p;`, a response by `response NAME: p leads q by find;`.\n\nExample:\n  milkhour find peterson.spl claims.proof -o peterson.proof",
     },
     CommandRow {
         name: "conditions",

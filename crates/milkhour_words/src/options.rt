@@ -106,3 +106,17 @@ pub const BUDGET: OptionRow = OptionRow {
     value: OptionValue::Number(1, 4294967295, "200000"),
     help: "Give up after N questions to the prover",
 };
+
+pub const FROM: OptionRow = OptionRow {
+    long: "from",
+    short: None,
+    value: OptionValue::Word("SCHEDULE"),
+    help: "Show the moves that may be taken from the state to which a schedule leads; PROGRAM is the only file",
+};
+
+pub const STEP: OptionRow = OptionRow {
+    long: "step",
+    short: None,
+    value: OptionValue::Flag,
+    help: "Take move after move, as lines of standard input say; so it is without a schedule where both ends are a terminal",
+};

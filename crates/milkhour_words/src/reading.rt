@@ -45,6 +45,8 @@ fn options_of<'a>(matches: &ArgMatches<'a>) -> Options<'a> {
         budget: number(matches, "budget", 200_000) as u64,
         only: matches.get_str("only"),
         smt: matches.get_flag("smt"),
+        from: matches.get_str("from"),
+        step: matches.get_flag("step"),
         output: matches.get_str("output"),
     }
 }
@@ -74,7 +76,7 @@ fn file_names<'a>(
     drawing: Option<&'a str>,
 ) -> Option<FileNames<'a>> {
     match (names, has_third(task)) {
-        ([program], false) => Some(FileNames {
+        ([program], _) if task != Task::Check => Some(FileNames {
             program,
             proof: None,
             third: None,

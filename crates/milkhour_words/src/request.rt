@@ -37,7 +37,7 @@ pub enum Task {
 pub struct FileNames<'a> {
     pub program: &'a str,
     pub proof: Option<&'a str>,
-    /// The certificates, or the schedule.
+    /// The certificates, or the schedule; a run is also asked for without one.
     pub third: Option<&'a str>,
     /// What a page shows beside the texts.
     pub drawing: Option<&'a str>,
@@ -57,6 +57,10 @@ pub struct Options<'a> {
     pub only: Option<&'a str>,
     /// Whether conditions are written as SMT-LIB 2.
     pub smt: bool,
+    /// The schedule that leads to a state whose moves are shown.
+    pub from: Option<&'a str>,
+    /// Whether moves are taken as standard input says.
+    pub step: bool,
     /// The file that the result goes to, in place of standard output.
     pub output: Option<&'a str>,
 }

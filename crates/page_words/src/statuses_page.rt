@@ -68,7 +68,27 @@ The first condition that isn't discharged is named, by its number and name, what
 
 ## How to read an open condition
 
-[examples/semaphore/broken](../../examples/semaphore/broken/proof) has a response without compassion. `step verify program proof` prints
+The broken twin of `examples/semaphore` has a response without compassion. `milkhour verify program proof` shows the condition that is open as a step between two states:
+
+    open: `m2` leads from item 3 of `enter` where the rule doesn't allow it                       1 of 1
+      --> proof:10:3
+         |
+      10 |   at l2 /\ y >= 1 helper l2 ] using mutex;
+         |   ^^^^^^^^^^^^^^^ the step begins in a state of this item
+      ::: program:3:51
+         |
+       3 | || P2 :: [ m0: loop forever do [ m1: noncritical; m2: request y; m3: critical; m4: release y ] ]
+         |                                                   ^^^^^^^^^^^^^ by this statement
+         |
+                  before  behind
+           P1     l2      l2
+           P2     m2      m3   <-
+           y      1       0   <-
+         = step enter: statement `m2: request y` of P2 must lead from item 3 to the goal, to a lower item, or stay
+
+**The table** has a row for each process, with the label at which it stands, and one for each variable. `before` is the state in which the step begins, where all that is given holds; `behind` is where it leads, and `<-` stands where the step changes something. `any` is what the condition doesn't speak of: it is false whatever stands there. The marks in the texts say what the state is to them: `false behind the step` is a claim that the step breaks. A condition without a step, as that the claim holds at the start, has one column, and `false in this state` stands at what fails. Lines with `=` say what was wanted, and end with the number and the name of the condition.
+
+`step verify program proof` says the same in fewer words:
 
     not proved: condition 58, enter move 3 m2 1, open
     path: case 1 3, case 2 3
@@ -82,7 +102,7 @@ The first condition that isn't discharged is named, by its number and name, what
 
 Nobody says that the state can be reached. Ask that first.
 
-- **It can.** Then the claim is false of the program, or the rule doesn't fit: a bound too small ([barrier](../../examples/barrier/broken/stdout): `met cover` at the start of the wait), a rank that doesn't fall ([euclid](../../examples/euclid/broken/stdout)), a step that isn't atomic ([peterson](../../examples/peterson/broken/stdout)), a transition that fairness doesn't favour, as above. [philosophers](../../examples/philosophers/broken/stdout) shows a deadlock: each at its second fork, all forks taken.
+- **It can.** Then the claim is false of the program, or the rule doesn't fit: a bound too small (`examples/barrier/broken`: `met cover` at the start of the wait), a rank that doesn't fall (`examples/euclid/broken`), a step that isn't atomic (`examples/peterson/broken`), a transition that fairness doesn't favour, as above. `examples/philosophers/broken` shows a deadlock: each at its second fork, all forks taken.
 - **It can't.** Then what is given is too weak: prove an invariant that excludes the state and cite it by `using`, or add it behind `by`. A location written `@n` that the proof didn't think of, or a variable with a value that it never has, are the usual signs.
 
 Variables and components that the condition doesn't speak of have arbitrary values: 0, false, the first alternative. So a value that looks impossible may be one that nobody asked for.

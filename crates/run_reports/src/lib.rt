@@ -4,8 +4,11 @@
 
 mod goals;
 mod positions;
+mod reading;
 mod reporting;
 mod standing;
 
+pub use positions::Ground;
 pub use proof_reports::RunReport;
+pub use reading::{LONGEST, playable_schedule, raw_program, translated_program};
 pub use reporting::{RunTexts, report_run};

@@ -16,9 +16,9 @@ use st_program::State;
 use std::alloc::Global;
 use trace_player::{Played, control};
 
-/// A program's text with what is known of it.
+/// A program's text with what is known of it: how its states are told, and where its statements stand.
 #[derive(Clone, Copy)]
-pub(crate) struct Ground<'a> {
+pub struct Ground<'a> {
     pub name: &'a str,
     pub text: &'a [u8],
     pub lines: &'a Lines<'a>,
@@ -48,8 +48,13 @@ impl Ground<'_> {
         }
     }
 
-    /// The cells of a state: components first, then variables.
-    fn cells(&self, alloc: Global, state: &State, before: &[Cell]) -> Result<Vec<Cell>, Memory> {
+    /// The cells of a state: components first, then variables. A cell is marked as changed where it differs from the one before.
+    pub fn cells(
+        &self,
+        alloc: Global,
+        state: &State,
+        before: &[Cell],
+    ) -> Result<Vec<Cell>, Memory> {
         let fronts = control(alloc, &self.source.program, state)?;
         let standing = standing(alloc, &self.source.components, &fronts)?;
         let mut out = Vec::new(alloc);
@@ -69,7 +74,7 @@ impl Ground<'_> {
     }
 
     /// The statement that a move is of.
-    fn statement(&self, alloc: Global, name: TransName) -> Result<Option<Spot>, Memory> {
+    pub fn statement(&self, alloc: Global, name: TransName) -> Result<Option<Spot>, Memory> {
         let TransName::Step { occ, part: _ } = name else {
             return Ok(None);
         };

@@ -6,15 +6,14 @@ ghost use Rattle.run_reports.specs.Playable.{IsPlayable, IsShort};
 
 use crate::goals::goal_report;
 use crate::positions::Ground;
-use posed_conditions::{PosingFault, TranslatedProgram, translate_text};
+use crate::reading::{LONGEST, playable_schedule, raw_program, translated_program};
+use posed_conditions::TranslatedProgram;
 use program_words::vocabulary;
 use proof_reports::{GoalReport, RunReport};
 use proof_script::{ScriptFault, read_script};
-use schedule_reader::laws::schedules_obey;
-use schedule_reader::{Schedule, ScheduleFault, read_schedule};
+use schedule_reader::Schedule;
 use source_lines::Lines;
 use source_places::{StepPlaces, statement_places, step_places};
-use spl_parser::{ParseFault, RawProgram, parse_program};
 use st_memory::Memory;
 use std::alloc::Global;
 use temporal_goals::{Script, Step};
@@ -31,24 +30,6 @@ pub struct RunTexts<'a> {
     pub proof_name: &'a str,
     pub proof: &'a [u8],
     pub schedule: &'a [u8],
-}
-
-fn translated(alloc: Global, text: &[u8]) -> Result<Option<TranslatedProgram>, Memory>
-    ensures { IfOk result (λ o. IfSome o IsTranslated) }
-{
-    match translate_text(alloc, text) {
-        Ok(source) => Ok(Some(source)),
-        Err(PosingFault::Memory) => Err(Memory),
-        Err(_) => Ok(None),
-    }
-}
-
-fn raw_program<'a>(alloc: Global, text: &'a [u8]) -> Result<Option<RawProgram<'a>>, Memory> {
-    match parse_program(alloc, text) {
-        Ok(raw) => Ok(Some(raw)),
-        Err(ParseFault::Memory) => Err(Memory),
-        Err(_) => Ok(None),
-    }
 }
 
 /// What each goal comes to on a run.
@@ -102,24 +83,6 @@ fn report(
         positions: ground.positions(alloc, played, &counts)?,
         goals: goals(alloc, ground, played, &script.steps, &lines)?,
     })
-}
-
-/// The schedule that a text spells; `None` where it is refused. It is one that can be played.
-fn schedule(
-    alloc: Global,
-    text: &[u8],
-    source: &TranslatedProgram,
-) -> Result<Option<Schedule>, Memory>
-    requires short { length text.now < 2 ^ 32 }
-    requires translated { IsTranslated source.now }
-    ensures { IfOk result (λ o. IfSome o (IsPlayable source.now)) }
-{
-    schedules_obey();
-    match read_schedule(alloc, text, &source.program, &source.names) {
-        Ok(schedule) => Ok(Some(schedule)),
-        Err(ScheduleFault::Memory) => Err(Memory),
-        Err(_) => Ok(None),
-    }
 }
 
 fn script(alloc: Global, text: &[u8], source: &TranslatedProgram) -> Result<Option<Script>, Memory>
@@ -188,7 +151,7 @@ fn judged(
     requires translated { IsTranslated source.now }
     requires short { length texts.now.schedule.now < 2 ^ 32 }
 {
-    let Some(schedule) = schedule(alloc, texts.schedule, source)? else {
+    let Some(schedule) = playable_schedule(alloc, texts.schedule, source)? else {
         return Ok(None);
     };
     match run(alloc, source, &schedule)? {
@@ -197,16 +160,13 @@ fn judged(
     }
 }
 
-/// The longest text that is read, in bytes.
-const LONGEST: usize = 4_194_304;
-
 /// What is told of the run that a schedule gives, and of the goals of a proof on it; `None` where a text is refused, or the run
 /// isn't one of the program.
 pub fn report_run(alloc: Global, texts: &RunTexts<'_>) -> Result<Option<RunReport>, Memory> {
     if LONGEST < texts.proof.len() || LONGEST < texts.schedule.len() {
         return Ok(None);
     }
-    let Some(source) = translated(alloc, texts.program)? else {
+    let Some(source) = translated_program(alloc, texts.program)? else {
         return Ok(None);
     };
     match script(alloc, texts.proof, &source)? {

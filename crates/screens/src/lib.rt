@@ -4,6 +4,7 @@
 mod equations;
 mod failures;
 mod faults;
+mod moves;
 mod proofs;
 mod runs;
 mod screen;
@@ -12,6 +13,7 @@ mod states;
 
 pub use equations::equations_screen;
 pub use faults::faults_screen;
+pub use moves::moves_screen;
 pub use proofs::proof_screen;
 pub use runs::run_screen;
 pub use screen::{Style, shown};

@@ -43,6 +43,11 @@ fn name_columns(steps: &[StepReport]) -> (usize, usize) {
     (kinds, names)
 }
 
+/// Whether a step fails that says nothing of how it is shown: an invariance by itself, which cites nothing.
+fn is_left_open(step: &StepReport) -> bool {
+    0 < step.failing && step.rule.as_str() == "itself" && step.using.is_empty()
+}
+
 impl Screen {
     fn verdict(&mut self, step: &StepReport) -> Result<(), Memory> {
         let alloc = self.alloc;
@@ -125,7 +130,14 @@ impl Screen {
         self.text(
             "  an invariant that excludes it, and cite it by `using`: `milkhour explain open`",
         )?;
-        self.end()
+        self.end()?;
+        if report.steps.iter().any(is_left_open) {
+            self.text(
+                "  Or try `milkhour find`, which looks for such invariants, or for a run on which the claim fails",
+            )?;
+            self.end()?;
+        }
+        Ok(())
     }
 
     fn failures(&mut self, report: &Report) -> Result<(), Memory> {

@@ -5,19 +5,15 @@ ghost use Rattle.std.specs.String.{string_bytes};
 ghost use Rattle.screens.specs.Tame.{IsScreen};
 
 use crate::screen::{Ink, Screen, Style, columns};
-use proof_reports::{Cell, GoalReport, Position, RunReport};
+use proof_reports::{Cell, GoalReport, Position, RunReport, Spot};
 use st_memory::Memory;
 use std::alloc::Global;
 
-/// How many columns a cell of a run takes.
-fn cell_columns(positions: &[Position], place: usize) -> usize {
-    let mut most: usize = 0;
-    for position in positions {
-        if let Some(cell) = position.state.get(place) {
-            most = most.max(columns(&cell.name)).max(columns(&cell.value));
-        }
+/// Makes columns as wide as the cells of a state.
+pub(crate) fn widen(widths: &mut [usize], cells: &[Cell]) {
+    for (width, cell) in widths.iter_mut().zip(cells.iter()) {
+        *width = (*width).max(columns(&cell.name)).max(columns(&cell.value));
     }
-    most
 }
 
 /// How many columns the moves take.
@@ -35,9 +31,10 @@ fn move_columns(positions: &[Position]) -> usize {
 fn widths(alloc: Global, positions: &[Position]) -> Result<Vec<usize>, Memory> {
     let mut out = Vec::new(alloc);
     if let Some(first) = positions.first() {
-        for place in 0..first.state.len() {
-            out.push(cell_columns(positions, place))?;
-        }
+        out.resize(first.state.len(), 0)?;
+    }
+    for position in positions {
+        widen(&mut out, &position.state);
     }
     Ok(out)
 }
@@ -69,7 +66,12 @@ impl Screen {
     }
 
     /// A value; a dot where the move before didn't change it.
-    fn run_cell(&mut self, cell: &Cell, width: usize, first: bool) -> Result<(), Memory> {
+    pub(crate) fn run_cell(
+        &mut self,
+        cell: &Cell,
+        width: usize,
+        first: bool,
+    ) -> Result<(), Memory> {
         let text: &str = if cell.changed || first {
             &cell.value
         } else {
@@ -84,17 +86,29 @@ impl Screen {
         self.blanks(width.saturating_sub(columns(text)).saturating_add(2))
     }
 
-    fn taken(&mut self, position: &Position, moves: usize) -> Result<(), Memory> {
+    /// A move, and behind it its statement's first line.
+    pub(crate) fn move_line(
+        &mut self,
+        name: &str,
+        spot: &Option<Spot>,
+        width: usize,
+    ) -> Result<(), Memory> {
         let alloc = self.alloc;
-        match (&position.taken, &position.spot) {
-            (Some(taken), Some(spot)) => {
-                self.cell(taken, moves)?;
+        match spot {
+            Some(spot) => {
+                self.cell(name, width)?;
                 let line = format!(in alloc; "{}: ", spot.line)?;
                 self.text(&line)?;
                 self.text(spot.text.lines().next().unwrap_or(""))
             }
-            (Some(taken), None) => self.text(taken),
-            (None, _) => self.text("the end"),
+            None => self.text(name),
+        }
+    }
+
+    fn taken(&mut self, position: &Position, moves: usize) -> Result<(), Memory> {
+        match &position.taken {
+            Some(taken) => self.move_line(taken, &position.spot, moves),
+            None => self.text("the end"),
         }
     }
 

@@ -1,0 +1,5 @@
+pub mod Rising
+pub mod Storing
+pub mod Passing
+pub mod Moved
+pub mod Enabled

@@ -1,1 +1,5 @@
 pub mod Pictures
+pub mod Enabling
+pub mod Behind
+pub mod Places
+pub mod Moving

@@ -13,7 +13,6 @@ use st_form::{Form, Lin};
 use st_memory::Memory;
 use st_program::Datum;
 use std::alloc::Global;
-use transition_system::{Mode, Transition};
 
 /// What each active component is at, by rising number, at which locations control is therefore, and the value of each variable.
 #[derive(Drop)]
@@ -69,30 +68,5 @@ impl Picture {
             Ok(value) => Some(value),
             Err(_) => None,
         }
-    }
-
-    /// Whether control is at each of these locations.
-    fn is_at_all(&self, locations: &[u32]) -> bool {
-        for location in locations {
-            if !self.fronts.contains(location) {
-                return false;
-            }
-        }
-        true
-    }
-
-    /// Whether a mode can be taken in the state. Where a number is too large to tell, it isn't said to be.
-    pub fn can_go(&self, mode: &Mode) -> bool {
-        self.is_at_all(&mode.at) && self.holds(&mode.guard) == Some(true)
-    }
-
-    /// Whether some mode of a transition can be taken in the state.
-    pub fn is_enabled(&self, transition: &Transition) -> bool {
-        for mode in &transition.modes {
-            if self.can_go(mode) {
-                return true;
-            }
-        }
-        false
     }
 }

@@ -1,1 +1,4 @@
-pub mod Onward
+pub mod Fronts
+pub mod Reading
+pub mod Layouts
+pub mod Apart

@@ -22,22 +22,24 @@ pub struct Brackets {
     open: Vec<Bracket>,
 }
 
-pub fn opens(piece: &Piece<'_>) -> bool {
-    piece.is(b"[")
-        || piece.is(b"(")
-        || piece.is(b"{")
-        || piece.is(b"<<")
-        || piece.is(b"if")
-        || piece.is(b"cobegin")
+/// Whether the token, by its bytes, opens a bracket, or begins what a word closes.
+pub fn opens(token: &[u8]) -> bool {
+    token == b"[".as_slice()
+        || token == b"(".as_slice()
+        || token == b"{".as_slice()
+        || token == b"<<".as_slice()
+        || token == b"if".as_slice()
+        || token == b"cobegin".as_slice()
 }
 
-pub fn closes(piece: &Piece<'_>) -> bool {
-    piece.is(b"]")
-        || piece.is(b")")
-        || piece.is(b"}")
-        || piece.is(b">>")
-        || piece.is(b"fi")
-        || piece.is(b"coend")
+/// Whether the token, by its bytes, closes what one that [`opens`] has opened.
+pub fn closes(token: &[u8]) -> bool {
+    token == b"]".as_slice()
+        || token == b")".as_slice()
+        || token == b"}".as_slice()
+        || token == b">>".as_slice()
+        || token == b"fi".as_slice()
+        || token == b"coend".as_slice()
 }
 
 impl Brackets {
@@ -66,10 +68,10 @@ impl Brackets {
 
     /// Goes past a piece of a line.
     pub fn pass(&mut self, piece: &Piece<'_>, line: usize) -> Result<(), Memory> {
-        if opens(piece) {
+        if opens(piece.text) {
             let level = self.level_inside(line);
             self.open.push(Bracket { line, level })?;
-        } else if closes(piece) {
+        } else if closes(piece.text) {
             let _ = self.open.pop();
         }
         Ok(())

@@ -2,7 +2,8 @@
 #![tactic(auto)]
 
 mod brackets;
-mod checking;
+mod fault;
+mod kind;
 mod line;
 mod lines;
 mod paragraphs;
@@ -10,6 +11,9 @@ mod piece;
 mod scanning;
 mod spacing;
 mod text;
+mod writing;
 
+pub use brackets::{closes, opens};
+pub use fault::LayoutFault;
 pub use st_tokens::TokenFault;
-pub use text::{LayoutFault, laid_out};
+pub use text::laid_out;

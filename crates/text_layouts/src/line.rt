@@ -1,9 +1,7 @@
-//! One line: how deep it stands, and its bytes.
+//! How deep a line stands.
 
 use crate::brackets::{Brackets, closes};
 use crate::piece::Piece;
-use crate::spacing::is_spaced;
-use st_memory::Memory;
 
 /// The word that parts a program from its proof where both stand in one text.
 fn parts(piece: &Piece<'_>) -> bool {
@@ -27,7 +25,7 @@ fn ends_part(piece: &Piece<'_>) -> bool {
 
 /// Whether a piece at the front of a line begins a part of what is around it.
 fn begins_part(piece: &Piece<'_>) -> bool {
-    parts(piece) || closes(piece) || piece.is(b"||") || piece.is(b"or") || piece.is(b"else")
+    parts(piece) || closes(piece.text) || piece.is(b"||") || piece.is(b"or") || piece.is(b"else")
 }
 
 /// Whether a line goes on with what the piece before it belongs to.
@@ -41,7 +39,7 @@ fn goes_on(before: Option<&Piece<'_>>, first: &Piece<'_>) -> bool {
 /// How many spaces a line begins with, whose first token is `first` and before which the token `before` stands.
 pub fn indentation(brackets: &Brackets, before: Option<&Piece<'_>>, first: &Piece<'_>) -> usize {
     let level = brackets.level();
-    let level = if closes(first) || first.is(b"else") {
+    let level = if closes(first.text) || first.is(b"else") {
         level.saturating_sub(1)
     } else if goes_on(before, first) {
         level.saturating_add(1)
@@ -49,29 +47,4 @@ pub fn indentation(brackets: &Brackets, before: Option<&Piece<'_>>, first: &Piec
         level
     };
     level.saturating_mul(2)
-}
-
-/// Appends the pieces of a line behind as many spaces.
-pub fn push_line(
-    out: &mut Vec<u8>,
-    indentation: usize,
-    pieces: &[Piece<'_>],
-) -> Result<(), Memory> {
-    for _ in 0..indentation {
-        out.push(b' ')?;
-    }
-    let mut before: Option<&Piece<'_>> = None;
-    let mut last: Option<&Piece<'_>> = None;
-    for piece in pieces {
-        if let Some(last) = last
-            && is_spaced(before, last, piece)
-        {
-            out.push(b' ')?;
-        }
-        out.extend_from_slice(piece.text)?;
-        before = last;
-        last = Some(piece);
-    }
-    out.push(b'\n')?;
-    Ok(())
 }

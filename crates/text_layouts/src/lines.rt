@@ -22,7 +22,7 @@ fn is_rule_word(piece: &Piece<'_>) -> bool {
 
 /// How a line may be broken between two pieces: the less, the rather. `None`: it may not.
 fn strength(piece: &Piece<'_>, next: &Piece<'_>) -> Option<usize> {
-    if closes(next) || next.is_comment() {
+    if closes(next.text) || next.is_comment() {
         None
     } else if piece.is(b";") || next.is(b"||") || next.is(b"or") {
         Some(0)
@@ -41,9 +41,9 @@ fn strength(piece: &Piece<'_>, next: &Piece<'_>) -> Option<usize> {
 
 /// How deep what follows a piece is, where the piece is so deep.
 fn depth_behind(depth: usize, piece: &Piece<'_>) -> usize {
-    if opens(piece) {
+    if opens(piece.text) {
         depth.saturating_add(1)
-    } else if closes(piece) {
+    } else if closes(piece.text) {
         depth.saturating_sub(1)
     } else {
         depth

@@ -1,9 +1,13 @@
 //! The lines of a text: each line that stood there, broken where it is too long.
 
+ghost use Rattle.std.specs.Prelude.{◌≤◌, ◌<◌, length, take, IfOk, MatchResult, OnOk, None};
+ghost use Rattle.text_layouts.specs.Written.{Writes};
+
 use crate::brackets::Brackets;
-use crate::line::{indentation, push_line};
+use crate::line::indentation;
 use crate::lines::pieces_of_line;
 use crate::piece::Piece;
+use crate::writing::{push_empty_line, push_line};
 use st_memory::Memory;
 use std::alloc::Global;
 
@@ -53,23 +57,28 @@ impl<'a> Behind<'a> {
     }
 
     /// How many of the pieces, of which `first` is the first, stand in one line: at least one.
-    fn count(&self, first: &Piece<'_>, pieces: &[Piece<'a>]) -> usize {
+    fn count(&self, first: &Piece<'_>, pieces: &[Piece<'a>]) -> usize
+        ensures { 0 < result }
+    {
         let stood = pieces.split_at(count_line(pieces).min(pieces.len())).0;
         pieces_of_line(self.indentation(first), stood).max(1)
     }
 
     /// Appends the first line of the pieces, and says how many of them it took.
-    fn push(&mut self, out: &mut Vec<u8>, pieces: &[Piece<'a>]) -> Result<usize, Memory> {
+    fn push(&mut self, out: &mut Vec<u8>, pieces: &[Piece<'a>]) -> Result<usize, Memory>
+        ensures some { IfOk result (λ n. 0 < length pieces.now → 0 < n) }
+        ensures within { IfOk result (λ n. n ≤ length pieces.now) }
+        ensures written { IfOk result (λ n. Writes out.old.items out.new.items (take n pieces.now) None) }
+    {
         let Some(first) = pieces.first() else {
             return Ok(0);
         };
         // One line is left empty where some were, but for the head of the text.
-        if 1 < first.lines && 0 < self.lines {
-            out.push(b'\n')?;
-        }
+        let is_parted = 1 < first.lines && 0 < self.lines;
         let line = pieces
             .split_at(self.count(first, pieces).min(pieces.len()))
             .0;
+        push_empty_line(out, is_parted)?;
         push_line(out, self.indentation(first), line)?;
         self.pass(line)?;
         Ok(line.len())
@@ -77,17 +86,18 @@ impl<'a> Behind<'a> {
 }
 
 /// Appends the lines of the pieces.
-pub fn push_lines(alloc: Global, out: &mut Vec<u8>, pieces: &[Piece<'_>]) -> Result<(), Memory> {
+pub fn push_lines(alloc: Global, out: &mut Vec<u8>, pieces: &[Piece<'_>]) -> Result<(), Memory>
+    ensures { OnOk result (Writes out.old.items out.new.items pieces.now None) }
+{
     let mut behind = Behind {
         brackets: Brackets::new(alloc),
         token: None,
         lines: 0,
     };
     let mut passed = 0usize;
-    // Each line has a piece.
-    for _ in 0..pieces.len() {
-        let rest = pieces.split_at(passed.min(pieces.len())).1;
-        passed = passed.saturating_add(behind.push(out, rest)?);
+    while passed < pieces.len() {
+        let rest = pieces.split_at(passed).1;
+        passed += behind.push(out, rest)?;
     }
     Ok(())
 }

@@ -1,81 +1,140 @@
-//! The pieces of a text: its tokens, and the comments that stand in the gaps between them.
+//! The pieces of a text: its tokens, and the comments between them.
+//!
+//! What stands at a place is told by its first byte: a blank, the `%` of a comment, or else the next token.
 
-use crate::piece::{Piece, PieceKind, kind_of};
+ghost use Rattle.std.specs.Prelude.{◌≡◌, ◌++◌, ◌≤◌, ◌<◌, ℕ, List, drop, length, true, IfOk, IfErr, OnOk};
+ghost use Rattle.std.specs.List.{prefix_len};
+ghost use Rattle.st_tokens.specs.Text.{is_blank, is_line_byte};
+ghost use Rattle.text_layouts.specs.Whole.{IsWhole};
+ghost use Rattle.text_layouts.specs.Pieces.{ArePieces, marks_of, starts_blank, starts_comment, tokens_at, tokens_of};
+ghost use Rattle.text_layouts.specs.Written.{AreBlank};
+ghost use Rattle.text_layouts.specs.Same.{marks};
+ghost use Rattle.text_layouts.specs.Refused.{IsRefused};
+
+use crate::fault::LayoutFault;
+use crate::kind::PieceKind;
+use crate::piece::Piece;
 use st_memory::Memory;
-use st_tokens::{Token, TokenFault, Tokens};
+use st_tokens::Tokens;
 use std::alloc::Global;
 
-/// Why a text has no pieces.
-pub enum ScanFault {
-    Token(TokenFault),
-    Memory,
+fn is_blank(byte: u8) -> bool
+    ensures { result ≡ is_blank byte }
+{
+    byte == b' ' || byte == b'\t' || byte == b'\r' || byte == b'\n'
 }
 
-impl From<Memory> for ScanFault {
-    fn from(_: Memory) -> ScanFault {
-        ScanFault::Memory
+fn starts_blank(text: &[u8]) -> bool
+    ensures { result ≡ starts_blank text.now }
+{
+    match text {
+        [byte, ..] => is_blank(*byte),
+        [] => false,
     }
 }
 
-/// The bytes from one place to another; none where the places aren't in order within the text.
-fn between(text: &[u8], from: usize, to: usize) -> &[u8] {
-    if from <= to && to <= text.len() {
-        text.split_at(to).0.split_at(from).1
+fn starts_comment(text: &[u8]) -> bool
+    ensures { result ≡ starts_comment text.now }
+{
+    match text {
+        [byte, ..] => *byte == b'%',
+        [] => false,
+    }
+}
+
+/// What is behind the first byte.
+fn behind_first(text: &[u8]) -> &[u8]
+    requires { 0 < length text.now }
+    ensures { result.now ≡ drop 1 text.now }
+{
+    text.split_at(1).1
+}
+
+fn line_len(bytes: &[u8]) -> usize
+    ensures is { result ≡ prefix_len is_line_byte bytes.now }
+    ensures within { result ≤ length bytes.now }
+{
+    bytes.iter().take_while(|b| **b != b'\n').count()
+}
+
+/// How many bytes a comment has that stands at the front, with the blanks at its end.
+fn comment_len(text: &[u8]) -> usize
+    requires { starts_comment text.now ≡ true }
+    ensures is { result ≡ prefix_len is_line_byte text.now }
+    ensures within { result ≤ length text.now }
+    ensures some { 0 < result }
+{
+    line_len(text)
+}
+
+/// The bytes without the blanks at their end.
+fn trimmed(bytes: &[u8]) -> &[u8]
+    ensures { (blanks : List ℕ) × (bytes.now ≡ result.now ++ blanks) × AreBlank blanks }
+{
+    let mut kept = bytes.len();
+    while 0 < kept && is_blank(bytes[kept - 1]) {
+        kept -= 1;
+    }
+    bytes.split_at(kept).0
+}
+
+/// How many lines end before a piece, two at most, once the first byte is passed.
+fn lines_behind(lines: u8, text: &[u8]) -> u8 {
+    if lines < 2 && text.starts_with(b"\n") {
+        lines + 1
     } else {
-        b""
+        lines
     }
 }
 
-/// Appends the comments of a gap, and says how many lines end behind the last of them, two at most.
-///
-/// In a gap stand blanks and comments alone, and a comment goes to the end of its line; so each line of it has a comment from
-/// its first byte on that is no blank, or none.
-fn push_gap<'a>(out: &mut Vec<Piece<'a>>, gap: &'a [u8]) -> Result<u8, Memory> {
-    let mut lines = 0u8;
-    for line in gap.split_inclusive(|byte| *byte == b'\n') {
-        let comment = line.trim_ascii();
-        if !comment.is_empty() {
-            out.push(Piece {
-                kind: PieceKind::Comment,
-                text: comment,
-                lines,
-            })?;
-            lines = 0;
-        }
-        if line.ends_with(b"\n") && lines < 2 {
-            lines += 1;
-        }
-    }
-    Ok(lines)
-}
-
-fn push_token<'a>(out: &mut Vec<Piece<'a>>, token: &Token<'a>, lines: u8) -> Result<(), Memory> {
-    out.push(Piece {
-        kind: kind_of(token.kind),
-        text: token.text,
-        lines,
-    })?;
+fn push<'a>(
+    out: &mut Vec<Piece<'a>>,
+    kind: PieceKind,
+    text: &'a [u8],
+    lines: u8,
+) -> Result<(), Memory>
+    requires { IsWhole kind text.now }
+    ensures tokens { OnOk result (tokens_of out.new.items ≡ tokens_of out.old.items ++ tokens_at kind text.now) }
+    ensures bytes { OnOk result (marks_of out.new.items ≡ marks_of out.old.items ++ marks text.now) }
+{
+    out.push(Piece { kind, text, lines })?;
     Ok(())
 }
 
-/// The pieces of a text, and the first fault of its tokens.
-pub fn pieces(alloc: Global, text: &[u8]) -> Result<Vec<Piece<'_>>, ScanFault> {
+/// The pieces of a text.
+///
+/// # Errors
+///
+/// The first fault of its tokens, or want of memory.
+pub fn pieces(alloc: Global, text: &[u8]) -> Result<Vec<Piece<'_>>, LayoutFault>
+    ensures made { IfOk result (λ out. ArePieces text.now out.items) }
+    ensures refused { IfErr result (IsRefused text.now) }
+{
     let mut out = Vec::new(alloc);
     let mut tokens = Tokens::new(text);
-    let mut end = 0usize;
-    // No text has more tokens than bytes.
-    for _ in 0..=text.len() {
-        match tokens.next() {
-            Ok(Some(token)) => {
-                let start = token.start as usize;
-                let lines = push_gap(&mut out, between(text, end, start))?;
-                push_token(&mut out, &token, lines)?;
-                end = start.saturating_add(token.text.len());
+    let mut rest = text;
+    let mut lines = 0u8;
+    while let [_, ..] = rest {
+        if starts_blank(rest) {
+            lines = lines_behind(lines, rest);
+            rest = behind_first(rest);
+        } else if starts_comment(rest) {
+            let (comment, behind) = rest.split_at(comment_len(rest));
+            push(&mut out, PieceKind::Comment, trimmed(comment), lines)?;
+            lines = 0;
+            rest = behind;
+        } else {
+            match tokens.next() {
+                Ok(Some(token)) => {
+                    let (text, behind) = rest.split_at(token.text.len());
+                    push(&mut out, PieceKind::Token(token.kind), text, lines)?;
+                    lines = 0;
+                    rest = behind;
+                }
+                Ok(None) => return Ok(out),
+                Err(fault) => return Err(LayoutFault::Token(fault)),
             }
-            Ok(None) => break,
-            Err(fault) => return Err(ScanFault::Token(fault)),
         }
     }
-    push_gap(&mut out, between(text, end, text.len()))?;
     Ok(out)
 }

@@ -1,13 +1,20 @@
 //! Where a space stands between two pieces of a line.
 
+ghost use Rattle.std.specs.Prelude.{◌≡◌, true, false, codes};
+ghost use Rattle.text_layouts.specs.Touching.{is_break, is_free};
+ghost use Rattle.text_layouts.specs.Whole.{IsToken};
+ghost use Rattle.text_layouts.specs.Written.{AreApart, BeginsOperand};
+
+use crate::kind::PieceKind;
 use crate::piece::Piece;
+use st_tokens::TokenKind;
 
 /// Whether an operand may end with the piece.
 fn ends_operand(piece: &Piece<'_>) -> bool {
     match piece.kind {
-        crate::piece::PieceKind::Word => !is_operator_word(piece.text),
-        crate::piece::PieceKind::Symbol => piece.text == b")".as_slice(),
-        crate::piece::PieceKind::Comment => false,
+        PieceKind::Token(TokenKind::Symbol) => piece.is(b")"),
+        PieceKind::Token(_) => !is_operator_word(piece.text),
+        PieceKind::Comment => false,
     }
 }
 
@@ -28,7 +35,9 @@ fn is_operator_word(text: &[u8]) -> bool {
 }
 
 /// Whether a sign stands before its operand: a `-` behind which none has ended.
-fn is_sign(before: Option<&Piece<'_>>, piece: &Piece<'_>) -> bool {
+fn is_sign(before: Option<&Piece<'_>>, piece: &Piece<'_>) -> bool
+    ensures { result ≡ true → piece.now.text.now ≡ codes "-" }
+{
     piece.is(b"-")
         && match before {
             Some(before) => !ends_operand(before),
@@ -36,26 +45,54 @@ fn is_sign(before: Option<&Piece<'_>>, piece: &Piece<'_>) -> bool {
         }
 }
 
+/// Whether an operand may begin with the piece.
+fn begins_operand(piece: &Piece<'_>) -> bool
+    ensures { result ≡ true → BeginsOperand piece.now }
+{
+    piece.is_word() || piece.is(b"(")
+}
+
+/// A symbol that begins no longer one.
+fn is_free(token: &[u8]) -> bool
+    ensures { result ≡ is_free token.now }
+{
+    match token {
+        [byte] => *byte == b'(' || *byte == b'~' || *byte == b'*' || *byte == b'.',
+        _ => false,
+    }
+}
+
+/// A symbol that goes on with no token before it.
+fn is_break(token: &[u8]) -> bool
+    ensures { result ≡ is_break token.now }
+{
+    match token {
+        [byte] => {
+            *byte == b',' || *byte == b';' || *byte == b')' || *byte == b'.' || *byte == b'*'
+        }
+        _ => false,
+    }
+}
+
 /// Whether what follows a piece stands close to it.
-fn holds_next(before: Option<&Piece<'_>>, piece: &Piece<'_>, next: &Piece<'_>) -> bool {
-    piece.is(b"(")
-        || piece.is(b"~")
-        || piece.is(b"*")
-        || piece.is(b".")
-        || (is_sign(before, piece) && (next.is_word() || next.is(b"(")))
+#[tactic(auto, using(crate::proofs::Apart::spacing_rules))]
+fn holds_next(before: Option<&Piece<'_>>, piece: &Piece<'_>, next: &Piece<'_>) -> bool
+    ensures { result ≡ true → AreApart piece.now next.now }
+{
+    is_free(piece.text) || (is_sign(before, piece) && begins_operand(next))
 }
 
 /// Whether a piece stands close to what is before it.
-fn is_held(piece: &Piece<'_>, next: &Piece<'_>) -> bool {
-    next.is(b",")
-        || next.is(b";")
-        || next.is(b")")
-        || next.is(b".")
-        || next.is(b"*")
-        || (next.is(b":") && piece.is_word())
+#[tactic(auto, using(crate::proofs::Apart::spacing_rules))]
+fn is_held(piece: &Piece<'_>, next: &Piece<'_>) -> bool
+    ensures { result ≡ true → IsToken piece.now.kind → AreApart piece.now next.now }
+{
+    is_break(next.text) || (next.is(b":") && piece.is_word())
 }
 
 /// Whether a space stands between a piece and the next, where `before` stands before both.
-pub fn is_spaced(before: Option<&Piece<'_>>, piece: &Piece<'_>, next: &Piece<'_>) -> bool {
+pub fn is_spaced(before: Option<&Piece<'_>>, piece: &Piece<'_>, next: &Piece<'_>) -> bool
+    ensures { result ≡ false → IsToken piece.now.kind → AreApart piece.now next.now }
+{
     next.is_comment() || !(holds_next(before, piece, next) || is_held(piece, next))
 }

@@ -6,12 +6,16 @@ use st_memory::Memory;
 use std::alloc::Global;
 use std::thread::Threads;
 
-/// The program over which proofs and runs are judged.
+/// The program over which proofs and runs are judged, how many questions a search may ask, and the names by which the texts are
+/// spoken of.
 #[derive(Clone, Copy)]
 pub struct Subject<'a> {
     pub alloc: Global,
     pub workers: u32,
+    pub budget: u64,
     pub program: &'a [u8],
+    pub program_name: &'a str,
+    pub proof_name: &'a str,
 }
 
 /// Whether `step` verifies a proof of a program.

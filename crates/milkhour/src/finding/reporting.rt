@@ -1,14 +1,12 @@
 //! What is told of a search for a proof, as data.
 
 use super::judging::{Subject, is_proof, is_refuted};
-use crate::given::Given;
 use found_proofs::{Failing, Found, Missing, Proposal, Unfound};
 use milkhour_run::Status;
 use run_reports::{RunReport, RunTexts, report_run};
 use serde::Serialize;
 use st_memory::Memory;
 use std::alloc::{AllocError, Global};
-use std::str;
 use std::thread::Threads;
 
 /// The version of the form of what is found.
@@ -39,10 +37,13 @@ pub struct FindReport {
     pub reason: Option<String>,
     /// What was left to be excluded, as a formula.
     pub left: Option<String>,
+    /// The text of the proof where it proves the claims, which need not be UTF-8 in its comments.
+    #[serde(skip)]
+    pub text: Vec<u8>,
 }
 
 fn text_of(alloc: Global, bytes: &[u8]) -> Result<String, AllocError> {
-    String::from_str(alloc, str::from_utf8(bytes).unwrap_or(""))
+    String::from_utf8_lossy(alloc, bytes)
 }
 
 fn empty_report(alloc: Global, verdict: Verdict) -> Result<FindReport, AllocError> {
@@ -60,6 +61,7 @@ fn empty_report(alloc: Global, verdict: Verdict) -> Result<FindReport, AllocErro
         run: None,
         reason: None,
         left: None,
+        text: Vec::new(alloc),
     })
 }
 
@@ -71,17 +73,24 @@ fn unfound_report(alloc: Global, goal: &str, reason: &str) -> Result<FindReport,
     Ok(report)
 }
 
-fn reason_of(unfound: Unfound) -> &'static str {
+fn reason_of(alloc: Global, unfound: Unfound, budget: u64) -> Result<String, AllocError> {
     match unfound {
-        Unfound::Budget => "the budget is spent: --budget N allows more",
-        Unfound::Wide => "a condition is too wide to be decided, or a number is too large",
-        Unfound::Levels => "there would be too many levels",
-        Unfound::Chain => "no chain of helpers was found for the response",
+        Unfound::Budget => format!(in alloc;
+            "the budget of {budget} questions is spent: --budget N allows more"
+        ),
+        Unfound::Wide => String::from_str(
+            alloc,
+            "a condition is too wide to be decided, or a number is too large",
+        ),
+        Unfound::Levels => String::from_str(alloc, "there would be too many levels"),
+        Unfound::Chain => String::from_str(alloc, "no chain of helpers was found for the response"),
     }
 }
 
-fn missing_report(alloc: Global, missing: &Missing) -> Result<FindReport, AllocError> {
-    let mut report = unfound_report(alloc, missing.goal.as_str(), reason_of(missing.why))?;
+fn missing_report(subject: &Subject<'_>, missing: &Missing) -> Result<FindReport, AllocError> {
+    let alloc = subject.alloc;
+    let reason = reason_of(alloc, missing.why, subject.budget)?;
+    let mut report = unfound_report(alloc, missing.goal.as_str(), reason.as_str())?;
     report.proof = Some(text_of(alloc, missing.so_far.as_slice())?);
     if let Some(left) = &missing.left {
         report.left = Some(text_of(alloc, left.as_slice())?);
@@ -90,15 +99,11 @@ fn missing_report(alloc: Global, missing: &Missing) -> Result<FindReport, AllocE
 }
 
 /// The run that refutes a goal, position by position.
-fn run_of(
-    subject: &Subject<'_>,
-    given: &Given<'_>,
-    failing: &Failing,
-) -> Result<Option<RunReport>, Memory> {
+fn run_of(subject: &Subject<'_>, failing: &Failing) -> Result<Option<RunReport>, Memory> {
     let texts = RunTexts {
-        program_name: given.program.name,
+        program_name: subject.program_name,
         program: subject.program,
-        proof_name: given.proof_name(),
+        proof_name: subject.proof_name,
         proof: failing.proof.as_slice(),
         schedule: failing.schedule.as_slice(),
     };
@@ -106,11 +111,7 @@ fn run_of(
 }
 
 /// A run on which the goal doesn't fail refutes nothing.
-fn failing_report(
-    subject: &Subject<'_>,
-    given: &Given<'_>,
-    failing: &Failing,
-) -> Result<FindReport, Memory> {
+fn failing_report(subject: &Subject<'_>, failing: &Failing) -> Result<FindReport, Memory> {
     let alloc = subject.alloc;
     let goal = failing.goal.as_str();
     if !is_refuted(
@@ -125,7 +126,7 @@ fn failing_report(
     report.goal = Some(String::from_str(alloc, goal)?);
     report.proof = Some(text_of(alloc, failing.proof.as_slice())?);
     report.schedule = Some(text_of(alloc, failing.schedule.as_slice())?);
-    report.run = run_of(subject, given, failing)?;
+    report.run = run_of(subject, failing)?;
     Ok(report)
 }
 
@@ -143,6 +144,7 @@ fn proof_report<R: Threads + Sync>(
     }
     let mut report = empty_report(alloc, Verdict::Proved)?;
     report.proof = Some(text_of(alloc, text)?);
+    report.text = Vec::from_slice(alloc, text)?;
     Ok(report)
 }
 
@@ -150,19 +152,19 @@ fn proof_report<R: Threads + Sync>(
 pub fn report_of<R: Threads + Sync>(
     rt: &R,
     subject: &Subject<'_>,
-    given: &Given<'_>,
     found: &Found,
 ) -> Result<FindReport, Memory> {
     match found {
         Found::Proof(proposal) => proof_report(rt, subject, proposal),
-        Found::False(failing) => failing_report(subject, given, failing),
-        Found::NotFound(missing) => Ok(missing_report(subject.alloc, missing)?),
+        Found::False(failing) => failing_report(subject, failing),
+        Found::NotFound(missing) => Ok(missing_report(subject, missing)?),
     }
 }
 
 /// What is told before the first attempt.
-pub fn untried_report(alloc: Global) -> Result<FindReport, Memory> {
+pub fn untried_report(subject: &Subject<'_>) -> Result<FindReport, Memory> {
+    let alloc = subject.alloc;
     let mut report = empty_report(alloc, Verdict::NotFound)?;
-    report.reason = Some(String::from_str(alloc, reason_of(Unfound::Budget))?);
+    report.reason = Some(reason_of(alloc, Unfound::Budget, subject.budget)?);
     Ok(report)
 }

@@ -60,9 +60,9 @@ fn unfound_text(alloc: Global, report: &FindReport) -> Result<String, AllocError
 fn tell_proof<R: Runtime + AllocGlobal>(
     rt: &R,
     output: Option<&str>,
-    proof: &str,
+    proof: &[u8],
 ) -> Result<(), Trouble> {
-    write_result(rt, output, proof.as_bytes())?;
+    write_result(rt, output, proof)?;
     match output {
         Some(name) => {
             let line = format!(in rt.alloc(); "proved: each claim, by the text in {name}\n")?;
@@ -81,10 +81,7 @@ fn tell_text<R: Runtime + AllocGlobal>(
 ) -> Result<(), Trouble> {
     let alloc = rt.alloc();
     match report.verdict {
-        Verdict::Proved => match &report.proof {
-            Some(proof) => tell_proof(rt, options.output, proof),
-            None => Ok(()),
-        },
+        Verdict::Proved => tell_proof(rt, options.output, report.text.as_slice()),
         Verdict::False => {
             let style = style_of(rt, streams, Target::Result(None), options.colour);
             write_result(rt, None, false_text(alloc, report, style)?.as_bytes())

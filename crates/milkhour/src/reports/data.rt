@@ -6,6 +6,8 @@ use equation_reports::report_equations;
 use explanations::{Report, Texts, explain, outline};
 use fault_reports::{Fault, TextFile, faults_of_program, faults_of_proof, faults_of_schedule};
 use milkhour_run::{Answer, Question, Status};
+use milkhour_words::Options;
+use possible_moves::{MoveTexts, MovesReport, report_moves};
 use proof_reports::EquationReport;
 use run_reports::{RunReport, RunTexts, report_run};
 use serde::Serialize;
@@ -31,6 +33,7 @@ pub struct Refusal {
 pub enum Told {
     Proof(Box<Report>),
     Run(Box<RunReport>),
+    Moves(Box<MovesReport>),
     Equations(Box<EquationReport>),
     Refusal(Box<Refusal>),
 }
@@ -143,6 +146,38 @@ fn run_told(alloc: Global, account: &Account<'_>) -> Result<Option<Told>, Memory
     Ok(Some(Told::Run(Box::new(alloc, report)?)))
 }
 
+/// Whether it is asked what may be done in a state.
+fn asks_for_moves(options: &Options<'_>) -> bool {
+    options.step || options.from.is_some()
+}
+
+/// The report of a state to which a schedule leads.
+fn moves_report(alloc: Global, account: &Account<'_>) -> Result<Option<MovesReport>, Memory> {
+    let given = account.given;
+    let held = given.texts();
+    let (Some(program), Some(schedule)) = (held.program, held.third) else {
+        return Ok(None);
+    };
+    let texts = MoveTexts {
+        program_name: given.program.name,
+        program,
+        schedule,
+    };
+    report_moves(alloc, &texts)
+}
+
+fn moves_told(alloc: Global, account: &Account<'_>) -> Result<Option<Told>, Memory> {
+    if account.answer.status != Status::Proved {
+        return Ok(None);
+    }
+    let Some(mut report) = moves_report(alloc, account)? else {
+        return Ok(None);
+    };
+    report.status = account.answer.status.number();
+    report.headline = String::from_str(alloc, headline(account.answer))?;
+    Ok(Some(Told::Moves(Box::new(alloc, report)?)))
+}
+
 /// The report of equations that were found.
 fn equations_told(alloc: Global, account: &Account<'_>) -> Result<Option<Told>, Memory> {
     if account.question != Question::Invariants || account.answer.status != Status::Proved {
@@ -158,6 +193,7 @@ fn equations_told(alloc: Global, account: &Account<'_>) -> Result<Option<Told>, 
 /// What is told of an answer to its question, where there is more to tell than its text.
 fn report_told(alloc: Global, account: &Account<'_>) -> Result<Option<Told>, Memory> {
     match account.question {
+        Question::Trace if asks_for_moves(account.options) => moves_told(alloc, account),
         Question::Trace => run_told(alloc, account),
         Question::Invariants => equations_told(alloc, account),
         Question::Verify | Question::Check | Question::Prove => proof_told(alloc, account),

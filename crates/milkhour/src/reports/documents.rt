@@ -32,6 +32,7 @@ pub fn document_of(alloc: Global, told: &Told, warnings: &[Fault]) -> Result<Vec
     match told {
         Told::Proof(report) => document(alloc, &Warned { report, warnings }),
         Told::Run(report) => document(alloc, &**report),
+        Told::Moves(report) => document(alloc, &**report),
         Told::Equations(report) => document(alloc, &**report),
         Told::Refusal(refusal) => document(alloc, &**refusal),
     }

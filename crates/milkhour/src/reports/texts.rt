@@ -4,7 +4,7 @@ use super::Account;
 use super::data::{Refusal, Told};
 use crate::trouble::Trouble;
 use milkhour_run::{Question, Status};
-use screens::{Style, equations_screen, faults_screen, proof_screen, run_screen};
+use screens::{Style, equations_screen, faults_screen, moves_screen, proof_screen, run_screen};
 use std::alloc::Global;
 
 /// Whether the answer's own text is what was asked for: certificates, and found invariants.
@@ -24,6 +24,7 @@ fn screen(alloc: Global, told: &Told, style: Style) -> Result<String, Trouble> {
     match told {
         Told::Proof(report) => Ok(proof_screen(alloc, report, style)?),
         Told::Run(report) => Ok(run_screen(alloc, report, style)?),
+        Told::Moves(report) => Ok(moves_screen(alloc, report, style)?),
         Told::Equations(report) => Ok(equations_screen(alloc, report, style)?),
         Told::Refusal(refusal) => refusal_text(alloc, refusal, style),
     }

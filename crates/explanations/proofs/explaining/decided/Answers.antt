@@ -18,4 +18,4 @@ returns c =
     let p = c.args.posed.now.proof in
     let all = ap (map place_of) c.deref.ensures.value ∙ c.in_ok-left.ensures.all in
     explained c.args.texts.now.program.now c.args.texts.now.proof.now x p c.args.limit c.requires.of c.requires.by c.deref.result.now all
-    c.reported.result c.reported.ensures.conditions c.reported.ensures.numbers c.reported.ensures.failing c.reported.ensures.first
+    c.reported.result c.reported.ensures.steps c.reported.ensures.conditions c.reported.ensures.numbers c.reported.ensures.failing c.reported.ensures.first

@@ -1,7 +1,10 @@
 -- What is so of the equations that are found for a program.
-use Rattle.std.proofs.Common.{◌≡◌, ℕ, zero, suc, ◌<◌, List, [], ◌∷◌, length, map, Some, refl, ◌∙◌, sym, subst, arith}
+use Rattle.std.proofs.Common.{◌≡◌, ℕ, zero, suc, ◌<◌, ◌≤◌, Bool, List, [], ◌∷◌, length, map, Some, refl, ◌∙◌, ap, sym, subst, arith}
 use Rattle.std.specs.Prelude.{All, slice_get}
+use Rattle.std.specs.Option.{option_map}
+use Rattle.std.proofs.lemmas.List.{length-map}
 use Rattle.st_linear.specs.Linear.{AreEntries, AllBelow}
+use Rattle.st_program.specs.Names.{Names}
 use Rattle.st_program.specs.Programs as programs
 use Rattle.control_states.specs.Control.{ControlFacts}
 use Rattle.control_facts.specs.Alternatives.{control_of}
@@ -19,13 +22,18 @@ use Rattle.equation_laws.specs.Space.{variables_of}
 use Rattle.equation_laws.specs.Rows.{basis_of}
 use Rattle.equation_laws.specs.Equations.{PlainEquation, AreFound, equation_of, with_variables, found_in, found}
 use Rattle.equation_laws.proofs.Within.{the-basis}
-use Rattle.equation_laws.proofs.Founds.{echelon-entries, with-meets, between-entries, between-below}
+use Rattle.equation_laws.proofs.Founds.{echelon-entries, with-meets, below-entries, below-below, between-entries, between-below}
 use Rattle.equation_forms.specs.Formulas.{AreOwned}
 use Rattle.equation_forms.proofs.Truths.{says}
 use Rattle.equation_runs.specs.Holding.{AllHold}
 use Rattle.equation_runs.proofs.Holds.{found-hold}
+use Rattle.equation_writer.specs.Proper.{AreProper}
+use Rattle.equation_writer.proofs.Finding.{found_are_proper}
+use Rattle.printed_formulas.specs.Theorems.{AreIntegers}
 use Rattle.step_run.specs.Conditions.{system_of}
 use Rattle.found_equations.specs.Said.{AreExact}
+use Rattle.found_equations.proofs.Integers.{AreFalse, AllFalse, AllRows, found-false, few-found}
+use Rattle.found_equations.proofs.Entering.{AreReady}
 
 -- owners of locations
 owner_at : (n : ℕ) (os : List ℕ) (l : ℕ) → l < length os → All (λ c. c < n) os → (c : ℕ) × (slice_get os l ≡ Some c) × (c < n)
@@ -36,6 +44,20 @@ owner_at n (o ∷ os) (suc l) h all = owner_at n os l (omega arith) (λ k d lt. 
 all_owned : (k : ControlFacts) (ts : Entries) → All (λ c. c < length k.components) k.owners → AllBelow (length k.owners) ts → AreOwned k ts
 all_owned k [] all h = tt
 all_owned k (t ∷ ts) all h = let o = owner_at (length k.components) k.owners t.0 h.0 all in (o.0, o.1, o.2, all_owned k ts all h.1)
+
+-- integer variables by their names
+get-map : (xs : List (List ℕ × Bool)) (i : ℕ) → option_map (λ (x : List ℕ × Bool). x.1) (slice_get xs i) ≡ slice_get (map (λ (x : List ℕ × Bool). x.1) xs) i
+get-map [] i = refl
+get-map (x ∷ xs) zero = refl
+get-map (x ∷ xs) (suc i) = get-map xs i
+
+integers_of : (t : Names) (truths : List Bool) → map (λ (x : List ℕ × Bool). x.1) t.variables ≡ truths → (es : Entries) → AreFalse truths es → AreIntegers t es
+integers_of t truths same [] h = tt
+integers_of t truths same (e ∷ es) h = (get-map t.variables e.0 ∙ ap (λ (xs : List Bool). slice_get xs e.0) same ∙ h.0, integers_of t truths same es h.1)
+
+all-rows : (system : System) (bs : List Entries) → AllMeet AreEntries bs → AllRows system (map (equation_of (variables_of system) system.locations) bs)
+all-rows system [] h = tt
+all-rows system (b ∷ bs) h = (below-entries (variables_of system) b h.0, below-below (variables_of system) b, all-rows system bs h.1)
 
 -- what is found, from the basis
 abbrev pub SpansFound : Type 0
@@ -73,6 +95,20 @@ module _ (p : Typed) (k : programs.IsProgram p.variables p.initial p.processes p
       let b = the-basis system f.0 is_system f.1 in
       subst (AreExact p) f.2 (all_exact (with_variables (variables_of system) f.0) (with-meets AreEntries (variables_of system) f.0 (echelon-entries f.0 b.echelon)))
 
+  -- they are between integer variables, and few
+  ready_here : SpansFound → (names_are : map (λ (x : List ℕ × Bool). x.1) p.names.variables ≡ map (λ v. v.truth) p.variables) → (es : List PlainEquation) → found system ≡ Some es → AreReady p es
+  ready_here law names_are es e =
+      let f = map-some (found_in system) (basis_of system) es e in
+      let rows : AllRows system es = subst (AllRows system) f.2 (all-rows system (with_variables (variables_of system) f.0) (with-meets AreEntries (variables_of system) f.0 (echelon-entries f.0 (the-basis system f.0 is_system f.1).echelon))) in
+      make_ready names_are es (found-false system is_system es rows (basis_here law es e).inductive) (found_are_proper system es is_system e)
+    where
+      make_ready : (names_are : map (λ (x : List ℕ × Bool). x.1) p.names.variables ≡ map (λ v. v.truth) p.variables) → (es : List PlainEquation) → AllFalse system.truths es → AreProper es → AreReady p es
+      make_ready names_are [] h k = tt
+      make_ready names_are (e ∷ es) h k = (record { integers = integers_of p.names system.truths names_are e.numbers h.0; kept = k.0.numbers }, make_ready names_are es h.1 k.1)
+
+  few_here : (es : List PlainEquation) → found system ≡ Some es → length es ≤ 64
+  few_here es e = let few : length p.variables ≤ 64 = k.few_variables in omega (arith, few, few-found system es is_system e, length-map p.variables (λ v. v.truth))
+
   -- the same of the program's system
   pub basis : SpansFound → (es : List PlainEquation) → found (system_of p) ≡ Some es → AreFound (system_of p) es
   unfolding system_of
@@ -85,3 +121,11 @@ module _ (p : Typed) (k : programs.IsProgram p.variables p.initial p.processes p
   pub exact : (es : List PlainEquation) → found (system_of p) ≡ Some es → AreExact p es
   unfolding system_of
   exact es e = exact_here es e
+
+  pub ready : SpansFound → map (λ (x : List ℕ × Bool). x.1) p.names.variables ≡ map (λ v. v.truth) p.variables → (es : List PlainEquation) → found (system_of p) ≡ Some es → AreReady p es
+  unfolding system_of
+  ready law names_are es e = ready_here law names_are es e
+
+  pub few : (es : List PlainEquation) → found (system_of p) ≡ Some es → length es ≤ 64
+  unfolding system_of
+  few es e = few_here es e

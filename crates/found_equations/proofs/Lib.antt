@@ -1,3 +1,4 @@
-pub mod Equations
+pub mod Integers
 pub mod Entering
+pub mod Equations
 pub mod Saying

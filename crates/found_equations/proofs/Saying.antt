@@ -7,11 +7,14 @@ use Rattle.spl_parser.specs.Theorems.{ReadIsSpelled}
 use Rattle.expression_typer.specs.declared.fault.TypeFault.{TypeFault}
 use Rattle.typing_laws.specs.Laws.{ReadIsTyped, TellsLeast}
 use Rattle.equation_laws.specs.Equations.{PlainEquation, found}
+use Rattle.spl_typer.proofs.Tabled.{kinds_stand}
+use Rattle.proof_grammar.proofs.Growing.{nothing_stands}
+use Rattle.declared_names.proofs.Whole.{names_are_words}
 use Rattle.step_report.specs.declared.refusals.FileRole.TheVariants.{Program}
 use Rattle.step_plan.specs.Outcome.{Outcome}
 use Rattle.step_plan.specs.Plan.{then_plan}
 use Rattle.step_run.specs.Source.{source_spelled}
-use Rattle.step_run.specs.Conditions.{system_of}
+use Rattle.step_run.specs.Conditions.{system_of, words_over}
 use Rattle.step_run.specs.Invariants.{entered, looked_for, invariants_of}
 use Rattle.step_run.specs.WellFormed.{IsProgram}
 use Rattle.step_run.specs.Plans.{source_of_text, find_in}
@@ -20,7 +23,7 @@ use Rattle.step_run.proofs.Found.{source_found}
 use Rattle.step_run.proofs.Typed.{from_text, well_typed}
 use Rattle.found_equations.specs.Lines.{AreLines}
 use Rattle.found_equations.specs.Said.{SaysEquations, InvariantsSayWhatWasFound}
-use Rattle.found_equations.proofs.Equations.{SpansFound, basis, hold, exact}
+use Rattle.found_equations.proofs.Equations.{SpansFound, basis, hold, exact, ready, few}
 use Rattle.found_equations.proofs.Entering.{all_lines}
 
 told_least : (t : Result Typed TypeFault) (p : Typed) (fs : List TypeFault) → t ≡ Ok p → TellsLeast t fs → fs ≡ []
@@ -60,7 +63,9 @@ says_of program text p spans is_program l = record {
   basis = basis p is_program.well spans l.equations l.these;
   hold = hold p is_program.well l.equations l.these;
   exact = exact p is_program.well l.equations l.these;
-  lines = subst (AreLines p [] 1 l.equations) (sym l.same) (all_lines p l.equations [] 1);
+  lines = subst (AreLines p [] [] 1 l.equations) (sym l.same)
+      (all_lines p (names_are_words program is_program.text p is_program.spelled is_program.typed) (nothing_stands (words_over p)) l.equations (few p is_program.well l.equations l.these)
+      (ready p is_program.well spans (kinds_stand is_program.text p is_program.typed) l.equations l.these));
 }
 
 pub says : SpansFound → ReadIsSpelled → ReadIsTyped → InvariantsSayWhatWasFound

@@ -37,7 +37,7 @@ pub record SaysEquations (program text : List ℕ) : Type 0 where
   pub basis : equations.AreFound (system_of typed) found
   pub hold : AllHold typed.processes typed.initial found
   pub exact : AreExact typed found
-  pub lines : AreLines typed [] 1 found text
+  pub lines : AreLines typed [] [] 1 found text
 
 abbrev pub InvariantsSayWhatWasFound : Type 0
 InvariantsSayWhatWasFound = (told : Told) (name program : List ℕ) (o : Outcome) → told name ≡ Some program

@@ -1,5 +1,5 @@
 -- Pieces of a text, and the tokens of one behind another.
-use Rattle.std.proofs.Common.{◌≡◌, ℕ, ◌-◌, ◌<◌, List, [], ◌∷◌, ◌++◌, take, drop, length, refl, sym, ap, subst, ◌∙◌, append_assoc}
+use Rattle.std.proofs.Common.{◌≡◌, ℕ, ◌-◌, ◌<◌, List, [], ◌∷◌, ◌++◌, drop, length, refl, sym, ap, subst, ◌∙◌, append_assoc}
 use Rattle.std.proofs.Math.Seq.{drop-append_seam, take-append_seam}
 use Rattle.st_tokens.specs.declared.kind.TokenKind.{TokenKind}
 use Rattle.st_tokens.specs.declared.kind.Front.TheVariants.{Whole}

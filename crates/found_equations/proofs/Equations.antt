@@ -1,8 +1,8 @@
 -- What is so of the equations that are found for a program.
-use Rattle.std.proofs.Common.{◌≡◌, ℕ, zero, suc, ◌<◌, ◌≤◌, Bool, List, [], ◌∷◌, length, map, Some, refl, ◌∙◌, ap, sym, subst, arith}
-use Rattle.std.specs.Prelude.{All, slice_get}
-use Rattle.std.specs.Option.{option_map}
+use Rattle.std.proofs.Common.{◌≡◌, ℕ, ◌<◌, ◌≤◌, Bool, List, [], ◌∷◌, length, map, Some, ◌∙◌, ap, sym, subst, arith}
+use Rattle.std.specs.Prelude.{All, slice_get, get_or}
 use Rattle.std.proofs.lemmas.List.{length-map}
+use Rattle.std.proofs.lemmas.Option.{slice_get-map, slice_get-get_or}
 use Rattle.st_linear.specs.Linear.{AreEntries, AllBelow}
 use Rattle.st_program.specs.Names.{Names}
 use Rattle.st_program.specs.Programs as programs
@@ -36,24 +36,14 @@ use Rattle.found_equations.proofs.Integers.{AreFalse, AllFalse, AllRows, found-f
 use Rattle.found_equations.proofs.Entering.{AreReady}
 
 -- owners of locations
-owner_at : (n : ℕ) (os : List ℕ) (l : ℕ) → l < length os → All (λ c. c < n) os → (c : ℕ) × (slice_get os l ≡ Some c) × (c < n)
-owner_at n [] l h all = absurd (omega arith)
-owner_at n (o ∷ os) zero h all = (o, refl, all 0 o (omega arith))
-owner_at n (o ∷ os) (suc l) h all = owner_at n os l (omega arith) (λ k d lt. all (suc k) d (omega arith))
-
 all_owned : (k : ControlFacts) (ts : Entries) → All (λ c. c < length k.components) k.owners → AllBelow (length k.owners) ts → AreOwned k ts
 all_owned k [] all h = tt
-all_owned k (t ∷ ts) all h = let o = owner_at (length k.components) k.owners t.0 h.0 all in (o.0, o.1, o.2, all_owned k ts all h.1)
+all_owned k (t ∷ ts) all h = (get_or k.owners t.0 0, slice_get-get_or k.owners t.0 0 h.0, all t.0 0 h.0, all_owned k ts all h.1)
 
 -- integer variables by their names
-get-map : (xs : List (List ℕ × Bool)) (i : ℕ) → option_map (λ (x : List ℕ × Bool). x.1) (slice_get xs i) ≡ slice_get (map (λ (x : List ℕ × Bool). x.1) xs) i
-get-map [] i = refl
-get-map (x ∷ xs) zero = refl
-get-map (x ∷ xs) (suc i) = get-map xs i
-
 integers_of : (t : Names) (truths : List Bool) → map (λ (x : List ℕ × Bool). x.1) t.variables ≡ truths → (es : Entries) → AreFalse truths es → AreIntegers t es
 integers_of t truths same [] h = tt
-integers_of t truths same (e ∷ es) h = (get-map t.variables e.0 ∙ ap (λ (xs : List Bool). slice_get xs e.0) same ∙ h.0, integers_of t truths same es h.1)
+integers_of t truths same (e ∷ es) h = (sym (slice_get-map (λ (x : List ℕ × Bool). x.1) t.variables e.0) ∙ ap (λ (xs : List Bool). slice_get xs e.0) same ∙ h.0, integers_of t truths same es h.1)
 
 all-rows : (system : System) (bs : List Entries) → AllMeet AreEntries bs → AllRows system (map (equation_of (variables_of system) system.locations) bs)
 all-rows system [] h = tt

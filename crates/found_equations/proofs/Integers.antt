@@ -1,9 +1,9 @@
 -- Equations that are found speak of integer variables alone, and there are at most as many as variables.
-use Rattle.std.proofs.Common.{◌≡◌, ℕ, zero, suc, ◌+◌, ◌*◌, ◌^◌, ◌<◌, ◌≤◌, nat_lt, Bool, true, false, cond, List, [], ◌∷◌, length, Some, refl, sym, ap, subst, ◌∙◌, arith, ℤ, pos, negsuc, ◌+ℤ◌, ◌*ℤ◌, unsigned_abs}
-use Rattle.std.specs.Prelude.{◌==◌, slice_get}
-use Rattle.std.proofs.lemmas.Int.{ints, unsigned_abs-mul}
-use Rattle.std.proofs.lemmas.Nat.{mul-le}
+use Rattle.std.proofs.Common.{◌≡◌, ℕ, suc, ◌+◌, ◌^◌, ◌<◌, ◌≤◌, nat_lt, Bool, true, false, cond, List, [], ◌∷◌, length, Some, refl, sym, ap, subst, ◌∙◌, arith, ℤ, pos, ◌+ℤ◌, ◌*ℤ◌, unsigned_abs}
+use Rattle.std.specs.Prelude.{◌==◌, slice_get, get_or}
+use Rattle.std.proofs.lemmas.Int.{ints}
 use Rattle.std.proofs.lemmas.List.{length-map}
+use Rattle.std.proofs.lemmas.Option.{slice_get-get_or}
 use Rattle.std.proofs.lemmas.Bool.Decides.{nat_tests}
 use Rattle.std.proofs.Math.IntN.{zero-*ℤ, *ℤ_comm}
 use Rattle.basic_laws.proofs.Integers.{times_zero}
@@ -13,6 +13,7 @@ use Rattle.elimination_laws.specs.Mixing.{part}
 use Rattle.elimination_laws.proofs.Heights.{delta}
 use Rattle.elimination_laws.proofs.Mixes.{map-some}
 use Rattle.null_laws.specs.Reduction.{Entries}
+use Rattle.null_laws.proofs.Rows.{zero_product}
 use Rattle.null_laws.specs.Bases.{Vector, first_column, IsApart, IsEchelon}
 use Rattle.transition_system.specs.Systems.{System}
 use Rattle.transition_system.specs.Bounds.{EntriesWithin, IsSystem}
@@ -23,16 +24,6 @@ use Rattle.equation_laws.specs.Rows.{basis_of}
 use Rattle.equation_laws.specs.Equations.{PlainEquation, AreInductive, equation_of, with_variables, found_in, found, coefficient}
 use Rattle.equation_laws.proofs.Totals.{total-same, total-zero, total-one}
 use Rattle.equation_laws.proofs.Within.{AllLinear, start-linear, the-basis}
-
--- a product that is 0
-vanish : (z : ℤ) (t : ℕ) → 0 < t → z *ℤ pos t ≡ pos 0 → z ≡ pos 0
-vanish (pos zero) t some h = refl
-vanish (pos (suc n)) t some h =
-    let e : suc n * t ≡ 0 = sym (unsigned_abs-mul (pos (suc n)) (pos t)) ∙ ap unsigned_abs h in
-    absurd (omega (arith, e, mul-le 1 1 (suc n) t (omega arith) (omega arith)))
-vanish (negsuc n) t some h =
-    let e : suc n * t ≡ 0 = sym (unsigned_abs-mul (negsuc n) (pos t)) ∙ ap unsigned_abs h in
-    absurd (omega (arith, e, mul-le 1 1 (suc n) t (omega arith) (omega arith)))
 
 differ : (truths : List Bool) (u v : ℕ) → slice_get truths u ≡ Some false → slice_get truths v ≡ Some true → (u == v) ≡ false
 differ truths u v h k = by (u == v) refl
@@ -79,17 +70,12 @@ module _ (system : System) (v : ℕ) (boolean : slice_get system.truths v ≡ So
       let both : first_value n system.locations (start_places system) x (delta v) *ℤ pos s.times ≡ first_value n system.locations (start_places system) x none *ℤ pos s.times =
       s.combines (delta v) ∙ combination-same (2 ^ 32) s.factors 0 (start_forms system) (start-linear system is) ∙ sym (s.combines none) in
       let product : total (λ u. x u *ℤ delta v u) n 0 *ℤ pos s.times ≡ pos 0 = sums (total (λ u. x u *ℤ delta v u) n 0) (total (λ u. x u *ℤ none u) n 0) r s.times (none-total x n) both in
-      sym (one-total x n l) ∙ vanish (total (λ u. x u *ℤ delta v u) n 0) s.times s.positive product
+      sym (one-total x n l) ∙ zero_product (total (λ u. x u *ℤ delta v u) n 0) (pos s.times) (λ none. omega (arith, s.positive, ap unsigned_abs none)) product
 
 -- each entry is of an integer variable
 abbrev pub AreFalse : List Bool → Entries → Type 0
 AreFalse truths [] = Unit {0}
 AreFalse truths (e ∷ es) = (slice_get truths e.0 ≡ Some false) × AreFalse truths es
-
-get-some : (xs : List Bool) (v : ℕ) → v < length xs → (x : Bool) × (slice_get xs v ≡ Some x)
-get-some [] v h = absurd (omega arith)
-get-some (x ∷ xs) zero h = (x, refl)
-get-some (x ∷ xs) (suc v) h = get-some xs v (omega arith)
 
 same-number : (v : ℕ) → (v == v) ≡ true
 same-number v = grind (arith, nat_tests)
@@ -100,7 +86,7 @@ NoTruth truths es = (v : ℕ) → slice_get truths v ≡ Some true → v < lengt
 
 all-false : (truths : List Bool) (es : Entries) → AreEntries es → AllBelow (length truths) es → NoTruth truths es → AreFalse truths es
 all-false truths [] a b h = tt
-all-false truths (e ∷ es) a b h = let g = get-some truths e.0 b.0 in by (λ more. all-false truths es a.2 b.1 more) g.0 g.1
+all-false truths (e ∷ es) a b h = by (λ more. all-false truths es a.2 b.1 more) (get_or truths e.0 false) (slice_get-get_or truths e.0 false b.0)
   where
     first : part e.0 (e ∷ es) ≡ e.1
     first = rw (same-number e.0) refl
@@ -139,10 +125,6 @@ AllFrom k (b ∷ bs) = (k ≤ first_column b) × AllFrom k bs
 from-apart : (b : Entries) (ds : List Entries) → IsApart b ds → AllFrom (suc (first_column b)) ds
 from-apart b [] h = tt
 from-apart b (d ∷ ds) h = (omega (arith, h.0), from-apart b ds h.2)
-
-from-less : (j k : ℕ) (bs : List Entries) → j ≤ k → AllFrom k bs → AllFrom j bs
-from-less j k [] le h = tt
-from-less j k (b ∷ bs) le h = (omega (arith, h.0), from-less j k bs le h.1)
 
 few-with : (n k : ℕ) (bs : List Entries) → k ≤ n → AllFrom k bs → IsEchelon bs → k + length (with_variables n bs) ≤ n
 few-with n k [] le h e = omega arith

@@ -31,21 +31,35 @@ pub fn schedule_given<'a>(alloc: Global, schedule: &str) -> Result<GivenText<'a>
     })
 }
 
-/// Puts a proof without steps in the place of the one that is there, and the schedule that leads to the first state beside it.
-fn set_out(alloc: Global, given: &mut Given<'_>, from: Option<&str>) -> Result<(), Trouble> {
-    let schedule = match from {
-        Some(schedule) => schedule_given(alloc, schedule)?,
+/// The schedule that leads to the first state: the one that is asked for, or one of no moves.
+fn first_given<'a>(
+    alloc: Global,
+    given: &Given<'_>,
+    from: Option<&str>,
+) -> Result<GivenText<'a>, Trouble> {
+    match from {
+        Some(schedule) => Ok(schedule_given(alloc, schedule)?),
         None => {
-            let program = given.program.bytes().unwrap_or(b"".as_slice());
-            schedule_given(alloc, &first_schedule(alloc, program)?)?
+            let texts = given.texts();
+            let program = texts.program.unwrap_or(b"".as_slice());
+            let schedule = first_schedule(alloc, program)?;
+            Ok(schedule_given(alloc, schedule.as_str())?)
         }
-    };
-    given.proof = Some(GivenText {
-        name: given.program.name,
-        bytes: Ok(Vec::new(alloc)),
-    });
-    given.third = Some(schedule);
-    Ok(())
+    }
+}
+
+/// The texts with a proof without steps in the place of the one that is there, and a schedule beside it.
+fn set_out<'a>(alloc: Global, given: Given<'a>, schedule: GivenText<'a>) -> Given<'a> {
+    let name = given.program.name;
+    Given {
+        program: given.program,
+        proof: Some(GivenText {
+            name,
+            bytes: Ok(Vec::new(alloc)),
+        }),
+        third: Some(schedule),
+        drawing: given.drawing,
+    }
 }
 
 /// Why a trace can't be done as the words say, if it can't.
@@ -75,8 +89,9 @@ pub fn trace_moves<R: Runtime + AllocGlobal + Threads + Sync>(
     if let Some(text) = mistake(work, options.step) {
         return Err(refusal(rt.alloc(), text));
     }
-    let mut given = read_files(rt, work.task, &work.files)?;
-    set_out(rt.alloc(), &mut given, options.from)?;
+    let read = read_files(rt, work.task, &work.files)?;
+    let schedule = first_given(rt.alloc(), &read, options.from)?;
+    let mut given = set_out(rt.alloc(), read, schedule);
     if options.step {
         step_through(rt, streams, &mut given, &options)
     } else {

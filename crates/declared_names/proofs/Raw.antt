@@ -1,12 +1,9 @@
 -- Raw programs whose declared names are names of texts.
-use Rattle.std.proofs.Common.{List, [], ◌∷◌, Option, Some, None}
+use Rattle.std.proofs.Common.{Option, Some, None}
+use Rattle.list_laws.specs.Each.{Each}
 use Rattle.st_reading.specs.Reading.{Label}
 use Rattle.spl_parser.specs.ProgramTree.{Statement, stated, Action, skip, critical, noncritical, assign, assign_all, await, request, release, conditional, while_do, forever, block, select, cooperate, group, Branch, no_branch, branch, Statements, no_statements, followed, Body, body, Bodies, no_bodies, beside, Declaration, Process, Program}
 use Rattle.declared_names.specs.Words.{IsWord}
-
-abbrev pub Each : {A : Type 0} → (A → Type 0) → List A → Type 0
-Each P [] = Unit {0}
-Each P (x ∷ xs) = P x × Each P xs
 
 abbrev pub LabelNamed : Label → Type 0
 LabelNamed n = IsWord n.text

@@ -10,7 +10,8 @@ use Rattle.spl_parser.specs.ProgramTree.{Statement, statements, Body, bodies, Pr
 use Rattle.spl_parser.specs.Grammar.{IsBranch, without, with_else, IsBody, unnamed, ended, IsChild, child, IsBare, s_assign, s_assign_all, s_skip, s_critical, s_noncritical, s_await, s_request, s_release, s_if, s_while, s_loop, s_block, s_select, s_cooperate, s_group, IsStatement, unlabelled, labelled, Low, IsDeclaration, declaration, Declarations, no_declarations, declaration_more, IsProcess, process, IsProgram, program}
 use Rattle.spl_parser.specs.Theorems.{Spells}
 use Rattle.declared_names.proofs.Tokens.{NamesAre, parts, names_of_text}
-use Rattle.declared_names.proofs.Raw.{Each, LabelNamed, StatementNamed, ActionNamed, BranchNamed, StatementsNamed, BodyNamed, BodiesNamed, DeclarationNamed, ProcessNamed, ProgramNamed}
+use Rattle.list_laws.specs.Each.{Each}
+use Rattle.declared_names.proofs.Raw.{LabelNamed, StatementNamed, ActionNamed, BranchNamed, StatementsNamed, BodyNamed, BodiesNamed, DeclarationNamed, ProcessNamed, ProgramNamed}
 
 -- what is spelled by such tokens is such
 abbrev Names : {A : Type 0} → (List Lexeme → A → Type 0) → (A → Type 0) → Type 0

@@ -19,7 +19,8 @@ use Rattle.spl_typer.specs.Walking.{fresh, beneath, location, labelled, no_loop,
 use Rattle.spl_typer.specs.Programs.{Heading, Apart, knows, named_in, names_in, initial_in, declaration_in, declarations_in, with_state, process_in, processes_in}
 use Rattle.spl_typer.proofs.Apart.{declares_apart}
 use Rattle.declared_names.specs.Words.{IsWord}
-use Rattle.declared_names.proofs.Raw.{Each, LabelNamed, OwnNamed, StatementNamed, ActionNamed, BranchNamed, StatementsNamed, BodyNamed, BodiesNamed, DeclarationNamed, ProcessNamed}
+use Rattle.list_laws.specs.Each.{Each}
+use Rattle.declared_names.proofs.Raw.{LabelNamed, OwnNamed, StatementNamed, ActionNamed, BranchNamed, StatementsNamed, BodyNamed, BodiesNamed, DeclarationNamed, ProcessNamed}
 
 abbrev pub EntryNamed : Entry → Type 0
 EntryNamed e = IsWord e.name

@@ -14,7 +14,8 @@ use Rattle.spl_typer.specs.Walk.{Entry}
 use Rattle.spl_typer.specs.Programs.{Heading, nothing_met, declarations_in, processes_in, few_processes, heading_of, text_of, Variables, Labels, with_variable, with_label, variables_of, labels_of, few_names, names_of, Typed, typing}
 use Rattle.spl_typer.proofs.Apart.{names_apart}
 use Rattle.declared_names.specs.Words.{IsWord, AreWords, AreNames, NamesAreWords}
-use Rattle.declared_names.proofs.Raw.{Each, ProgramNamed}
+use Rattle.list_laws.specs.Each.{Each}
+use Rattle.declared_names.proofs.Raw.{ProgramNamed}
 use Rattle.declared_names.proofs.Spelled.{spelled_named}
 use Rattle.declared_names.proofs.Walked.{EntryNamed, Fine, declarations_fine, processes_fine}
 

@@ -11,8 +11,8 @@ use Rattle.transition_system.specs.Systems.{System}
 use Rattle.temporal_goals.specs.Plain.{plain_step, plain_script}
 use Rattle.temporal_goals.specs.Texts.{PlainStep}
 use Rattle.vc_generator.specs.Building.{Draft}
-use Rattle.condition_sizes.specs.Within.{Each}
-use Rattle.condition_sizes.proofs.Eachs.{each_append, each_weaker}
+use Rattle.list_laws.specs.Each.{Each}
+use Rattle.list_laws.proofs.Eachs.{each_append, each_weaker}
 use Rattle.script_laws.specs.Script.{cited_of, step_list, steps_list, script_list}
 use Rattle.script_laws.proofs.Named.{steps-named}
 use Rattle.script_obligations.specs.Laws.{AreThese}

@@ -5,7 +5,7 @@ use Rattle.st_form.specs.Condition.{Implication}
 use Rattle.farkas_check.specs.Problem.{Setting}
 use Rattle.temporal_goals.specs.Texts.{PlainStep}
 use Rattle.vc_generator.specs.Building.{Draft}
-use Rattle.condition_sizes.specs.Within.{Each}
+use Rattle.list_laws.specs.Each.{Each}
 use Rattle.script_obligations.proofs.Programs.{scripts-typed}
 use Rattle.spl_typer.specs.Programs.{Typed}
 use Rattle.search_laws.specs.States.{State}

@@ -9,7 +9,7 @@ use Rattle.rule_fits.specs.Fitting.{CanFall}
 use Rattle.ranked_net.specs.Asked.{NodesCanFall}
 use Rattle.nested_net.specs.Asked as nets
 use Rattle.diagram_conditions.specs.Asked.{RanksCanFall}
-use Rattle.condition_sizes.specs.Within.{Each}
+use Rattle.list_laws.specs.Each.{Each}
 use Rattle.script_laws.specs.Written.{IsSmall, NodeWritten, LevelWritten, NestedWritten, RankWritten, DrawnWritten}
 
 module _ (system : System) where

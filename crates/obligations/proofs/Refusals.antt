@@ -5,7 +5,7 @@ use Rattle.vc_generator.specs.Building.{Draft}
 use Rattle.vc_generator.specs.Refusing.{Refuses, refusal, refusals, else_refusal}
 use Rattle.vc_generator.specs.declared.faults.VcFault.{VcFault}
 use Rattle.vc_generator.specs.declared.faults.VcFault.TheVariants as limits
-use Rattle.condition_sizes.specs.Within.{Each}
+use Rattle.list_laws.specs.Each.{Each}
 use Rattle.script_laws.specs.Refused.{refused_by, refused_at}
 use Rattle.script_laws.proofs.Refused.{refused-end}
 use Rattle.obligations.specs.Faults.{fault_at}

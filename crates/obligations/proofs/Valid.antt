@@ -6,8 +6,8 @@ use Rattle.control_states.specs.Control.{ControlFacts}
 use Rattle.farkas_check.specs.Meaning.{IsValidCondition}
 use Rattle.vc_generator.specs.Building.{Draft}
 use Rattle.obligation_laws.specs.Obligations.{AreValid}
-use Rattle.condition_sizes.specs.Within.{Each}
-use Rattle.condition_sizes.proofs.Eachs.{each_of}
+use Rattle.list_laws.specs.Each.{Each}
+use Rattle.list_laws.proofs.Eachs.{each_of}
 use Rattle.script_obligations.specs.Laws.{AreThese}
 use Rattle.obligations.specs.Made.{AllValid}
 

@@ -13,7 +13,7 @@ use Rattle.vc_generator.specs.Refusing.{Refuses, weight_in, weights, refusals, e
 use Rattle.vc_generator.specs.declared.faults.VcFault.{VcFault}
 use Rattle.vc_generator.specs.declared.faults.VcFault.TheVariants as limits
 use Rattle.vc_generator.proofs.Growing.{conditions, conditions-append}
-use Rattle.condition_sizes.specs.Within.{Each}
+use Rattle.list_laws.specs.Each.{Each}
 use Rattle.script_laws.specs.Script.{cited_of, step_list, steps_list, script_list}
 use Rattle.script_laws.specs.Refused.{refused_at}
 use Rattle.script_laws.proofs.Named.{steps-named, steps-some}

@@ -3,7 +3,7 @@ use Rattle.std.proofs.Common.{◌≡◌, ℕ, List, ap, sym, subst}
 use Rattle.std.specs.Prelude.{All, Ok}
 use Rattle.transition_system.specs.Plain.{plain_system}
 use Rattle.temporal_goals.specs.Texts.{PlainStep}
-use Rattle.condition_sizes.specs.Within.{Each}
+use Rattle.list_laws.specs.Each.{Each}
 use Rattle.rule_fits.specs.Obeying.{IsProof}
 use Rattle.script_laws.specs.Written.{StepWritten}
 use Rattle.script_speech.specs.Over.{StepOver}

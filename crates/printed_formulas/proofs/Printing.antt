@@ -14,6 +14,8 @@ use Rattle.matrix_rows.specs.Rows.{IsKept}
 use Rattle.equation_laws.specs.Equations.{PlainEquation}
 use Rattle.equation_forms.specs.Formulas.{Terms, terms_of, with_terms, groups, classes, whereabouts, choices, case_of, groups_of, formula_of, is_slight, are_slight, cases_slight, is_short}
 use Rattle.equation_writer.specs.Sentences.{are_labelled}
+use Rattle.list_laws.specs.Each.{Each}
+use Rattle.list_laws.proofs.Eachs.{each_append, each_mapped, each_filtered}
 use Rattle.declared_names.specs.Words.{AreNames}
 use Rattle.printed_formulas.specs.Printable.{IsNamed, IsPlace, AreNumbers, IsPrintableSum, IsPrintable, ArePrintable}
 use Rattle.printed_formulas.specs.Theorems.{AreIntegers, ShortFormulasArePrintable}
@@ -21,32 +23,9 @@ use Rattle.printed_formulas.proofs.Atoms.{writable}
 use Rattle.printed_formulas.proofs.Formulas.{weaker}
 use Rattle.printed_formulas.proofs.Named.{is_named, is_place}
 
--- lists of which each element is such
-abbrev Each : {A : Type 0} → (A → Type 0) → List A → Type 0
-Each P [] = Unit {0}
-Each P (x ∷ xs) = P x × Each P xs
-
-module _ {A : Type 0} (P : A → Type 0) where
-  each-append : (xs ys : List A) → Each P xs → Each P ys → Each P (xs ++ ys)
-  each-append [] ys h k = k
-  each-append (x ∷ xs) ys h k = (h.0, each-append xs ys h.1 k)
-
-  each-filter : (test : A → Bool) (xs : List A) → Each P xs → Each P (filter test xs)
-  each-filter test [] h = tt
-  each-filter test (x ∷ xs) h = by (test x) (each-filter test xs h.1)
-    where
-      by : (b : Bool) → Each P (filter test xs) → Each P (cond b (x ∷ filter test xs) (filter test xs))
-      by true k = (h.0, k)
-      by false k = k
-
-module _ {A B : Type 0} (P : A → Type 0) (Q : B → Type 0) where
-  each-map : (f : A → B) → ((x : A) → P x → Q (f x)) → (xs : List A) → Each P xs → Each Q (map f xs)
-  each-map f go [] h = tt
-  each-map f go (x ∷ xs) h = (go x h.0, each-map f go xs h.1)
-
 each-flat : {A B : Type 0} (Q : B → Type 0) (f : A → List B) → ((x : A) → Each Q (f x)) → (xs : List A) → Each Q (flat_map f xs)
 each-flat Q f go [] = tt
-each-flat Q f go (x ∷ xs) = each-append Q (f x) (flat_map f xs) (go x) (each-flat Q f go xs)
+each-flat Q f go (x ∷ xs) = each_append Q (f x) (flat_map f xs) (go x) (each-flat Q f go xs)
 
 both : (a b : Bool) → (a && b) ≡ true → (a ≡ true) × (b ≡ true)
 both true b h = (refl, h)
@@ -95,12 +74,12 @@ module _ (t : Names) where
   all-placed names (x ∷ ts) h = let p = both (is_some (label_of x.0 t.labels)) (are_labelled t ts) h in (is_place t x.0 names p.0, all-placed names ts p.1)
 
   nowhere : (ts : Terms) → Each Placed ts → Each (P 2) (map (λ x. negation (at x.0)) ts)
-  nowhere ts h = each-map Placed (P 2) (λ (x : ℕ × ℤ). negation (at x.0)) (λ x p. p) ts h
+  nowhere ts h = each_mapped Placed (P 2) (λ (x : ℕ × ℤ). negation (at x.0)) (λ x p. p) ts h
 
   somewhere : (ts : Terms) (k : ℤ) → Each Placed ts → P 2 (closed false (formulas (map (λ x. at x.0) (filter (λ x. int_eq x.1 k) ts))))
   somewhere ts k h =
       closed-printable false 1 (map (λ x. at x.0) (filter (λ x. int_eq x.1 k) ts))
-      (each-map Placed (P 1) (λ (x : ℕ × ℤ). at x.0) (λ x p. p) (filter (λ x. int_eq x.1 k) ts) (each-filter Placed (λ x. int_eq x.1 k) ts h))
+      (each_mapped Placed (P 1) (λ (x : ℕ × ℤ). at x.0) (λ x p. p) (filter (λ x. int_eq x.1 k) ts) (each_filtered Placed (λ x. int_eq x.1 k) ts h))
 
   whereabouts-printable : (ts : Terms) (k : ℤ) → Each Placed ts → Each (P 2) (whereabouts ts k)
   whereabouts-printable ts (pos zero) h = nowhere ts h
@@ -113,7 +92,7 @@ module _ (t : Names) where
 
   groups-placed : (owners : List ℕ) (ts : Terms) (m c : ℕ) → Each Placed ts → Each (Each Placed) (groups owners ts m c)
   groups-placed owners ts zero c h = tt
-  groups-placed owners ts (suc m) c h = with-placed (terms_of owners c ts) (groups owners ts m (c + 1)) (each-filter Placed (λ (x : ℕ × ℤ). c == slice_index_or owners x.0 0) ts h) (groups-placed owners ts m (c + 1) h)
+  groups-placed owners ts (suc m) c h = with-placed (terms_of owners c ts) (groups owners ts m (c + 1)) (each_filtered Placed (λ (x : ℕ × ℤ). c == slice_index_or owners x.0 0) ts h) (groups-placed owners ts m (c + 1) h)
 
   -- the cases
   abbrev CasePrintable : List Formula × ℤ → Type 0
@@ -124,7 +103,7 @@ module _ (t : Names) where
   choices-printable (ts ∷ gs) h =
       let rest = choices-printable gs h.1 in
       each-flat CasePrintable (λ (k : ℤ). map (λ (x : List Formula × ℤ). (whereabouts ts k ++ x.0, k +ℤ x.1)) (choices gs))
-      (λ k. each-map CasePrintable CasePrintable (λ (x : List Formula × ℤ). (whereabouts ts k ++ x.0, k +ℤ x.1)) (λ x p. each-append (P 2) (whereabouts ts k) x.0 (whereabouts-printable ts k h.0) p) (choices gs) rest) (classes ts)
+      (λ k. each_mapped CasePrintable CasePrintable (λ (x : List Formula × ℤ). (whereabouts ts k ++ x.0, k +ℤ x.1)) (λ x p. each_append (P 2) (whereabouts ts k) x.0 (whereabouts-printable ts k h.0) p) (choices gs) rest) (classes ts)
 
   -- integer variables
   numbers-named : AreNames t → (es : List (ℕ × ℤ)) → AreIntegers t es → AreNumbers t es
@@ -149,7 +128,7 @@ module _ (t : Names) where
         let p = both (is_slight (e.constant +ℤ x.1) && are_slight e.numbers) (cases_slight e xs) s in
         let q = both (is_slight (e.constant +ℤ x.1)) (are_slight e.numbers) p.0 in (
           closed-printable true 2 (x.0 ++ equal (record { constant = e.constant +ℤ x.1; entries = e.numbers }) ∷ [])
-              (each-append (P 2) x.0 (equal (record { constant = e.constant +ℤ x.1; entries = e.numbers }) ∷ []) h.0 (sum-printable (e.constant +ℤ x.1) q.0 q.1, tt)),
+              (each_append (P 2) x.0 (equal (record { constant = e.constant +ℤ x.1; entries = e.numbers }) ∷ []) h.0 (sum-printable (e.constant +ℤ x.1) q.0 q.1, tt)),
           cases-printable xs h.1 p.1,
         )
 

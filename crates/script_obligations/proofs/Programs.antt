@@ -21,8 +21,9 @@ use Rattle.obligation_laws.specs.Obligations.{ValidIsEnough}
 use Rattle.control_facts.proofs.Owners.{owned_inside}
 use Rattle.spl_translation.specs.Translation.{translation}
 use Rattle.spl_translation.proofs.Systemic.{translation_is_system}
-use Rattle.condition_sizes.specs.Within.{Each, DraftWithin}
-use Rattle.condition_sizes.proofs.Eachs.{each_weaker}
+use Rattle.list_laws.specs.Each.{Each}
+use Rattle.condition_sizes.specs.Within.{DraftWithin}
+use Rattle.list_laws.proofs.Eachs.{each_weaker}
 use Rattle.script_laws.specs.Script.{script_list}
 use Rattle.script_laws.specs.Laws.{ScriptsProve, ScriptsAreWithin}
 use Rattle.script_obligations.specs.Laws.{ScriptsHold, AreThese, ScriptsAreSearchable, ScriptsAreTyped, SearchableIsCheckable}

@@ -17,8 +17,10 @@ use Rattle.st_program.specs.Groups.{GroupFits, Link, tested, given, paths, paths
 use Rattle.spl_translation.specs.Translation.{path_mode, path_modes}
 use Rattle.spl_translation.proofs.Fitted.{types, type_there, changed_type, linear_within, listed_within}
 use Rattle.spl_translation.proofs.Rises.{inserted_all, inserted_rises, NumberWithin, TruthWithin, ValuesWithin, none_within, moving_within}
-use Rattle.spl_translation.proofs.Eachs.{Each, each_weaker, each_append}
-use Rattle.spl_translation.proofs.Sized.{UpTo, behind, behind_more, replaced_up, up_of, of_up, entries_few}
+use Rattle.list_laws.specs.Each.{Each}
+use Rattle.list_laws.proofs.Eachs.{each_weaker, each_append}
+use Rattle.transition_system.proofs.ReplacedSizes.{UpTo, behind, behind_more, replaced_up, up_of, of_up}
+use Rattle.spl_translation.proofs.FewEntries.{entries_few}
 use Rattle.basic_laws.proofs.Integers.{product}
 use Rattle.basic_laws.proofs.Truths.{both_true}
 

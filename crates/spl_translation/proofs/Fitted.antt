@@ -8,7 +8,7 @@ use Rattle.st_form.specs.Simple.{append, opened}
 use Rattle.st_form.specs.declared.variables.Variable.{Variable}
 use Rattle.st_program.specs.Types.{type_of, EntriesFit, LinearFits, FormulaFits, FormulasFit, MayChange}
 use Rattle.transition_system.specs.Bounds.{EntriesWithin, LinearWithin, FormulaWithin, FormulasWithin}
-use Rattle.spl_translation.proofs.Eachs.{Each}
+use Rattle.list_laws.specs.Each.{Each}
 
 abbrev pub types : List Variable → List Bool
 types vs = map (λ v. v.truth) vs

@@ -1,7 +1,7 @@
 pub mod Bounded
 pub mod Corresponding
-pub mod Eachs
 pub mod Entries
+pub mod FewEntries
 pub mod FewModes
 pub mod Fitted
 pub mod Insertions
@@ -14,7 +14,6 @@ pub mod Paths
 pub mod Pieced
 pub mod Reached
 pub mod Rises
-pub mod Sized
 pub mod Systemic
 pub mod Values
 pub mod Walks

@@ -15,7 +15,8 @@ use Rattle.spl_translation.proofs.Fitted.{types, type_there, changed_type, formu
 use Rattle.spl_translation.proofs.Rises.{none_within, assigned_within, moving_within}
 use Rattle.spl_translation.proofs.Reached.{InnerBelow, Below}
 use Rattle.spl_translation.proofs.Bounded.{group_within}
-use Rattle.spl_translation.proofs.Eachs.{Each, each_append}
+use Rattle.list_laws.specs.Each.{Each}
+use Rattle.list_laws.proofs.Eachs.{each_append}
 
 module _ (vs : List Variable) (few : length vs ≤ 64) (locations : ℕ) where
   abbrev pub ModesWithin : PlainTransition → Type 0

@@ -7,7 +7,7 @@ use Rattle.st_program.specs.Locations.{location_end, within_end, head_end, along
 use Rattle.control_facts.proofs.Onces.{nowhere, in_either}
 use Rattle.control_facts.proofs.Own.{grow, grow_along, grow_among, grow_inside}
 use Rattle.spl_semantics.specs.Control.{starts, ends}
-use Rattle.spl_translation.proofs.Eachs.{Each}
+use Rattle.list_laws.specs.Each.{Each}
 use Rattle.basic_laws.proofs.Types.{either}
 
 -- the locations of what begins in a statement, and of the ends in it

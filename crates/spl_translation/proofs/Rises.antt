@@ -11,7 +11,8 @@ use Rattle.st_program.specs.Types.{TermFits, MayChange, TargetsFit, is_truth}
 use Rattle.st_program.specs.Groups.{inserted}
 use Rattle.spl_translation.specs.Translation.{number_put, truth_put, numbers_of, truths_of, moving}
 use Rattle.spl_translation.proofs.Fitted.{types, changed_type, linear_within, formula_within}
-use Rattle.spl_translation.proofs.Eachs.{Each, all_of}
+use Rattle.list_laws.specs.Each.{Each}
+use Rattle.list_laws.proofs.Eachs.{all_of}
 
 pub inserted_all : {X : Type 0} (P : ℕ × X → Type 0) (v : ℕ) (x : X) (ps : List (ℕ × X)) → P (v, x) → Each P ps → Each P (inserted v x ps)
 inserted_all P v x [] h k = (h, tt)

@@ -17,7 +17,8 @@ use Rattle.spl_translation.proofs.Fitted.{types, formula_within, append_within, 
 use Rattle.spl_translation.proofs.Rises.{none_within, moving_within}
 use Rattle.spl_translation.proofs.Owned.{ModesWithin, spots_within}
 use Rattle.spl_translation.proofs.Reached.{Below, all_below, begins_below}
-use Rattle.spl_translation.proofs.Eachs.{Each, all_of, each_weaker}
+use Rattle.list_laws.specs.Each.{Each}
+use Rattle.list_laws.proofs.Eachs.{all_of, each_weaker}
 
 map_length : {A B : Type 0} (f : A → B) (xs : List A) → length (map f xs) ≡ length xs
 map_length f [] = refl

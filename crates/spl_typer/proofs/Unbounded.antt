@@ -21,26 +21,12 @@ use Rattle.spl_typer.specs.Groups.{Numbers, Composition, nothing, large_unless, 
 use Rattle.spl_typer.specs.Unbounded.{with_form, with_forms, composed_form, composed_side, composed_sides, all_writable, are_small_along, all_small_along, is_too_large, IsTooLargeExactly}
 use Rattle.expression_typer.proofs.Sizes.{Within, Bounded, bounded_written, bounded_sum, bounded_fits, within_entry}
 use Rattle.basic_laws.proofs.Integers.{product}
-
-abbrev Each : {X : Type 0} → (X → Type 0) → List X → Type 0
-Each P [] = Unit {0}
-Each P (x ∷ xs) = P x × Each P xs
-
-each_weaker : {X : Type 0} (P Q : X → Type 0) → ((x : X) → P x → Q x) → (xs : List X) → Each P xs → Each Q xs
-each_weaker P Q f [] h = tt
-each_weaker P Q f (x ∷ xs) h = (f x h.0, each_weaker P Q f xs h.1)
-
-each_append : {X : Type 0} (P : X → Type 0) (xs ys : List X) → Each P xs → Each P ys → Each P (xs ++ ys)
-each_append P [] ys h k = k
-each_append P (x ∷ xs) ys h k = (h.0, each_append P xs ys h.1 k)
+use Rattle.list_laws.specs.Each.{Each}
+use Rattle.list_laws.proofs.Eachs.{each_weaker, each_append, each_flat}
 
 each_map : {X Y : Type 0} (P : Y → Type 0) (f : X → Y) (xs : List X) → Each (λ x. P (f x)) xs → Each P (map f xs)
 each_map P f [] h = tt
 each_map P f (x ∷ xs) h = (h.0, each_map P f xs h.1)
-
-each_flat : {X Y : Type 0} (P : X → Type 0) (Q : Y → Type 0) (f : X → List Y) → ((x : X) → P x → Each Q (f x)) → (xs : List X) → Each P xs → Each Q (flat_map f xs)
-each_flat P Q f g [] h = tt
-each_flat P Q f g (x ∷ xs) h = each_append Q (f x) (flat_map f xs) (g x h.0) (each_flat P Q f g xs h.1)
 
 each_inserted : {X : Type 0} (P : X → Type 0) (v : ℕ) (x : X) (ps : List (ℕ × X)) → P x → Each (λ p. P p.1) ps → Each (λ p. P p.1) (inserted v x ps)
 each_inserted P v x [] h k = (h, tt)

@@ -5,7 +5,7 @@ use Rattle.st_certificate.specs.Tree.{Tree}
 use Rattle.temporal_goals.specs.Texts.{PlainStep}
 use Rattle.control_facts.proofs.Strands.{how_many_inside}
 use Rattle.vc_generator.specs.Building.{Draft}
-use Rattle.condition_sizes.specs.Within.{Each}
+use Rattle.list_laws.specs.Each.{Each}
 use Rattle.spl_semantics.proofs.FewBodies.{has_numbers}
 use Rattle.spl_typer.specs.Programs.{Typed}
 use Rattle.search_laws.specs.Forms.{IsInOrder}

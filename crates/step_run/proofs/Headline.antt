@@ -20,7 +20,8 @@ use Rattle.search_laws.specs.Moves.{Verdict, valid, open_at, wide_at, decided}
 use Rattle.transition_system.specs.Bounds.{IsSystem, LinearWithin, EntriesWithin, FormulaWithin, FormulasWithin}
 use Rattle.vc_generator.specs.Building.{Draft}
 use Rattle.vc_generator.specs.declared.faults.VcFault.{VcFault}
-use Rattle.condition_sizes.specs.Within.{Each, DraftWithin}
+use Rattle.list_laws.specs.Each.{Each}
+use Rattle.condition_sizes.specs.Within.{DraftWithin}
 use Rattle.script_laws.specs.Script.{script_list}
 use Rattle.script_laws.specs.Laws.{ScriptsProve, ScriptsAreWithin}
 use Rattle.script_bounds.specs.Over.{OverIsWritten}

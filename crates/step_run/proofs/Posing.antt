@@ -18,7 +18,7 @@ use Rattle.script_laws.specs.Written.{StepWritten}
 use Rattle.script_bounds.specs.Over.{OverIsWritten}
 use Rattle.script_speech.specs.Over.{StepOver}
 use Rattle.script_obligations.specs.Laws.{AreThese}
-use Rattle.condition_sizes.specs.Within.{Each}
+use Rattle.list_laws.specs.Each.{Each}
 use Rattle.obligations.specs.declared.faults.ObligationFault.{ObligationFault}
 use Rattle.obligations.specs.declared.faults.ObligationFault.TheVariants as faults
 use Rattle.obligations.specs.Made.{IsRefusal}

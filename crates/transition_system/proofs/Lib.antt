@@ -1,2 +1,3 @@
+pub mod ReplacedSizes
 pub mod Sizes
 pub mod Enabling

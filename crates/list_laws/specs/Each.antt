@@ -1,0 +1,7 @@
+-- What holds of each element of a list, by recursion along the list.
+use Rattle.std.specs.Prelude.{List, [], ◌∷◌, ⊤}
+
+-- P of each
+abbrev pub Each : {X : Type 0} → (X → Type 0) → List X → Type 0
+Each P [] = ⊤
+Each P (x ∷ xs) = P x × Each P xs

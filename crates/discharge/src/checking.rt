@@ -20,8 +20,9 @@ use std::alloc::Global;
 use std::thread::{Threads, join};
 
 /// The first place of one piece whose block isn't valid.
-fn check_piece(
+fn check_piece<G: Gate>(
     alloc: Global,
+    gate: &G,
     components: &Components,
     variables: &[Variable],
     conditions: &[Condition],
@@ -49,8 +50,10 @@ fn check_piece(
             condition,
             &block.certificate,
         )? {
+            gate.decided(1, 1);
             return Ok(Some(i));
         }
+        gate.decided(1, 0);
         rest = behind(rest, share.stride);
         rest_blocks = behind(rest_blocks, share.stride);
     }
@@ -74,7 +77,9 @@ fn check_at_gate<G: Gate>(
     at_gate(
         gate,
         share.first,
-        || check_piece(alloc, components, variables, conditions, blocks, share),
+        || check_piece(
+            alloc, gate, components, variables, conditions, blocks, share,
+        ),
     )
 }
 

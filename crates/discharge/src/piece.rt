@@ -51,9 +51,18 @@ fn search_group(
     Ok(None)
 }
 
+/// Tells the gate what came of a group: of one in which a condition is open, that this one is.
+fn tell_group<G: Gate>(gate: &G, from: usize, to: usize, undecided: &Option<Undecided>) {
+    match undecided {
+        None => gate.decided(to.saturating_sub(from), 0),
+        Some(_) => gate.decided(1, 1),
+    }
+}
+
 /// Takes groups as long as there are some and all conditions in them are decided valid.
-fn search_piece(
+fn search_piece<G: Gate>(
     alloc: Global,
+    gate: &G,
     components: &Components,
     variables: &[Variable],
     conditions: &[Condition],
@@ -81,6 +90,7 @@ fn search_piece(
             to.min(count),
             &mut valid,
         )?;
+        tell_group(gate, from, to.min(count), &undecided);
         if undecided.is_some() {
             queue.close(count);
             return Ok(Findings { valid, undecided });
@@ -110,6 +120,6 @@ pub(crate) fn search_at_gate<G: Gate>(
     at_gate(
         gate,
         place,
-        || search_piece(alloc, components, variables, conditions, queue),
+        || search_piece(alloc, gate, components, variables, conditions, queue),
     )
 }

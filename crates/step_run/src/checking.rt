@@ -89,6 +89,7 @@ pub fn checked<R: Threads + Sync, F: Files, G: Gate + Sync>(
         conditions: posed.conditions.as_slice(),
     };
     let workers = crew(workers, claims.conditions);
+    gate.posed(claims.conditions.len());
     match check_file(rt, alloc, gate, workers, &claims, files, name)? {
         Stage::On(finding) => told(alloc, posed, finding),
         Stage::Over(ended) => Ok(ended),

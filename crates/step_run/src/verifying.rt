@@ -111,6 +111,7 @@ pub fn verified<R: Threads + Sync, G: Gate + Sync>(
     ensures { IfOk result (λ e. ended_view e ≡ verified (posed_view posed.now)) }
 {
     let components = components(alloc, &posed.source.program)?;
+    gate.posed(posed.conditions.len());
     let mut place = 0;
     while place < posed.conditions.len() {
         match searched(rt, alloc, gate, workers, &components, posed, place)? {

@@ -54,4 +54,8 @@ impl Gate for SideBySide {
         }
         self.marks.store(1, SeqCst);
     }
+
+    fn posed(&self, _count: usize) {}
+
+    fn decided(&self, _count: usize, _open: usize) {}
 }

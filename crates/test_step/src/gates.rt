@@ -54,6 +54,10 @@ impl Gate for SideBySide {
         }
         self.marks.store(1, SeqCst);
     }
+
+    fn posed(&self, _count: usize) {}
+
+    fn decided(&self, _count: usize, _open: usize) {}
 }
 
 /// Keeps in mind that a piece has ended.
@@ -90,4 +94,8 @@ impl Gate for Ended {
     {
         self.ended.store(1, SeqCst);
     }
+
+    fn posed(&self, _count: usize) {}
+
+    fn decided(&self, _count: usize, _open: usize) {}
 }

@@ -5,13 +5,16 @@ mod pages;
 mod reporting;
 mod telling;
 mod watching;
+mod whole;
 
 use crate::given::Given;
 use crate::streams::Streams;
 use crate::trouble::Trouble;
+use find_requests::script_around;
 use found_proofs::{ATTEMPTS, FindFault, attempt_proofs, share};
 use judging::Subject;
 use milkhour_words::Options;
+use proof_script::ScriptFault;
 use reporting::{FindReport, Verdict, report_of, untried_report};
 use st_memory::Memory;
 use std::alloc::Global;
@@ -47,13 +50,13 @@ fn search<R: Clock + Eprint + Threads + Sync>(
     Ok(report)
 }
 
-/// Looks for proofs of the claims of a text, and tells what was found. `None` where the texts are refused.
-pub fn find<R: Runtime + AllocGlobal + Threads + Sync>(
+/// What comes of a search for proofs of the claims of a text; `None` where a text couldn't be read.
+fn searched<R: Runtime + AllocGlobal + Threads + Sync>(
     rt: &R,
     streams: Streams,
     given: &Given<'_>,
     options: &Options<'_>,
-) -> Result<Option<u8>, Trouble> {
+) -> Result<Option<FindReport>, FindFault> {
     let held = given.texts();
     let (Some(program), Some(proof)) = (held.program, held.proof) else {
         return Ok(None);
@@ -63,16 +66,49 @@ pub fn find<R: Runtime + AllocGlobal + Threads + Sync>(
         workers: options.workers,
         budget: options.budget,
         program,
+        front: given.front(),
         program_name: given.program.name,
         proof_name: given.proof_name(),
     };
-    let report = match search(rt, &subject, proof, begin_watch(rt, streams)) {
-        Ok(report) => report,
-        Err(FindFault::Memory) => return Err(Trouble::Memory),
-        Err(_) => return Ok(None),
+    let watch = begin_watch(rt, streams);
+    Ok(Some(search(rt, &subject, proof, watch)?))
+}
+
+/// Leaves of the proof what `step` refuses as `find` does: to `step` each response `by find` is a fault.
+fn leave_fault(alloc: Global, given: &mut Given<'_>, fault: ScriptFault) -> Result<(), Memory> {
+    let ScriptFault::At(_, place) = fault else {
+        return Err(Memory);
     };
-    tell(rt, streams, given, options, &report)?;
-    Ok(Some(report.status))
+    let left = match given.texts().proof {
+        Some(proof) => script_around(alloc, proof, place)?,
+        None => return Ok(()),
+    };
+    if let Some(proof) = &mut given.proof {
+        proof.bytes = Ok(left);
+    }
+    Ok(())
+}
+
+/// Looks for proofs of the claims of a text, and tells what was found. `None` where the texts are refused: `step` says then why, of the
+/// proof that is left in `given`.
+pub fn find<R: Runtime + AllocGlobal + Threads + Sync>(
+    rt: &R,
+    streams: Streams,
+    given: &mut Given<'_>,
+    options: &Options<'_>,
+) -> Result<Option<u8>, Trouble> {
+    match searched(rt, streams, given, options) {
+        Ok(Some(report)) => {
+            tell(rt, streams, given, options, &report)?;
+            Ok(Some(report.status))
+        }
+        Err(FindFault::Proof(fault)) => {
+            leave_fault(rt.alloc(), given, fault)?;
+            Ok(None)
+        }
+        Err(FindFault::Memory) => Err(Trouble::Memory),
+        Ok(None) | Err(FindFault::Grammar(_) | FindFault::Typing(_)) => Ok(None),
+    }
 }
 
 /// The text that `find` writes of a program and its claims, where it proves them.
@@ -87,6 +123,7 @@ pub fn found_proof<R: Clock + Eprint + Threads + Sync>(
         workers: 1,
         budget: EDITOR_BUDGET,
         program,
+        front: None,
         program_name: "",
         proof_name: "",
     };

@@ -14,6 +14,8 @@ pub struct Subject<'a> {
     pub workers: u32,
     pub budget: u64,
     pub program: &'a [u8],
+    /// The program, where the proof stands behind it in one file.
+    pub front: Option<&'a [u8]>,
     pub program_name: &'a str,
     pub proof_name: &'a str,
 }

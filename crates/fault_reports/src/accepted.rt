@@ -11,6 +11,7 @@ use posed_conditions::{PosedProof, PosingFault, pose};
 use proof_reports::{Fault, Severity};
 use source_places::{Span, StepPlaces, step_places};
 use st_memory::Memory;
+use st_outside::OpenGate;
 use std::alloc::Global;
 
 /// A warning.
@@ -57,6 +58,7 @@ fn holds_at_start(alloc: Global, posed: &PosedProof) -> Result<bool, Memory>
     let variables = source.program.variables.as_slice();
     let open = open_conditions(
         alloc,
+        &OpenGate,
         &source.components,
         variables,
         &posed.proof.conditions,

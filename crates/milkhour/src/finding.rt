@@ -4,7 +4,6 @@ mod judging;
 mod pages;
 mod reporting;
 mod telling;
-mod watching;
 mod whole;
 
 use crate::given::Given;
@@ -14,6 +13,7 @@ use find_requests::script_around;
 use found_proofs::{ATTEMPTS, FindFault, attempt_proofs, share};
 use judging::Subject;
 use milkhour_words::Options;
+use progress_lines::Watch;
 use proof_script::ScriptFault;
 use reporting::{FindReport, Verdict, report_of, untried_report};
 use st_memory::Memory;
@@ -23,10 +23,21 @@ use std::rt::Runtime;
 use std::thread::Threads;
 use std::time::Clock;
 use telling::tell;
-use watching::{Watch, begin_watch, say_attempt};
 
 /// The most questions to the prover of a search that an editor asks for, which are as many as `milkhour find` asks by itself.
 const EDITOR_BUDGET: u64 = 200_000;
+
+/// Says which attempt begins, by its number from 0, and how many questions were asked in front of it, where the search takes long. The calls
+/// that search read no clock, so it is said between attempts. Where this can't be written, nothing is lost.
+fn say_attempt<R: Clock + Eprint>(rt: &R, watch: Watch, number: usize, asked: u64) {
+    if watch.is_late(rt) {
+        let attempt = number.saturating_add(1);
+        let _ = eprintln!(rt;
+            "milkhour: attempt {attempt} of {}, {asked} questions so far",
+            ATTEMPTS.len()
+        );
+    }
+}
 
 /// What comes of the attempts: the first that proves or refutes, else the last.
 fn search<R: Clock + Eprint + Threads + Sync>(
@@ -70,7 +81,7 @@ fn searched<R: Runtime + AllocGlobal + Threads + Sync>(
         program_name: given.program.name,
         proof_name: given.proof_name(),
     };
-    let watch = begin_watch(rt, streams);
+    let watch = Watch::begin(rt, streams.is_error_terminal);
     Ok(Some(search(rt, &subject, proof, watch)?))
 }
 

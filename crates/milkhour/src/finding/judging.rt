@@ -3,6 +3,7 @@
 use milkhour_run::{Question, Status, Texts, answer};
 use refuted_goals::refutes;
 use st_memory::Memory;
+use st_outside::OpenGate;
 use std::alloc::Global;
 use std::thread::Threads;
 
@@ -33,7 +34,7 @@ fn verifies<'x, R: Threads + Sync>(
         proof: Some(proof),
         third: None,
     };
-    let answer = answer(rt, alloc, Question::Verify, workers, &texts)?;
+    let answer = answer(rt, alloc, Question::Verify, workers, &texts, &OpenGate)?;
     Ok(answer.status == Status::Proved)
 }
 

@@ -181,32 +181,40 @@ pub(crate) fn with_variants(
     Ok(cubes)
 }
 
-/// A cube as a candidate; `None` where its clause can't be said.
-fn candidate_of(
+/// The clause of a cube, and what it costs.
+fn priced(
+    alloc: Global,
+    writer: &ClauseWriter<'_>,
+    cube: &Cube,
+) -> Result<(Phrase, usize), ClauseFault> {
+    let phrase = writer.clause(alloc, cube)?;
+    let cost = writer.cost(alloc, cube, phrase.text.len())?;
+    Ok((phrase, cost))
+}
+
+/// Appends the candidate of a cube, if its clause can be said.
+fn push_candidate(
     alloc: Global,
     subject: &Subject,
     search: &Search<'_>,
     writer: &ClauseWriter<'_>,
     cube: Cube,
-) -> Result<Option<Candidate>, Memory> {
-    let phrase = match writer.clause(alloc, &cube) {
-        Ok(phrase) => phrase,
-        Err(ClauseFault::Unsaid) => return Ok(None),
-        Err(ClauseFault::Memory) => return Err(Memory),
-    };
-    let cost = match writer.cost(alloc, &cube, phrase.text.len()) {
-        Ok(cost) => cost,
-        Err(ClauseFault::Unsaid) => return Ok(None),
+    out: &mut Vec<Candidate>,
+) -> Result<(), Memory> {
+    let (phrase, cost) = match priced(alloc, writer, &cube) {
+        Ok(pair) => pair,
+        Err(ClauseFault::Unsaid) => return Ok(()),
         Err(ClauseFault::Memory) => return Err(Memory),
     };
     let form = cube.clause(alloc, &subject.components, search.layout())?;
-    Ok(Some(Candidate {
+    out.push(Candidate {
         origin: Origin::Found,
         cube: Some(cube),
         form,
         phrase,
         cost,
-    }))
+    })?;
+    Ok(())
 }
 
 /// Appends the candidates of cubes.
@@ -219,9 +227,7 @@ pub(crate) fn push_candidates(
     out: &mut Vec<Candidate>,
 ) -> Result<(), Memory> {
     for cube in cubes {
-        if let Some(candidate) = candidate_of(alloc, subject, search, writer, cube)? {
-            out.push(candidate)?;
-        }
+        push_candidate(alloc, subject, search, writer, cube, out)?;
     }
     Ok(())
 }

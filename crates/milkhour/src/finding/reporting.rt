@@ -37,6 +37,8 @@ pub struct FindReport {
     pub reason: Option<String>,
     /// What was left to be excluded, as a formula.
     pub left: Option<String>,
+    /// How many questions were asked.
+    pub queries: u64,
     /// The text of the proof where it proves the claims, which need not be UTF-8 in its comments.
     #[serde(skip)]
     pub text: Vec<u8>,
@@ -61,6 +63,7 @@ fn empty_report(alloc: Global, verdict: Verdict) -> Result<FindReport, AllocErro
         run: None,
         reason: None,
         left: None,
+        queries: 0,
         text: Vec::new(alloc),
     })
 }

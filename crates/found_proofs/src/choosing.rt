@@ -109,8 +109,8 @@ fn cubes_used(
     Ok(cubes_among(alloc, &ground.candidates, needs.as_ref())?)
 }
 
-/// Those of the cubes that a proof of the claims uses as they were found; all, where it isn't known that they suffice. With the
-/// number of queries that this took.
+/// Those of the cubes that a proof of the claims uses as they were found; all, where it isn't known that they suffice. With how many
+/// of the queries that may be asked for it are left.
 fn needed_cubes(
     alloc: Global,
     subject: &Subject,
@@ -124,11 +124,11 @@ fn needed_cubes(
     push_cubes(alloc, subject, search, cubes, &mut candidates)?;
     let mut ground = Ground::new(alloc, subject, candidates, budget)?;
     let needed = cubes_used(alloc, &mut ground, claims)?;
-    Ok((needed, ground.queries()))
+    Ok((needed, ground.give_back()))
 }
 
-/// All candidates for a proof of the claims, by rising cost, and the number of queries that this took beside those of the search, at most
-/// as many as are given.
+/// All candidates for a proof of the claims, by rising cost, and how many of the queries that may be asked beside those of the search are
+/// left.
 pub(crate) fn chosen(
     alloc: Global,
     task: Task<'_>,
@@ -140,12 +140,12 @@ pub(crate) fn chosen(
 ) -> Result<(Vec<Candidate>, u64), CubeFault> {
     let subject = task.subject;
     let cubes = lasting_cubes(alloc, search)?;
-    let (needed, queries) = needed_cubes(alloc, subject, search, &given, &cubes, claims, budget)?;
+    let (needed, left) = needed_cubes(alloc, subject, search, &given, &cubes, claims, budget)?;
     let general = generalized(alloc, search, &needed)?;
     let joined = with_joined(alloc, cubes, &needed, general)?;
     let all = with_variants(alloc, search, joined, task.attempt.plain)?;
     let mut candidates = given;
     push_candidates(alloc, subject, search, writer, all, &mut candidates)?;
     candidates.sort_by_key(|candidate| candidate.cost)?;
-    Ok((candidates, queries))
+    Ok((candidates, left))
 }

@@ -467,8 +467,8 @@ impl<'a> Ground<'a> {
         Ok(matches!(entry, Entry::Blocked(_)))
     }
 
-    /// How many questions were asked.
-    pub(crate) fn queries(&self) -> u64 {
-        self.search.counts().queries
+    /// Gives back how many questions might still be asked. From then on none is.
+    pub(crate) fn give_back(&mut self) -> u64 {
+        self.search.give_back()
     }
 }

@@ -1,5 +1,7 @@
 //! The proof of some goals that stand together in a text: a search for lemmas from which they follow, and the least proof by these.
 
+ghost use Rattle.std.specs.Prelude.{◌≤◌, IfOk};
+
 use crate::attempts::Attempt;
 use crate::candidates::Candidate;
 use crate::choosing::{chosen, known_candidates};
@@ -173,16 +175,23 @@ pub(crate) fn finished(
     naming: &mut Naming,
 ) -> Result<Effort, CubeFault> {
     let kept = task.budget / KEPT;
-    let (candidates, more) = chosen(alloc, task, search, writer, given, claims, kept)?;
-    let before = search.counts().queries.saturating_add(more);
-    let left = task.budget.saturating_sub(before);
+    let (candidates, unasked) = chosen(alloc, task, search, writer, given, claims, kept)?;
+    let left = unasked.saturating_add(search.give_back());
     let mut ground = Ground::new(alloc, task.subject, candidates, left)?;
     let proof = least_proof(alloc, task, &mut ground, writer, claims, naming)?;
-    let queries = before.saturating_add(ground.queries());
+    let left = ground.give_back();
     Ok(Effort {
-        tried: tried_with(proof, queries >= task.budget),
-        queries,
+        tried: tried_with(proof, left == 0),
+        queries: task.budget.saturating_sub(left),
     })
+}
+
+/// How many queries of a task were asked, where its search ends with them.
+pub(crate) fn asked(task: Task<'_>, search: &mut Search<'_>) -> u64
+    ensures { result ≤ task.budget }
+{
+    let left = search.give_back().saturating_add(task.budget / KEPT);
+    task.budget.saturating_sub(left)
 }
 
 /// The goals as claims.
@@ -208,7 +217,7 @@ fn proved(
     match sought(alloc, search, &writer, goals)? {
         Some(tried) => Ok(Effort {
             tried,
-            queries: search.counts().queries,
+            queries: asked(task, search),
         }),
         None => finished(alloc, task, search, &writer, given, claims, naming),
     }

@@ -3,7 +3,7 @@
 //! A question is the condition that the formulas imply `False`. One book is kept for all questions of a program, so that lists of
 //! conjuncts that come again aren't searched again.
 
-ghost use Rattle.std.specs.Prelude.{◌≡◌, ◌≤◌, true};
+ghost use Rattle.std.specs.Prelude.{◌≡◌, ◌≤◌, ◌+◌, true};
 ghost use Rattle.farkas_check.specs.Limits.{IsNarrow};
 ghost use Rattle.search_laws.specs.Searchable.{IsSearchable};
 ghost use Rattle.st_form.specs.Shared.{consequent_of};
@@ -220,6 +220,15 @@ impl<'a> Prover<'a> {
     /// How many questions were asked.
     pub(crate) fn queries(&self) -> u64 {
         self.queries
+    }
+
+    /// Gives back how many questions might still be asked. From then on none is.
+    pub(crate) fn give_back(&mut self) -> u64
+        ensures { result + self.new.budget ≡ self.old.budget }
+    {
+        let left = self.budget - self.queries;
+        self.budget = self.queries;
+        left
     }
 
     /// Whether the formulas that are given are true together. `TooLarge` where a number is too large to be asked for.

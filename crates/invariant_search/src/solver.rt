@@ -46,6 +46,10 @@ impl<'a> Solver<'a> {
         self.prover.queries()
     }
 
+    pub(crate) fn give_back(&mut self) -> u64 {
+        self.prover.give_back()
+    }
+
     /// Whether the formulas of a question are true together. A state that was found for another question may say so.
     fn ask(&mut self, alloc: Global, question: &Condition) -> Result<Asked, CubeFault> {
         let layout = &self.setting.layout;

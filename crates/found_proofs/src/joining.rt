@@ -11,7 +11,7 @@ use control_cubes::CubeFault;
 use std::alloc::Global;
 
 /// A step of more than one layer has at most so many clauses.
-const MOST_CLAUSES: usize = 8;
+const MOST_CLAUSES: usize = 4;
 
 /// Two layers as one, in the order of the candidates.
 fn together(alloc: Global, one: &[usize], other: &[usize]) -> Result<Vec<usize>, CubeFault> {

@@ -155,6 +155,35 @@ fn with_equations(alloc: Global, cube: &Cube, bounds: &[Lin]) -> Result<Cube, Cu
     Ok(out)
 }
 
+/// Appends the shorter variants of a cube.
+fn push_variants(
+    alloc: Global,
+    search: &Search<'_>,
+    cube: &Cube,
+    bounds: &[Lin],
+    out: &mut Vec<Cube>,
+) -> Result<(), CubeFault> {
+    out.push(with_equations(alloc, cube, bounds)?)?;
+    let live = without_dead(alloc, cube, search.layout().full(), search.dead())?;
+    out.push(with_equations(alloc, &live, bounds)?)?;
+    out.push(live)?;
+    Ok(())
+}
+
+/// The shorter variants of cubes.
+fn variants_of(
+    alloc: Global,
+    search: &Search<'_>,
+    cubes: &[Cube],
+) -> Result<Vec<Cube>, CubeFault> {
+    let bounds = bounds(alloc, cubes, search.layout().full())?;
+    let mut out = Vec::new(alloc);
+    for cube in cubes {
+        push_variants(alloc, search, cube, &bounds, &mut out)?;
+    }
+    Ok(out)
+}
+
 /// The cubes with their shorter variants behind them. Equations in front of an arrow make joint conditions wide, so `plain` leaves those
 /// variants out.
 pub(crate) fn with_variants(
@@ -166,16 +195,7 @@ pub(crate) fn with_variants(
     if plain {
         return Ok(cubes);
     }
-    let full = search.layout().full();
-    let bounds = bounds(alloc, &cubes, full)?;
-    let mut variants = Vec::new(alloc);
-    for cube in &cubes {
-        let live = without_dead(alloc, cube, full, search.dead())?;
-        variants.push(with_equations(alloc, cube, &bounds)?)?;
-        variants.push(with_equations(alloc, &live, &bounds)?)?;
-        variants.push(live)?;
-    }
-    for variant in variants {
+    for variant in variants_of(alloc, search, &cubes)? {
         push_apart(&mut cubes, variant)?;
     }
     Ok(cubes)

@@ -17,15 +17,20 @@ const MOST_LEVELS: u32 = 100;
 /// As many states in which the goal is false are blocked on one level.
 const MOST_ROUNDS: u32 = 1_000_000;
 
+/// The value of the variable at a place in a state.
+fn datum_of(variable: &Variable, place: usize, state: &State) -> Datum {
+    if variable.truth {
+        Datum::Truth(state.truths.get(place) == Some(&true))
+    } else {
+        Datum::Number(state.numbers.get(place).copied().unwrap_or(0))
+    }
+}
+
 /// The values of the variables in a state.
 fn store_of(alloc: Global, variables: &[Variable], state: &State) -> Result<Vec<Datum>, Memory> {
     let mut store = Vec::with_capacity(alloc, variables.len())?;
     for (place, variable) in variables.iter().enumerate() {
-        if variable.truth {
-            store.push(Datum::Truth(state.truths.get(place) == Some(&true)))?;
-        } else {
-            store.push(Datum::Number(state.numbers.get(place).copied().unwrap_or(0)))?;
-        }
+        store.push(datum_of(variable, place, state))?;
     }
     Ok(store)
 }

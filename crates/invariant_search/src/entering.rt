@@ -22,6 +22,24 @@ pub(crate) fn starts_within(setting: &Setting<'_>, cube: &Cube) -> bool {
     are_among(cube, &setting.first)
 }
 
+/// The states of the cube as one formula.
+fn within(alloc: Global, setting: &Setting<'_>, cube: &Cube) -> Result<SharedForm, CubeFault> {
+    let form = cube.form(alloc, setting.components, &setting.layout)?;
+    Ok(passing(alloc, form)?)
+}
+
+/// What is asked of the cube at the beginning: that a run begins in it.
+pub(crate) fn start_question(
+    alloc: Global,
+    setting: &Setting<'_>,
+    cube: &Cube,
+) -> Result<Vec<SharedForm>, CubeFault> {
+    let mut forms = Vec::with_capacity(alloc, 2)?;
+    forms.push(setting.initial.share()?)?;
+    forms.push(within(alloc, setting, cube)?)?;
+    Ok(forms)
+}
+
 /// Whether a mode changes nothing that the cube speaks of, and starts at its places: then it leads into the cube from within alone.
 fn is_idle(cube: &Cube, step: &Step<'_>) -> bool {
     if !are_among(cube, &step.before) {

@@ -96,27 +96,44 @@ fn places_of(alloc: Global, layout: &Layout, shown: &Shown) -> Result<Vec<u8>, M
     Ok(places)
 }
 
+/// The number of a datum; 0 where it is a truth value.
+fn number_of(datum: &Datum) -> i128 {
+    match datum {
+        Datum::Number(number) => *number,
+        Datum::Truth(_) => 0,
+    }
+}
+
+fn numbers_of(alloc: Global, store: &[Datum]) -> Result<Vec<i128>, Memory> {
+    let mut numbers = Vec::with_capacity(alloc, store.len())?;
+    for datum in store {
+        numbers.push(number_of(datum))?;
+    }
+    Ok(numbers)
+}
+
+/// The truth value of a datum; false where it is a number.
+fn truth_of(datum: &Datum) -> bool {
+    match datum {
+        Datum::Number(_) => false,
+        Datum::Truth(truth) => *truth,
+    }
+}
+
+fn truths_of(alloc: Global, store: &[Datum]) -> Result<Vec<bool>, Memory> {
+    let mut truths = Vec::with_capacity(alloc, store.len())?;
+    for datum in store {
+        truths.push(truth_of(datum))?;
+    }
+    Ok(truths)
+}
+
 /// A state that is shown.
 fn state_of(alloc: Global, layout: &Layout, shown: &Shown) -> Result<State, Memory> {
-    let places = places_of(alloc, layout, shown)?;
-    let mut numbers = Vec::with_capacity(alloc, shown.store.len())?;
-    let mut truths = Vec::with_capacity(alloc, shown.store.len())?;
-    for datum in &shown.store {
-        match datum {
-            Datum::Number(number) => {
-                numbers.push(*number)?;
-                truths.push(false)?;
-            }
-            Datum::Truth(truth) => {
-                numbers.push(0)?;
-                truths.push(*truth)?;
-            }
-        }
-    }
     Ok(State {
-        places,
-        numbers,
-        truths,
+        places: places_of(alloc, layout, shown)?,
+        numbers: numbers_of(alloc, &shown.store)?,
+        truths: truths_of(alloc, &shown.store)?,
     })
 }
 

@@ -1,7 +1,5 @@
 //! The proof of some goals that stand together in a text: a search for lemmas from which they follow, and the least proof by these.
 
-ghost use Rattle.std.specs.Prelude.{◌≤◌, IfOk};
-
 use crate::attempts::Attempt;
 use crate::candidates::Candidate;
 use crate::choosing::{chosen, known_candidates};
@@ -187,9 +185,7 @@ pub(crate) fn finished(
 }
 
 /// How many queries of a task were asked, where its search ends with them.
-pub(crate) fn asked(task: Task<'_>, search: &mut Search<'_>) -> u64
-    ensures { result ≤ task.budget }
-{
+fn asked(task: Task<'_>, search: &mut Search<'_>) -> u64 {
     let left = search.give_back().saturating_add(task.budget / KEPT);
     task.budget.saturating_sub(left)
 }

@@ -395,8 +395,8 @@ fn proposal(
     }))
 }
 
-/// What is found of the goals of a text.
-fn found<'t>(
+/// What comes of the goals of a text.
+fn outcome<'t>(
     alloc: Global,
     progress: &mut Progress<'_, 't>,
     request: &Request<'t>,
@@ -418,6 +418,6 @@ pub(crate) fn progressed<'t>(
 ) -> Result<(Found, u64), Memory> {
     let steps = request.script.steps.as_slice();
     let mut progress = Progress::new(alloc, subject, text, steps, attempt, budget)?;
-    let found = found(alloc, &mut progress, request)?;
+    let found = outcome(alloc, &mut progress, request)?;
     Ok((found, progress.queries))
 }

@@ -54,6 +54,7 @@ fn search<R: Clock + Eprint + Threads + Sync>(
         let tried = attempt_proofs(subject.alloc, subject.program, proof, *attempt, share)?;
         left = left.saturating_sub(tried.queries);
         report = report_of(rt, subject, &tried.found)?;
+        report.queries = subject.budget.saturating_sub(left);
         if report.verdict != Verdict::NotFound {
             return Ok(report);
         }

@@ -38,6 +38,8 @@ pub struct FindReport {
     pub reason: Option<String>,
     /// What was left to be excluded, as a formula.
     pub left: Option<String>,
+    /// How many questions were asked.
+    pub queries: u64,
     /// The file of the proof where it proves the claims, which need not be UTF-8 in its comments.
     #[serde(skip)]
     pub file: Vec<u8>,
@@ -65,6 +67,7 @@ fn empty_report(alloc: Global, verdict: Verdict) -> Result<FindReport, AllocErro
         run: None,
         reason: None,
         left: None,
+        queries: 0,
         file: Vec::new(alloc),
         text: Vec::new(alloc),
     })

@@ -7,6 +7,7 @@
 mod answers;
 mod attempts;
 mod candidates;
+mod chain_rules;
 mod choosing;
 mod claims;
 mod equations;

@@ -266,12 +266,17 @@ impl<'s, 't> Progress<'s, 't> {
         Ok(())
     }
 
-    /// The answer that no chain is found for a response.
-    fn chainless(&self, alloc: Global, leading: &Leading) -> Result<Found, Memory> {
+    /// The answer that no chain is found for a response, with a state in which nothing helps, if one was shown.
+    fn chainless(
+        &self,
+        alloc: Global,
+        leading: &Leading,
+        left: Option<Vec<u8>>,
+    ) -> Result<Found, Memory> {
         Ok(Found::NotFound(Missing {
             goal: leading.name.clone()?,
             why: Unfound::Chain,
-            left: None,
+            left,
             so_far: self.text_to(alloc, self.behind)?,
         }))
     }
@@ -293,7 +298,7 @@ impl<'s, 't> Progress<'s, 't> {
             Ok(response) => response,
             Err(CubeFault::TooLarge) => {
                 self.queries = self.budget;
-                return Ok(Some(self.chainless(alloc, leading)?));
+                return Ok(Some(self.chainless(alloc, leading, None)?));
             }
             Err(CubeFault::Memory) => return Err(Memory),
         };
@@ -303,7 +308,7 @@ impl<'s, 't> Progress<'s, 't> {
                 self.take_chain(alloc, extent, leading, rule, proof)?;
                 Ok(None)
             }
-            Responded::Unfound => Ok(Some(self.chainless(alloc, leading)?)),
+            Responded::Unfound(left) => Ok(Some(self.chainless(alloc, leading, left)?)),
         }
     }
 

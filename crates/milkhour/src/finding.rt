@@ -6,7 +6,7 @@ mod reporting;
 mod telling;
 mod whole;
 
-use crate::given::Given;
+use crate::given::{Given, GivenText};
 use crate::streams::Streams;
 use crate::trouble::Trouble;
 use find_requests::script_around;
@@ -86,18 +86,34 @@ fn searched<R: Runtime + AllocGlobal + Threads + Sync>(
     Ok(Some(search(rt, &subject, proof, watch)?))
 }
 
-/// Leaves of the proof what `step` refuses as `find` does: to `step` each response `by find` is a fault.
-fn leave_fault(alloc: Global, given: &mut Given<'_>, fault: ScriptFault) -> Result<(), Memory> {
+/// What is left of a proof with a fault at a place: `step` refuses it there, though each response `by find` is a fault to `step`.
+fn left_around<'a>(
+    alloc: Global,
+    proof: &GivenText<'a>,
+    place: u64,
+) -> Result<GivenText<'a>, Memory> {
+    let text = proof.bytes().unwrap_or(b"".as_slice());
+    let left = script_around(alloc, text, place)?;
+    Ok(GivenText {
+        name: proof.name,
+        bytes: Ok(left),
+    })
+}
+
+/// Leaves of the proof what `step` refuses as `find` does.
+fn leave_fault<'a>(
+    alloc: Global,
+    given: &mut Given<'a>,
+    fault: ScriptFault,
+) -> Result<(), Memory> {
     let ScriptFault::At(_, place) = fault else {
         return Err(Memory);
     };
-    let left = match given.texts().proof {
-        Some(proof) => script_around(alloc, proof, place)?,
+    let left = match &given.proof {
+        Some(proof) => left_around(alloc, proof, place)?,
         None => return Ok(()),
     };
-    if let Some(proof) = &mut given.proof {
-        proof.bytes = Ok(left);
-    }
+    given.proof = Some(left);
     Ok(())
 }
 
@@ -119,7 +135,8 @@ pub fn find<R: Runtime + AllocGlobal + Threads + Sync>(
             Ok(None)
         }
         Err(FindFault::Memory) => Err(Trouble::Memory),
-        Ok(None) | Err(FindFault::Grammar(_) | FindFault::Typing(_)) => Ok(None),
+        Ok(None) => Ok(None),
+        Err(_) => Ok(None),
     }
 }
 

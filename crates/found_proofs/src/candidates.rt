@@ -171,11 +171,7 @@ fn push_variants(
 }
 
 /// The shorter variants of cubes.
-fn variants_of(
-    alloc: Global,
-    search: &Search<'_>,
-    cubes: &[Cube],
-) -> Result<Vec<Cube>, CubeFault> {
+fn variants_of(alloc: Global, search: &Search<'_>, cubes: &[Cube]) -> Result<Vec<Cube>, CubeFault> {
     let bounds = bounds(alloc, cubes, search.layout().full())?;
     let mut out = Vec::new(alloc);
     for cube in cubes {

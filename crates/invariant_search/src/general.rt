@@ -55,12 +55,7 @@ fn push_sum(alloc: Global, cube: &mut Cube, one: &Lin, other: &Lin) -> Result<()
 }
 
 /// Adds the short sums of a row and others that lose a variable.
-fn push_sums(
-    alloc: Global,
-    cube: &mut Cube,
-    one: &Lin,
-    others: &[Lin],
-) -> Result<(), CubeFault> {
+fn push_sums(alloc: Global, cube: &mut Cube, one: &Lin, others: &[Lin]) -> Result<(), CubeFault> {
     for other in others {
         if cube.rows.len() <= MOST_ROWS && cancels(one, other) {
             push_sum(alloc, cube, one, other)?;

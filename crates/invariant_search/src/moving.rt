@@ -78,12 +78,7 @@ fn lift_truth(
 }
 
 /// Of what a cube says of numbers what is so before a mode.
-fn lift_rows(
-    alloc: Global,
-    step: &Step<'_>,
-    cube: &Cube,
-    out: &mut Cube,
-) -> Result<(), CubeFault> {
+fn lift_rows(alloc: Global, step: &Step<'_>, cube: &Cube, out: &mut Cube) -> Result<(), CubeFault> {
     for row in &cube.rows {
         out.push_row(alloc, &row.replace(alloc, &step.change.numbers)?)?;
     }

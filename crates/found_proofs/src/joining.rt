@@ -1,9 +1,9 @@
 //! Steps of more than one layer.
 //!
-//! Each layer of lemmas could be a step of its own, which cites those in front of it. Layers that follow each other may be one step all the
-//! same, since what is kept with the help of lemmas is kept together with them; that saves names and citations, and a person writes it so.
-//! But the conditions of a step are joint, and conjuncts of several cases each may make them too wide, so it is asked first whether they are
-//! decided.
+//! Each layer of lemmas could be a step of its own, which cites those in front of it. Layers that follow each other may be one step all
+//! the same, since what is kept with the help of lemmas is kept together with them; that saves names and citations, and a person writes it
+//! so. But the conditions of a step are joint, and conjuncts of several cases each may make them too wide, so it is asked first whether
+//! they are decided.
 
 use crate::ground::{Ground, Needs};
 use crate::steps::uses_of_layer;

@@ -169,7 +169,7 @@ fn sum_of(alloc: Global, measures: &[Lin]) -> Result<Lin, CubeFault> {
 }
 
 /// The first measure that falls on each way round, else the sum of all, if it does.
-fn falling(
+fn first_falling(
     alloc: Global,
     search: &mut Search<'_>,
     web: Web<'_>,
@@ -342,7 +342,7 @@ fn ranks_for(
 ) -> Result<Option<Ranks>, CubeFault> {
     let candidates = candidates(alloc, search, variables)?;
     let measures = measures(alloc, search, web, &candidates)?;
-    let falling = falling(alloc, search, web, &measures)?;
+    let falling = first_falling(alloc, search, web, &measures)?;
     match falling.first() {
         Some(falling) => ranks_by(alloc, search, setting, web, falling, marks),
         None => Ok(None),

@@ -101,11 +101,7 @@ fn left_around<'a>(
 }
 
 /// Leaves of the proof what `step` refuses as `find` does.
-fn leave_fault<'a>(
-    alloc: Global,
-    given: &mut Given<'a>,
-    fault: ScriptFault,
-) -> Result<(), Memory> {
+fn leave_fault<'a>(alloc: Global, given: &mut Given<'a>, fault: ScriptFault) -> Result<(), Memory> {
     let ScriptFault::At(_, place) = fault else {
         return Err(Memory);
     };

@@ -3,7 +3,7 @@ use Rattle.std.proofs.Common.{◌≡◌, ℕ, suc, ◌+◌, ◌<◌, Bool, true,
 use Rattle.st_tokens.specs.Stream.{◌++>◌, Lexeme, Stream, ends, text_stream}
 use Rattle.st_reading.specs.Reading.{◌>>=◌, other, Label, then_reads, gives, at_end}
 use Rattle.st_reading.specs.Faults.{Passed}
-use Rattle.st_reading.proofs.ListCompleteness.{AllFit}
+use Rattle.st_reading.proofs.ListCompleteness.{all_after, AllFit}
 use Rattle.expression_parser.specs.Calm.{calm, calm_but}
 use Rattle.expression_parser.specs.Grammar.{SpellsWithin}
 use Rattle.spl_parser.specs.ProgramTree.{Declaration, Process, Program}
@@ -16,12 +16,12 @@ use Rattle.program_limits.specs.Order.{program_counts, AreWithin, IsFirstPassed}
 use Rattle.program_limits.specs.Theorems.{SpellsShallow, IsAnswered, LimitsInOrder}
 use Rattle.program_limits.proofs.Walking.{walk, Meets, fits, passes}
 use Rattle.program_limits.proofs.ProgramsBeside.{freely, Meeting, spelled_meets}
-use Rattle.program_limits.proofs.Within.{walk_within, within_walk, walk_first, first_walk}
+use Rattle.program_limits.proofs.Within.{numbers, walk_within, within_walk, walk_first, first_walk}
 
 -- EACH PROGRAM FITS WHERE NOTHING IS LIMITED
-module _ (round : ℕ) where
+module _ (o round : ℕ) where
   abbrev free : Limits
-  free = freely usual round
+  free = freely (numbers o) round
 
   names_fit : (ls : List Label) (n : ℕ) → AllFit name_after (NameFits free) ls n
   names_fit [] n = tt
@@ -35,14 +35,44 @@ module _ (round : ℕ) where
   processes_fit [] t = tt
   processes_fit (p ∷ ps) t = ((refl, declarations_fit p.declarations t.variables, λ k a b. refl), processes_fit ps (process_after p t))
 
-  program_fits : (x : Program) → ProgramFits free x
-  program_fits x = (declarations_fit x.declarations 0, processes_fit x.processes (totals 0 (declarations_fit_end x) 0))
-    where
-      declarations_fit_end : Program → ℕ
-      declarations_fit_end x = 0
+  pub program_fits : (x : Program) → ProgramFits free x
+  program_fits x = (declarations_fit x.declarations 0, processes_fit x.processes (totals 0 (all_after declaration_after x.declarations 0) 0))
 
 -- what is spelled, whatever it has, is met from the beginning
 pub spelled_meeting : (ts : List Lexeme) (x : Program) (q : ℕ) → (l : SpellsShallow ts x) → Meeting usual (l.0 + 33) (omega arith) refl (ts ++> ends q) x (ends q)
 unfolding calm calm_but
 spelled_meeting ts x q l =
-    spelled_meets usual (l.0 + 33) (omega arith) refl (ts ++> ends q) x (ends q) (spelled_complete (freely usual (l.0 + 33)) 32 l.0 (omega arith) (omega arith) ts x l.1 (program_fits (l.0 + 33) x) (ends q) refl)
+    spelled_meets usual (l.0 + 33) (omega arith) refl (ts ++> ends q) x (ends q) (spelled_complete (freely usual (l.0 + 33)) 32 l.0 (omega arith) (omega arith) ts x l.1 (program_fits 32 (l.0 + 33) x) (ends q) refl)
+
+-- A WHOLE TEXT
+whole_read : (s : Stream) (x : Program) (q : ℕ) → spelled_of usual s ≡ Ok (x, ends q) → program_of usual s ≡ Ok (x, ends q)
+unfolding program_of at_end
+whole_read s x q h = ap (λ z. z >>= λ y. then_reads at_end (λ e. gives y.0) y.1) h
+
+whole_refused : (s : Stream) (c : Passed) → spelled_of usual s ≡ Err (other c) → program_of usual s ≡ Err (other c)
+unfolding program_of at_end
+whole_refused s c h = ap (λ z. z >>= λ y. then_reads at_end (λ e. gives y.0) y.1) h
+
+module _ (text : List ℕ) (ts : List Lexeme) (x : Program) (q : ℕ) (is : text_stream text ≡ ts ++> ends q) where
+  text_read : spelled_of usual (ts ++> ends q) ≡ Ok (x, ends q) → parsed text ≡ Ok x
+  text_read h = ap alone (ap (program_of usual) is ∙ whole_read (ts ++> ends q) x q h)
+
+  text_refused : (c : Passed) → spelled_of usual (ts ++> ends q) ≡ Err (other c) → parsed text ≡ Err (other c)
+  text_refused c h = ap alone (ap (program_of usual) is ∙ whole_refused (ts ++> ends q) c h)
+
+  answered : (u : Totals) → Meets usual (spelled_of usual (ts ++> ends q)) x (ends q) (program_counts x) (totals 0 0 0) u → IsAnswered text x
+  answered u (fits w e) =
+      let good = text_read e in
+      record {
+        taken = (λ h. walk_within 32 (program_counts x) u w, λ h. good);
+        refused = λ c. (λ h. let k : Ok x ≡ Err (other c) = sym good ∙ h in cc, λ f. let k : Ok u ≡ Err c = sym w ∙ first_walk 32 (program_counts x) c f in cc);
+      }
+  answered u (passes d w e) =
+      let bad = text_refused d e in
+      record {
+        taken = (λ h. let k : Err (other d) ≡ Ok x = sym bad ∙ h in cc, λ h. absurd (within_walk 32 (program_counts x) d h w));
+        refused = λ c. (λ h. let k : Err (other d) ≡ Err (other c) = sym bad ∙ h in let same : d ≡ c = cc in subst (IsFirstPassed (program_counts x)) same (walk_first 32 (program_counts x) d w), λ f. let k : Err d ≡ Err c = sym w ∙ first_walk 32 (program_counts x) c f in let same : d ≡ c = cc in bad ∙ ap (λ z. Err (other z)) same);
+      }
+
+pub limits_in_order : LimitsInOrder
+limits_in_order text ts x has l = let m = spelled_meeting ts x has.0 l in answered text ts x has.0 has.1 m.now m.meets

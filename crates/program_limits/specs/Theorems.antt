@@ -1,11 +1,14 @@
 -- What is promised of the limits of programs.
-use Rattle.std.specs.Prelude.{◌≡◌, ℕ, false, List, Ok, Err, ◌↔◌}
-use Rattle.st_tokens.specs.Stream.{Lexeme}
+use Rattle.std.specs.Prelude.{◌≡◌, ℕ, false, List, ◌++◌, Ok, Err, ◌↔◌}
+use Rattle.st_tokens.specs.declared.limit.LimitKind.{LimitKind}
+use Rattle.st_tokens.specs.declared.limit.LimitKind.TheVariants as limits
+use Rattle.st_tokens.specs.Stream.{◌++>◌, Lexeme, Stream, text_stream}
 use Rattle.st_reading.specs.Reading.{other}
-use Rattle.st_reading.specs.Faults.{Passed}
+use Rattle.st_reading.specs.Faults.{Passed, passed}
+use Rattle.st_reading.specs.Theorem.{Begins}
 use Rattle.expression_parser.specs.Grammar.{SpellsWithin}
 use Rattle.spl_parser.specs.ProgramTree.{Program}
-use Rattle.spl_parser.specs.Grammar.{Low, IsProgram}
+use Rattle.spl_parser.specs.Grammar.{Low, IsProgram, SpellsProgram}
 use Rattle.spl_parser.specs.Theorems.{HasTokens}
 use Rattle.spl_parser.specs.Parsing.{parsed}
 use Rattle.program_limits.specs.Order.{program_counts, AreWithin, IsFirstPassed}
@@ -23,3 +26,26 @@ pub record IsAnswered (text : List ℕ) (x : Program) : Type 0 where
 
 abbrev pub LimitsInOrder : Type 0
 LimitsInOrder = (text : List ℕ) (ts : List Lexeme) (x : Program) → HasTokens text ts → SpellsShallow ts x → IsAnswered text x
+
+-- The first tokens of s settle that a limit is passed: some program begins so, and each that does passes this limit first, there.
+pub record IsSettled (s : Stream) (c : Passed) : Type 0 where
+  pub text : List Lexeme
+  pub rest : Stream
+  pub is : s ≡ text ++> rest
+  pub begins : Begins SpellsProgram text
+  pub each : (us : List Lexeme) (x : Program) → SpellsProgram (text ++ us) x → IsFirstPassed (program_counts x) c
+
+-- the limits on numbers
+abbrev pub IsOnNumbers : LimitKind → Type 0
+IsOnNumbers limits.Variables = Unit {0}
+IsOnNumbers limits.Processes = Unit {0}
+IsOnNumbers limits.Statements = Unit {0}
+IsOnNumbers _ = ⊥
+
+-- A limit on a number is named only where the tokens read settle that it is passed, whatever comes behind them.
+abbrev pub LimitsAreSettled : Type 0
+LimitsAreSettled = (text : List ℕ) (kind : LimitKind) (place : ℕ) → IsOnNumbers kind → parsed text ≡ Err (other (passed kind place)) → IsSettled (text_stream text) (passed kind place)
+
+-- No text settles two.
+abbrev pub OneIsSettled : Type 0
+OneIsSettled = (s : Stream) (c d : Passed) → IsSettled s c → IsSettled s d → c ≡ d

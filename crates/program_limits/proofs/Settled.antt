@@ -1,0 +1,134 @@
+-- A limit on a number is named at a token over which programs go on, each of which passes it first.
+use Rattle.std.proofs.Common.{◌≡◌, ℕ, suc, ◌+◌, ◌≤◌, Bool, true, List, [], ◌∷◌, ◌++◌, Option, Some, None, Result, Ok, Err, ◌⊎◌, inl, inr, refl, sym, ap, subst, ◌∙◌, append_assoc, arith}
+use Rattle.st_tokens.specs.declared.limit.LimitKind.{LimitKind}
+use Rattle.st_tokens.specs.declared.limit.LimitKind.TheVariants as limits
+use Rattle.st_tokens.specs.Stream.{◌++>◌, Lexeme, Stream, ends, breaks, more, text_stream}
+use Rattle.st_reading.specs.Reading.{Stop, syntax, broken, other, Read, ◌>>=◌, refusal, then_reads, gives, at_end}
+use Rattle.st_reading.specs.Faults.{Passed, passed}
+use Rattle.st_reading.specs.Steady.{head, Viable, Cause, refused, over, SteadyAt, both, stops}
+use Rattle.st_reading.specs.Theorem.{Begins}
+use Rattle.st_reading.proofs.Streams.{append_stream, more_parts, same_text}
+use Rattle.st_reading.proofs.Lifting.{Lifted}
+use Rattle.expression_parser.specs.Calm.{calm, calm_but}
+use Rattle.expression_parser.specs.Grammar.{SpellsWithin}
+use Rattle.spl_parser.specs.ProgramTree.{Program}
+use Rattle.spl_parser.specs.Grammar.{Low, IsProgram, SpellsProgram}
+use Rattle.spl_parser.specs.Programs.{Limits, Totals, totals, spelled_of, program_of, usual}
+use Rattle.spl_parser.specs.Parsing.{alone, parsed}
+use Rattle.spl_parser.proofs.BodyLaw.{apart}
+use Rattle.spl_parser.proofs.ProgramLaw.{beyond, no_mode, lawful_program, quiet_apart}
+use Rattle.spl_parser.proofs.ProgramSoundness.{spelled_sound}
+use Rattle.spl_parser.proofs.ProgramCompleteness.{spelled_complete}
+use Rattle.spl_parser.proofs.ProgramLifting.{AsLarge, spelled_lifts}
+use Rattle.program_limits.specs.Order.{program_counts, IsFirstPassed}
+use Rattle.program_limits.specs.Theorems.{IsSettled, IsOnNumbers, LimitsAreSettled, OneIsSettled}
+use Rattle.program_limits.proofs.Walking.{walk, Meets, fits, passes}
+use Rattle.program_limits.proofs.ProgramsBeside.{freely, Meeting, spelled_meets}
+use Rattle.program_limits.proofs.Within.{numbers, walk_first, first_walk}
+use Rattle.program_limits.proofs.Whole.{program_fits}
+
+-- SOME PROGRAM BEGINS SO
+begins_so : (ts : List Lexeme) → Viable no_mode apart (spelled_of (beyond usual 0)) ts → Begins SpellsProgram ts
+begins_so ts v =
+    let c = spelled_sound (beyond usual 0) (ts ++> (v.others ++> ends 0)) v.value (ends 0) (v.reads (ends 0) (quiet_apart usual)) in
+    let e = same_text (ts ++ v.others) c.text 0 (append_stream ts v.others (ends 0) ∙ c.is) in
+    (v.others, v.spelled, v.value, ((beyond usual 0).opened, suc (beyond usual 0).round, subst (λ (z : List Lexeme). IsProgram (SpellsWithin false (beyond usual 0).opened) (Low (SpellsWithin false (beyond usual 0).opened) (suc (beyond usual 0).round)) z v.value) (sym e) c.spells))
+
+-- EACH THAT DOES PASSES THE LIMIT FIRST
+-- not that on nesting
+abbrev OnNumbers : Passed → Type 0
+OnNumbers (passed kind place) = IsOnNumbers kind
+
+as_large : (o : ℕ) → AsLarge OnNumbers usual (numbers (32 + o))
+as_large o = record { variables = inl (λ k. refl); processes = inl (λ k. refl); statements = inl (λ k. refl); opened = inr (omega arith, (λ place h. h)); round = inl refl }
+
+passes_first : (c : Passed) → OnNumbers c → (ts : List Lexeme) (x : Program) → SpellsProgram ts x → spelled_of usual (ts ++> ends 0) ≡ Err (other c) → IsFirstPassed (program_counts x) c
+unfolding calm calm_but
+passes_first c keep ts x l h = at_meeting m.now m.meets
+  where
+    limit : Limits
+    limit = numbers (32 + l.0)
+
+    m : Meeting limit (l.1 + 33) (omega arith) refl (ts ++> ends 0) x (ends 0)
+    m = spelled_meets limit (l.1 + 33) (omega arith) refl (ts ++> ends 0) x (ends 0) (spelled_complete (freely limit (l.1 + 33)) l.0 l.1 (omega arith) (omega arith) ts x l.2 (program_fits (32 + l.0) (l.1 + 33) x) (ends 0) refl)
+
+    bad : spelled_of limit (ts ++> ends 0) ≡ Err (other c)
+    bad = subst (λ o. Lifted OnNumbers o (spelled_of limit (ts ++> ends 0))) h (spelled_lifts OnNumbers usual limit (as_large l.0) (ts ++> ends 0)) keep
+
+    at_meeting : (u : Totals) → Meets limit (spelled_of limit (ts ++> ends 0)) x (ends 0) (program_counts x) (totals 0 0 0) u → IsFirstPassed (program_counts x) c
+    at_meeting u (fits w e) = let k : Ok (x, ends 0) ≡ Err (other c) = sym e ∙ bad in cc
+    at_meeting u (passes d w e) = let k : Err (other d) ≡ Err (other c) = sym e ∙ bad in let same : d ≡ c = cc in subst (IsFirstPassed (program_counts x)) same (walk_first (32 + l.0) (program_counts x) d w)
+
+-- WHERE THE READER STOPS
+no_refusal : (rest : Stream) (f : Stop Passed) (c : Passed) → f ≡ refusal rest → f ≡ other c → ⊥
+no_refusal (ends q) f c e h = let k : syntax q ≡ other c = sym e ∙ h in cc
+no_refusal (breaks g) f c e h = let k : broken g ≡ other c = sym e ∙ h in cc
+no_refusal (more t s) f c e h = let k : syntax t.start ≡ other c = sym e ∙ h in cc
+
+module _ (s : Stream) (c : Passed) (keep : OnNumbers c) where
+  met_over : (ts : List Lexeme) (t : Lexeme) (after : Stream) → s ≡ ts ++> more t after → ((z : Stream) → spelled_of usual (ts ++> more t z) ≡ Err (other c)) → Viable no_mode apart (spelled_of (beyond usual 0)) (ts ++ t ∷ []) → IsSettled s c
+  met_over ts t after e same v = record {
+    text = ts ++ t ∷ [];
+    rest = after;
+    is = e ∙ sym (append_stream ts (t ∷ []) after);
+    begins = begins_so (ts ++ t ∷ []) v;
+    each = λ us x l. passes_first c keep ((ts ++ t ∷ []) ++ us) x l (ap (spelled_of usual) (append_stream (ts ++ t ∷ []) us (ends 0) ∙ append_stream ts (t ∷ []) (us ++> ends 0)) ∙ same (us ++> ends 0));
+  }
+
+  met_for : (ts : List Lexeme) (f : Stop Passed) (rest : Stream) → s ≡ ts ++> rest → f ≡ other c → ((after : Stream) → head after ≡ head rest → spelled_of usual (ts ++> after) ≡ Err f) → Cause no_mode apart (λ i. spelled_of (beyond usual i)) ts f rest → IsSettled s c
+  met_for ts f rest e h same (refused is k) = absurd (no_refusal rest f c is h)
+  met_for ts f rest e h same (over x t after is next v) = met_over ts t after (e ∙ ap (λ m. ts ++> m) next) (λ z. same (more t z) (sym (ap head next)) ∙ ap Err h) (v 0)
+
+  met_at : spelled_of usual s ≡ Err (other c) → SteadyAt no_mode apart (spelled_of usual) (λ i. spelled_of (beyond usual i)) s → IsSettled s c
+  met_at h (both ts x rest is go1 go2) = let good : spelled_of usual s ≡ Ok (x, rest) = ap (spelled_of usual) is ∙ go1 rest (inl refl) in cc
+  met_at h (stops ts g rest is same v cause) =
+      let bad : spelled_of usual s ≡ Err g = ap (spelled_of usual) is ∙ same rest refl in
+      let same_fault : g ≡ other c = cc in
+      met_for ts g rest is same_fault same cause
+
+  met_whole : (o : Read Passed Program) → o ≡ spelled_of usual s → (o >>= λ x. then_reads at_end (λ e. gives x.0) x.1) ≡ Err (other c) → IsSettled s c
+  unfolding at_end
+  met_whole (Err g) e h = let same : g ≡ other c = cc in met_at (sym e ∙ ap Err same) ((lawful_program usual).law s)
+  met_whole (Ok (x, ends q)) e h = cc
+  met_whole (Ok (x, breaks g)) e h = cc
+  met_whole (Ok (x, more t after)) e h = cc
+
+  met_there : program_of usual s ≡ Err (other c) → IsSettled s c
+  unfolding program_of
+  met_there h = met_whole (spelled_of usual s) refl h
+
+refused_alone : {A : Type 0} (o : Read Passed A) (f : Stop Passed) → alone o ≡ Err f → o ≡ Err f
+refused_alone (Ok x) f h = cc
+refused_alone (Err g) f h = let e : g ≡ f = cc in ap Err e
+
+pub limits_are_settled : LimitsAreSettled
+limits_are_settled text kind place on h = met_there (text_stream text) (passed kind place) on (refused_alone (program_of usual (text_stream text)) (other (passed kind place)) h)
+
+-- NO TEXT SETTLES TWO
+-- of two beginnings of one stream, one begins the other
+nested : (a b : List Lexeme) (m n : Stream) → a ++> m ≡ b ++> n → ((d : List Lexeme) × (b ≡ a ++ d)) ⊎ ((d : List Lexeme) × (a ≡ b ++ d))
+nested [] b m n h = inl (b, refl)
+nested (t ∷ a) [] m n h = inr (t ∷ a, refl)
+nested (t ∷ a) (u ∷ b) m n h = let k = more_parts t u (a ++> m) (b ++> n) h in further k.0 (nested a b m n k.1)
+  where
+    further : t ≡ u → ((d : List Lexeme) × (b ≡ a ++ d)) ⊎ ((d : List Lexeme) × (a ≡ b ++ d)) → ((d : List Lexeme) × (u ∷ b ≡ (t ∷ a) ++ d)) ⊎ ((d : List Lexeme) × (t ∷ a ≡ (u ∷ b) ++ d))
+    further e (inl (d, f)) = inl (d, ap (λ w. w ∷ b) (sym e) ∙ ap (λ z. t ∷ z) f)
+    further e (inr (d, f)) = inr (d, ap (λ w. w ∷ a) e ∙ ap (λ z. u ∷ z) f)
+
+same_first : (x : Program) (c d : Passed) → IsFirstPassed (program_counts x) c → IsFirstPassed (program_counts x) d → c ≡ d
+same_first x c d f g = let k : Err c ≡ Err d = sym (first_walk 32 (program_counts x) c f) ∙ first_walk 32 (program_counts x) d g in cc
+
+-- the shorter one settles what the longer one does
+settled_alike : (s : Stream) (c d : Passed) (a : IsSettled s c) (b : IsSettled s d) → (e : List Lexeme) → b.text ≡ a.text ++ e → c ≡ d
+settled_alike s c d a b e is =
+    let us = b.begins.0 in
+    let x = b.begins.2 in
+    let l = b.begins.3 in
+    same_first x c d (a.each (e ++ us) x (subst (λ (z : List Lexeme). SpellsProgram z x) (ap (λ w. w ++ us) is ∙ append_assoc a.text e us) l)) (b.each us x l)
+
+pub one_limit_is_settled : OneIsSettled
+one_limit_is_settled s c d a b = at (nested a.text b.text a.rest b.rest (sym a.is ∙ b.is))
+  where
+    at : ((e : List Lexeme) × (b.text ≡ a.text ++ e)) ⊎ ((e : List Lexeme) × (a.text ≡ b.text ++ e)) → c ≡ d
+    at (inl (e, is)) = settled_alike s c d a b e is
+    at (inr (e, is)) = sym (settled_alike s d c b a e is)

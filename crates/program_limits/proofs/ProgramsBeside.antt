@@ -37,6 +37,11 @@ module _ (limit : Limits) {A : Type 0} (t u : Totals) (before : List Passed) (ev
   name_beside (breaks g) = beside_fault limit t before ev st (Err (refusal (breaks g))) (refusal (breaks g))
   name_beside (more l s) = name_at l s (is_name (sign_of l))
 
+-- what is counted in a program is met from the beginning
+pub record Meeting (limit : Limits) (s : Stream) (x : Program) (rest : Stream) : Type 0 where
+  pub now : Totals
+  pub meets : Meets limit (spelled_of limit s) x rest (program_counts x) (totals 0 0 0) now
+
 module _ (limit : Limits) (round : ℕ) where
   abbrev free : Limits
   free = freely limit round
@@ -110,7 +115,7 @@ module _ (limit : Limits) (round : ℕ) where
       body_beside33 : (p v n : ℕ) (before : List Passed) → Besides limit (totals p v n) before (λ b. before ++ body_counts 33 b.0) (λ b. totals p v b.1) (body_at limit n) (body_at (freely limit round) n)
       body_beside33 p v n before = subst (λ k. Besides limit (totals p v n) before (λ b. before ++ body_counts k b.0) (λ b. totals p v b.1) (body_at limit n) (body_at (freely limit round) n)) usually (program_body p v n before)
 
-      process_is : (before : List Passed) (place : ℕ) (a b : List Passed) → ((before ++ passed limits.Processes place ∷ []) ++ a) ++ b ≡ before ++ passed limits.Processes place ∷ a ++ b
+      process_is : (before : List Passed) (place : ℕ) (a b : List Passed) → ((before ++ passed limits.Processes place ∷ []) ++ a) ++ b ≡ before ++ (passed limits.Processes place ∷ (a ++ b))
       process_is before place a b = append_assoc (before ++ passed limits.Processes place ∷ []) a b ∙ append_assoc before (passed limits.Processes place ∷ []) (a ++ b)
 
       headed_beside : (t : Totals) (name : Label) (before : List Passed) → Besides limit (totals (t.processes + 1) t.variables t.statements) (before ++ passed limits.Processes name.place ∷ []) (λ x. before ++ process_counts x.0) (λ x. x.1) (headed limit t name) (headed (freely limit round) t name)
@@ -142,12 +147,10 @@ module _ (limit : Limits) (round : ℕ) where
       abbrev made_of : Counted (List Declaration) → Carried Totals (List Process) → Program
       made_of ds ps = record { declarations = ds.0; processes = ps.0 }
 
-      -- what is counted in a program is met from the beginning
-      pub record Meeting (s : Stream) (x : Program) (rest : Stream) : Type 0 where
-        pub now : Totals
-        pub meets : Meets limit (spelled_of limit s) x rest (program_counts x) (totals 0 0 0) now
+      joined : (a b first both all : List Passed) → first ≡ a → both ≡ first ++ b → both ≡ all → a ++ (b ++ []) ≡ all
+      joined a b first both all e f g = ap (λ z. a ++ z) (append-nil b) ∙ ap (λ z. z ++ b) (sym e) ∙ sym f ∙ g
 
-      pub spelled_meets : (s : Stream) (x : Program) (rest : Stream) → spelled_of (freely limit round) s ≡ Ok (x, rest) → Meeting s x rest
+      pub spelled_meets : (s : Stream) (x : Program) (rest : Stream) → spelled_of (freely limit round) s ≡ Ok (x, rest) → Meeting limit s x rest
       unfolding spelled_of
       spelled_meets s x rest h =
           let k = split (declarations_of free 0) (λ ds. then_reads (processes_of free (totals 0 ds.1 0)) (λ ps. gives (made_of ds ps))) s x rest h in
@@ -155,8 +158,8 @@ module _ (limit : Limits) (round : ℕ) where
           let w = values {X = Passed} (gives (made_of k.value m.value) m.middle) (made_of k.value m.value) x m.middle rest refl m.second in
           let a = declarations_beside 0 0 0 [] s k.value k.middle k.first in
           let b = processes_beside (totals 0 k.value.1 0) (all_counts declaration_counts k.value.0) k.middle m.value m.middle m.first in
-          let is : a.counts ++ (b.counts ++ []) ≡ program_counts x =
-              ap (λ z. a.counts ++ z) (append-nil b.counts) ∙ ap (λ z. z ++ b.counts) (sym a.is) ∙ sym b.is ∙ ap program_counts w.0 in
+          let same : program_counts (made_of k.value m.value) ≡ program_counts x = ap program_counts w.0 in
+          let is = joined a.counts b.counts (all_counts declaration_counts k.value.0) (all_counts declaration_counts k.value.0 ++ all_counts process_counts m.value.0) (program_counts x) a.is b.is same in
           record {
             now = m.value.1;
             meets = subst (λ cs. Meets limit (spelled_of limit s) x rest cs (totals 0 0 0) m.value.1) is

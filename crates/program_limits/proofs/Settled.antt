@@ -1,5 +1,5 @@
 -- A limit on a number is named at a token over which programs go on, each of which passes it first.
-use Rattle.std.proofs.Common.{◌≡◌, ℕ, suc, ◌+◌, ◌≤◌, Bool, true, List, [], ◌∷◌, ◌++◌, Option, Some, None, Result, Ok, Err, ◌⊎◌, inl, inr, refl, sym, ap, subst, ◌∙◌, append_assoc, arith}
+use Rattle.std.proofs.Common.{◌≡◌, ℕ, suc, ◌+◌, ◌≤◌, Bool, true, false, List, [], ◌∷◌, ◌++◌, Option, Some, None, Result, Ok, Err, ◌⊎◌, inl, inr, refl, sym, ap, subst, ◌∙◌, append_assoc, arith}
 use Rattle.st_tokens.specs.declared.limit.LimitKind.{LimitKind}
 use Rattle.st_tokens.specs.declared.limit.LimitKind.TheVariants as limits
 use Rattle.st_tokens.specs.Stream.{◌++>◌, Lexeme, Stream, ends, breaks, more, text_stream}
@@ -9,7 +9,6 @@ use Rattle.st_reading.specs.Steady.{head, Viable, Cause, refused, over, SteadyAt
 use Rattle.st_reading.specs.Theorem.{Begins}
 use Rattle.st_reading.proofs.Streams.{append_stream, more_parts, same_text}
 use Rattle.st_reading.proofs.Lifting.{Lifted}
-use Rattle.expression_parser.specs.Calm.{calm, calm_but}
 use Rattle.expression_parser.specs.Grammar.{SpellsWithin}
 use Rattle.spl_parser.specs.ProgramTree.{Program}
 use Rattle.spl_parser.specs.Grammar.{Low, IsProgram, SpellsProgram}
@@ -18,14 +17,12 @@ use Rattle.spl_parser.specs.Parsing.{alone, parsed}
 use Rattle.spl_parser.proofs.BodyLaw.{apart}
 use Rattle.spl_parser.proofs.ProgramLaw.{beyond, no_mode, lawful_program, quiet_apart}
 use Rattle.spl_parser.proofs.ProgramSoundness.{spelled_sound}
-use Rattle.spl_parser.proofs.ProgramCompleteness.{spelled_complete}
 use Rattle.spl_parser.proofs.ProgramLifting.{AsLarge, spelled_lifts}
 use Rattle.program_limits.specs.Order.{program_counts, IsFirstPassed}
 use Rattle.program_limits.specs.Theorems.{IsSettled, IsOnNumbers, LimitsAreSettled, OneIsSettled}
 use Rattle.program_limits.proofs.Walking.{walk, Meets, fits, passes}
-use Rattle.program_limits.proofs.ProgramsBeside.{freely, Meeting, spelled_meets}
 use Rattle.program_limits.proofs.Within.{numbers, walk_first, first_walk}
-use Rattle.program_limits.proofs.Whole.{program_fits}
+use Rattle.program_limits.proofs.Whole.{spelled_meeting}
 
 -- SOME PROGRAM BEGINS SO
 begins_so : (ts : List Lexeme) → Viable no_mode apart (spelled_of (beyond usual 0)) ts → Begins SpellsProgram ts
@@ -42,22 +39,18 @@ OnNumbers (passed kind place) = IsOnNumbers kind
 as_large : (o : ℕ) → AsLarge OnNumbers usual (numbers (32 + o))
 as_large o = record { variables = inl (λ k. refl); processes = inl (λ k. refl); statements = inl (λ k. refl); opened = inr (omega arith, (λ place h. h)); round = inl refl }
 
+met_first : (o : ℕ) (c : Passed) (s : Stream) (x : Program) (rest : Stream) (u : Totals) → spelled_of (numbers o) s ≡ Err (other c) → Meets (numbers o) (spelled_of (numbers o) s) x rest (program_counts x) (totals 0 0 0) u → IsFirstPassed (program_counts x) c
+met_first o c s x rest u bad (fits w e) = cc
+met_first o c s x rest u bad (passes d w e) = let same : d ≡ c = cc in subst (IsFirstPassed (program_counts x)) same (walk_first o (program_counts x) d w)
+
+-- with more levels of formulas the same limit is passed
+as_deep : (o : ℕ) (c : Passed) (s : Stream) → OnNumbers c → spelled_of usual s ≡ Err (other c) → spelled_of (numbers (32 + o)) s ≡ Err (other c)
+as_deep o c s keep h = subst (λ r. Lifted OnNumbers r (spelled_of (numbers (32 + o)) s)) h (spelled_lifts OnNumbers usual (numbers (32 + o)) (as_large o) s) keep
+
 passes_first : (c : Passed) → OnNumbers c → (ts : List Lexeme) (x : Program) → SpellsProgram ts x → spelled_of usual (ts ++> ends 0) ≡ Err (other c) → IsFirstPassed (program_counts x) c
-unfolding calm calm_but
-passes_first c keep ts x l h = at_meeting m.now m.meets
-  where
-    limit : Limits
-    limit = numbers (32 + l.0)
-
-    m : Meeting limit (l.1 + 33) (omega arith) refl (ts ++> ends 0) x (ends 0)
-    m = spelled_meets limit (l.1 + 33) (omega arith) refl (ts ++> ends 0) x (ends 0) (spelled_complete (freely limit (l.1 + 33)) l.0 l.1 (omega arith) (omega arith) ts x l.2 (program_fits (32 + l.0) (l.1 + 33) x) (ends 0) refl)
-
-    bad : spelled_of limit (ts ++> ends 0) ≡ Err (other c)
-    bad = subst (λ o. Lifted OnNumbers o (spelled_of limit (ts ++> ends 0))) h (spelled_lifts OnNumbers usual limit (as_large l.0) (ts ++> ends 0)) keep
-
-    at_meeting : (u : Totals) → Meets limit (spelled_of limit (ts ++> ends 0)) x (ends 0) (program_counts x) (totals 0 0 0) u → IsFirstPassed (program_counts x) c
-    at_meeting u (fits w e) = let k : Ok (x, ends 0) ≡ Err (other c) = sym e ∙ bad in cc
-    at_meeting u (passes d w e) = let k : Err (other d) ≡ Err (other c) = sym e ∙ bad in let same : d ≡ c = cc in subst (IsFirstPassed (program_counts x)) same (walk_first (32 + l.0) (program_counts x) d w)
+passes_first c keep ts x l h =
+    let m = spelled_meeting (32 + l.0) l.0 l.1 (omega arith) ts x 0 l.2 in
+    met_first (32 + l.0) c (ts ++> ends 0) x (ends 0) m.now (as_deep l.0 c (ts ++> ends 0) keep h) m.meets
 
 -- WHERE THE READER STOPS
 no_refusal : (rest : Stream) (f : Stop Passed) (c : Passed) → f ≡ refusal rest → f ≡ other c → ⊥
@@ -116,7 +109,7 @@ nested (t ∷ a) (u ∷ b) m n h = let k = more_parts t u (a ++> m) (b ++> n) h 
     further e (inr (d, f)) = inr (d, ap (λ w. w ∷ a) e ∙ ap (λ z. u ∷ z) f)
 
 same_first : (x : Program) (c d : Passed) → IsFirstPassed (program_counts x) c → IsFirstPassed (program_counts x) d → c ≡ d
-same_first x c d f g = let k : Err c ≡ Err d = sym (first_walk 32 (program_counts x) c f) ∙ first_walk 32 (program_counts x) d g in cc
+same_first x c d f g = let h = first_walk 32 (program_counts x) c f in let k = first_walk 32 (program_counts x) d g in cc
 
 -- the shorter one settles what the longer one does
 settled_alike : (s : Stream) (c d : Passed) (a : IsSettled s c) (b : IsSettled s d) → (e : List Lexeme) → b.text ≡ a.text ++ e → c ≡ d

@@ -1,5 +1,5 @@
 -- A text that spells a program is read to it, or refused for the first limit that it passes.
-use Rattle.std.proofs.Common.{◌≡◌, ℕ, suc, ◌+◌, ◌<◌, Bool, true, List, [], ◌∷◌, Option, Some, None, Result, Ok, Err, refl, sym, ap, subst, ◌∙◌, arith}
+use Rattle.std.proofs.Common.{◌≡◌, ℕ, suc, ◌+◌, ◌≤◌, Bool, true, false, List, [], ◌∷◌, Option, Some, None, Result, Ok, Err, refl, sym, ap, subst, ◌∙◌, arith}
 use Rattle.st_tokens.specs.Stream.{◌++>◌, Lexeme, Stream, ends, text_stream}
 use Rattle.st_reading.specs.Reading.{◌>>=◌, other, Label, then_reads, gives, at_end}
 use Rattle.st_reading.specs.Faults.{Passed}
@@ -38,11 +38,11 @@ module _ (o round : ℕ) where
   pub program_fits : (x : Program) → ProgramFits free x
   program_fits x = (declarations_fit x.declarations 0, processes_fit x.processes (totals 0 (all_after declaration_after x.declarations 0) 0))
 
--- what is spelled, whatever it has, is met from the beginning
-pub spelled_meeting : (ts : List Lexeme) (x : Program) (q : ℕ) → (l : SpellsShallow ts x) → Meeting usual (l.0 + 33) (omega arith) refl (ts ++> ends q) x (ends q)
+-- What is spelled, whatever it has, is met from the beginning.
+pub spelled_meeting : (o opened round : ℕ) → opened ≤ o → (ts : List Lexeme) (x : Program) (q : ℕ) → IsProgram (SpellsWithin false opened) (Low (SpellsWithin false opened) round) ts x → Meeting (numbers o) (ts ++> ends q) x (ends q)
 unfolding calm calm_but
-spelled_meeting ts x q l =
-    spelled_meets usual (l.0 + 33) (omega arith) refl (ts ++> ends q) x (ends q) (spelled_complete (freely usual (l.0 + 33)) 32 l.0 (omega arith) (omega arith) ts x l.1 (program_fits 32 (l.0 + 33) x) (ends q) refl)
+spelled_meeting o opened round le ts x q l =
+    spelled_meets (numbers o) (round + 33) (omega arith) refl (ts ++> ends q) x (ends q) (spelled_complete (freely (numbers o) (round + 33)) opened round le (omega arith) ts x l (program_fits o (round + 33) x) (ends q) refl)
 
 -- A WHOLE TEXT
 whole_read : (s : Stream) (x : Program) (q : ℕ) → spelled_of usual s ≡ Ok (x, ends q) → program_of usual s ≡ Ok (x, ends q)
@@ -65,14 +65,14 @@ module _ (text : List ℕ) (ts : List Lexeme) (x : Program) (q : ℕ) (is : text
       let good = text_read e in
       record {
         taken = (λ h. walk_within 32 (program_counts x) u w, λ h. good);
-        refused = λ c. (λ h. let k : Ok x ≡ Err (other c) = sym good ∙ h in cc, λ f. let k : Ok u ≡ Err c = sym w ∙ first_walk 32 (program_counts x) c f in cc);
+        refused = λ c. (λ h. cc, λ f. let g = first_walk 32 (program_counts x) c f in cc);
       }
   answered u (passes d w e) =
       let bad = text_refused d e in
       record {
-        taken = (λ h. let k : Err (other d) ≡ Ok x = sym bad ∙ h in cc, λ h. absurd (within_walk 32 (program_counts x) d h w));
-        refused = λ c. (λ h. let k : Err (other d) ≡ Err (other c) = sym bad ∙ h in let same : d ≡ c = cc in subst (IsFirstPassed (program_counts x)) same (walk_first 32 (program_counts x) d w), λ f. let k : Err d ≡ Err c = sym w ∙ first_walk 32 (program_counts x) c f in let same : d ≡ c = cc in bad ∙ ap (λ z. Err (other z)) same);
+        taken = (λ h. cc, λ h. absurd (within_walk 32 (program_counts x) d h w));
+        refused = λ c. (λ h. let same : d ≡ c = cc in subst (IsFirstPassed (program_counts x)) same (walk_first 32 (program_counts x) d w), λ f. let g = first_walk 32 (program_counts x) c f in let same : d ≡ c = cc in bad ∙ ap (λ z. Err (other z)) same);
       }
 
 pub limits_in_order : LimitsInOrder
-limits_in_order text ts x has l = let m = spelled_meeting ts x has.0 l in answered text ts x has.0 has.1 m.now m.meets
+limits_in_order text ts x has l = let m = spelled_meeting 32 32 l.0 (omega arith) ts x has.0 l.1 in answered text ts x has.0 has.1 m.now m.meets

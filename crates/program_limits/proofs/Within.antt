@@ -6,7 +6,7 @@ use Rattle.st_tokens.specs.declared.limit.LimitKind.TheVariants as limits
 use Rattle.st_reading.specs.Reading.{◌>>=◌}
 use Rattle.st_reading.specs.Faults.{Passed, passed}
 use Rattle.spl_parser.specs.Programs.{Limits, Totals, totals}
-use Rattle.program_limits.specs.Order.{is_counted, how_many, AreWithin, IsFirstPassed}
+use Rattle.program_limits.specs.Order.{one_of, how_many, AreWithin, IsFirstPassed}
 use Rattle.program_limits.proofs.Walking.{step, walk, walk_append, walk_step}
 
 how_many_append : (kind : LimitKind) (a b : List Passed) → how_many kind (a ++ b) ≡ how_many kind a + how_many kind b
@@ -14,7 +14,7 @@ how_many_append kind [] b = omega arith
 how_many_append kind (c ∷ a) b = let e = how_many_append kind a b in omega (arith, e)
 
 -- with one more
-with_one : (kind : LimitKind) (a : List Passed) (c : Passed) (k : ℕ) → cond (is_counted kind c) 1 0 ≡ k → how_many kind (a ++ c ∷ []) ≡ how_many kind a + k
+with_one : (kind : LimitKind) (a : List Passed) (c : Passed) (k : ℕ) → one_of kind c ≡ k → how_many kind (a ++ c ∷ []) ≡ how_many kind a + k
 with_one kind a c k h = let e = how_many_append kind a (c ∷ []) in omega (arith, e, h)
 
 within_first : (a b : List Passed) → AreWithin (a ++ b) → AreWithin a
@@ -122,7 +122,7 @@ module _ (o : ℕ) where
     too_deep place = let n = with_one limits.Nesting cs (passed limits.Nesting place) 1 refl in off refl (λ z. let zn = z.nesting in absurd (omega (arith, n, zn)))
 
     -- what no limit of programs counts
-    uncounted : (c : Passed) → step (numbers o) t c ≡ Ok t → cond (is_counted limits.Variables c) 1 0 ≡ 0 → cond (is_counted limits.Processes c) 1 0 ≡ 0 → cond (is_counted limits.Statements c) 1 0 ≡ 0 → cond (is_counted limits.Nesting c) 1 0 ≡ 0 → Stepped cs t c
+    uncounted : (c : Passed) → step (numbers o) t c ≡ Ok t → one_of limits.Variables c ≡ 0 → one_of limits.Processes c ≡ 0 → one_of limits.Statements c ≡ 0 → one_of limits.Nesting c ≡ 0 → Stepped cs t c
     uncounted c e hv hp hs hn =
         let v = with_one limits.Variables cs c 0 hv in
         let p = with_one limits.Processes cs c 0 hp in
@@ -179,7 +179,7 @@ module _ (o : ℕ) where
     where
       at_walk : Walked (walk (numbers o) (totals 0 0 0) cs) cs → AreWithin cs
       at_walk (all_on v e y w) = w
-      at_walk (first_off c e f) = let k : Err c ≡ Ok u = sym e ∙ h in cc
+      at_walk (first_off c e f) = cc
 
   not_both : (cs : List Passed) (c : Passed) → IsFirstPassed cs c → AreWithin cs → ⊥
   not_both cs c f w = f.over (within_first (f.before ++ c ∷ []) f.further (subst AreWithin (f.is ∙ sym (append_assoc f.before (c ∷ []) f.further)) w))
@@ -188,15 +188,15 @@ module _ (o : ℕ) where
   within_walk cs c w h = at_walk (walked cs)
     where
       at_walk : Walked (walk (numbers o) (totals 0 0 0) cs) cs → ⊥
-      at_walk (all_on v e y z) = let k : Ok v ≡ Err c = sym e ∙ h in cc
+      at_walk (all_on v e y z) = cc
       at_walk (first_off d e f) = not_both cs d f w
 
   pub walk_first : (cs : List Passed) (c : Passed) → walk (numbers o) (totals 0 0 0) cs ≡ Err c → IsFirstPassed cs c
   walk_first cs c h = at_walk (walked cs)
     where
       at_walk : Walked (walk (numbers o) (totals 0 0 0) cs) cs → IsFirstPassed cs c
-      at_walk (all_on v e y z) = let k : Ok v ≡ Err c = sym e ∙ h in cc
-      at_walk (first_off d e f) = let k : Err d ≡ Err c = sym e ∙ h in let same : d ≡ c = cc in subst (IsFirstPassed cs) same f
+      at_walk (all_on v e y z) = cc
+      at_walk (first_off d e f) = let same : d ≡ c = cc in subst (IsFirstPassed cs) same f
 
   pub first_walk : (cs : List Passed) (c : Passed) → IsFirstPassed cs c → walk (numbers o) (totals 0 0 0) cs ≡ Err c
   first_walk cs c f = ap (walk (numbers o) (totals 0 0 0)) f.is ∙ walk_append (numbers o) f.before (c ∷ f.further) (totals 0 0 0) ∙ at_before (walked f.before)

@@ -64,7 +64,7 @@ declaration_counts d = all_counts name_counts d.names
 
 -- 32 statements may stand round one: it stands at the 33rd level
 abbrev pub process_counts : Process → List Passed
-process_counts p = passed limits.Processes p.name.place ∷ all_counts declaration_counts p.declarations ++ body_counts 33 p.body
+process_counts p = passed limits.Processes p.name.place ∷ (all_counts declaration_counts p.declarations ++ body_counts 33 p.body)
 
 abbrev pub program_counts : Program → List Passed
 program_counts x = all_counts declaration_counts x.declarations ++ all_counts process_counts x.processes
@@ -77,13 +77,13 @@ is_kind limits.Statements limits.Statements = true
 is_kind limits.Nesting limits.Nesting = true
 is_kind _ _ = false
 
--- whether it is counted by that limit
-abbrev pub is_counted : LimitKind → Passed → Bool
-is_counted kind (passed k place) = is_kind kind k
+-- 1 where it is counted by that limit
+abbrev pub one_of : LimitKind → Passed → ℕ
+one_of kind (passed k place) = cond (is_kind kind k) 1 0
 
 abbrev pub how_many : LimitKind → List Passed → ℕ
 how_many kind [] = 0
-how_many kind (c ∷ cs) = cond (is_counted kind c) 1 0 + how_many kind cs
+how_many kind (c ∷ cs) = one_of kind c + how_many kind cs
 
 -- the limits of programs
 pub record AreWithin (cs : List Passed) : Type 0 where

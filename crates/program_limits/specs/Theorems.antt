@@ -27,25 +27,24 @@ pub record IsAnswered (text : List ℕ) (x : Program) : Type 0 where
 abbrev pub LimitsInOrder : Type 0
 LimitsInOrder = (text : List ℕ) (ts : List Lexeme) (x : Program) → HasTokens text ts → SpellsShallow ts x → IsAnswered text x
 
--- The first tokens of s settle that a limit is passed: some program begins so, and each that does passes this limit first, there.
-pub record IsSettled (s : Stream) (c : Passed) : Type 0 where
+-- The first tokens of s settle for programs of L that a limit is passed: some program begins so, and each of L that does passes
+-- this limit first, there.
+pub record IsSettled (L : List Lexeme → Program → Type 0) (s : Stream) (c : Passed) : Type 0 where
   pub text : List Lexeme
   pub rest : Stream
   pub is : s ≡ text ++> rest
   pub begins : Begins SpellsProgram text
-  pub each : (us : List Lexeme) (x : Program) → SpellsProgram (text ++ us) x → IsFirstPassed (program_counts x) c
+  pub each : (us : List Lexeme) (x : Program) → L (text ++ us) x → IsFirstPassed (program_counts x) c
 
--- the limits on numbers
-abbrev pub IsOnNumbers : LimitKind → Type 0
-IsOnNumbers limits.Variables = Unit {0}
-IsOnNumbers limits.Processes = Unit {0}
-IsOnNumbers limits.Statements = Unit {0}
-IsOnNumbers _ = ⊥
+-- For which programs a limit is settled: for all; that on nesting, where no formula passes it.
+abbrev pub Concerned : LimitKind → List Lexeme → Program → Type 0
+Concerned limits.Nesting ts x = SpellsShallow ts x
+Concerned _ ts x = SpellsProgram ts x
 
--- A limit on a number is named only where the tokens read settle that it is passed, whatever comes behind them.
+-- A limit is named only where the tokens read settle that it is passed, whatever comes behind them.
 abbrev pub LimitsAreSettled : Type 0
-LimitsAreSettled = (text : List ℕ) (kind : LimitKind) (place : ℕ) → IsOnNumbers kind → parsed text ≡ Err (other (passed kind place)) → IsSettled (text_stream text) (passed kind place)
+LimitsAreSettled = (text : List ℕ) (kind : LimitKind) (place : ℕ) → parsed text ≡ Err (other (passed kind place)) → IsSettled (Concerned kind) (text_stream text) (passed kind place)
 
--- No text settles two.
+-- No text settles two for all programs.
 abbrev pub OneIsSettled : Type 0
-OneIsSettled = (s : Stream) (c d : Passed) → IsSettled s c → IsSettled s d → c ≡ d
+OneIsSettled = (s : Stream) (c d : Passed) → IsSettled SpellsProgram s c → IsSettled SpellsProgram s d → c ≡ d

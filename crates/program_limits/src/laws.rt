@@ -8,13 +8,13 @@ pub fn limits_in_order()
     ensures { LimitsInOrder }
 {}
 
-/// A limit on variables, processes or statements is named only where the tokens read settle that it is passed: some program
-/// begins so, and each that does passes this limit first, at this place.
+/// A limit is named only where the tokens read settle that it is passed: some program begins so, and each that does passes
+/// this limit first, at this place. For that on nesting each is one whose formulas are within it.
 pub fn limits_are_settled()
     ensures { LimitsAreSettled }
 {}
 
-/// No text settles two limits, nor two places of one.
+/// No text settles two limits for all programs, nor two places of one.
 pub fn one_limit_is_settled()
     ensures { OneIsSettled }
 {}

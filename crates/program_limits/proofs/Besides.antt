@@ -1,13 +1,13 @@
 -- Readers within the limits beside readers without them: what is counted in what was read is counted in the order of the text.
-use Rattle.std.proofs.Common.{◌≡◌, ℕ, zero, suc, ◌+◌, Bool, true, false, cond, List, [], ◌∷◌, ◌++◌, Option, Some, None, Result, Ok, Err, refl, sym, ap, subst, ◌∙◌, append-nil, append_assoc}
+use Rattle.std.proofs.Common.{◌≡◌, ℕ, zero, suc, Bool, true, false, cond, List, [], ◌∷◌, ◌++◌, Option, Some, None, Ok, Err, refl, sym, ap, subst, ◌∙◌, append-nil, append_assoc}
 use Rattle.st_tokens.specs.Stream.{Stream, behind}
 use Rattle.st_reading.specs.declared.mark.Mark.{Mark}
 use Rattle.st_reading.specs.declared.sign.Sign.{Sign}
 use Rattle.st_reading.specs.Reading.{Stop, other, Read, ◌>>=◌, ahead, place_of, size, expected, gives, then_reads, Turn, leaves, goes, turned, on_operator, chain, only, Carried, counting, linked}
-use Rattle.st_reading.specs.Faults.{Passed, passed}
+use Rattle.st_reading.specs.Faults.{Passed}
 use Rattle.st_reading.proofs.Soundness.{split, values}
 use Rattle.expression_parser.specs.Reading.{Reader}
-use Rattle.spl_parser.specs.Programs.{Limits, Totals, totals}
+use Rattle.spl_parser.specs.Programs.{Limits, Totals}
 use Rattle.program_limits.specs.Order.{all_counts}
 use Rattle.program_limits.proofs.Walking.{step, Meets, meets_value, meets_test, meets_behind}
 

@@ -1,25 +1,25 @@
 -- Statements inside others, read within the limits and without them: each is counted as it begins, at its first token, and with
 -- no level left it stands too deep.
-use Rattle.std.proofs.Common.{◌≡◌, ℕ, zero, suc, ◌+◌, ◌<◌, Bool, true, false, cond, List, [], ◌∷◌, ◌++◌, Option, Some, None, Ok, Err, refl, sym, ap, subst, ◌∙◌, append_assoc, arith}
+use Rattle.std.proofs.Common.{◌≡◌, ℕ, zero, suc, ◌+◌, ◌<◌, Bool, true, false, cond, List, [], ◌∷◌, ◌++◌, Option, Some, None, Ok, Err, refl, sym, ap, ◌∙◌, append_assoc, arith}
 use Rattle.st_tokens.specs.declared.limit.LimitKind.TheVariants as limits
 use Rattle.st_tokens.specs.Stream.{Stream, ends, breaks, more, behind}
 use Rattle.st_reading.specs.declared.mark.Mark.TheVariants as marks
 use Rattle.st_reading.specs.Sign.{is}
 use Rattle.st_reading.specs.Faults.{Passed, passed}
-use Rattle.st_reading.specs.Reading.{other, Read, Label, ahead, place_of, name_of, is_name, refusal, gives, then_reads, on_operator, Counted}
+use Rattle.st_reading.specs.Reading.{Label, ahead, place_of, name_of, is_name, refusal, gives, then_reads, on_operator, Counted}
 use Rattle.st_reading.proofs.Soundness.{split, values}
 use Rattle.spl_parser.specs.declared.sign.Start.{Start}
 use Rattle.spl_parser.specs.Signs.{start}
 use Rattle.expression_parser.specs.ExpressionTree.{Expr}
-use Rattle.spl_parser.specs.ProgramTree.{Statement, stated, Action, assign}
+use Rattle.spl_parser.specs.ProgramTree.{Statement, stated, assign}
 use Rattle.spl_parser.specs.Begun.{Begun, fresh, after_name, after_label}
 use Rattle.expression_parser.specs.Reading.{Reader}
 use Rattle.spl_parser.specs.Statements.{Lower, goes_on, front_place, limited, right_side_of, assigned_of, action_of, standing, bare_of, named_of, statement_of, inside}
-use Rattle.spl_parser.specs.Programs.{Limits, Totals, totals}
+use Rattle.spl_parser.specs.Programs.{Limits, totals}
 use Rattle.spl_parser.proofs.InsideLaw.{unlimited}
-use Rattle.program_limits.specs.Order.{front_of, statement_counts, action_counts}
-use Rattle.program_limits.proofs.Walking.{Meets, passes, walk_step, meets_test}
-use Rattle.program_limits.proofs.Besides.{Beside, BesideAt, Besides, ItemBesides, beside_cond, beside_fault}
+use Rattle.program_limits.specs.Order.{front_of, statement_counts}
+use Rattle.program_limits.proofs.Walking.{passes, walk_step, meets_test}
+use Rattle.program_limits.proofs.Besides.{BesideAt, Besides, ItemBesides, beside_cond, beside_fault}
 use Rattle.program_limits.proofs.StatementsBeside.{inner_counts, statement_beside}
 
 -- the place of a statement's first token

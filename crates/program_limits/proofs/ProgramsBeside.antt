@@ -1,12 +1,12 @@
 -- Whole programs, read within the limits and without them: variables and processes are counted as they are named.
-use Rattle.std.proofs.Common.{◌≡◌, ℕ, suc, ◌+◌, ◌<◌, Bool, true, false, cond, List, [], ◌∷◌, ◌++◌, Option, Some, None, Result, Ok, Err, refl, sym, ap, subst, ◌∙◌, append-nil, append_assoc, arith}
+use Rattle.std.proofs.Common.{◌≡◌, ℕ, suc, ◌+◌, ◌<◌, Bool, true, false, cond, List, [], ◌∷◌, ◌++◌, Option, Ok, Err, refl, sym, ap, subst, ◌∙◌, append-nil, append_assoc, arith}
 use Rattle.st_tokens.specs.declared.limit.LimitKind.{LimitKind}
 use Rattle.st_tokens.specs.declared.limit.LimitKind.TheVariants as limits
-use Rattle.st_tokens.specs.Stream.{Lexeme, Stream, ends, breaks, more, behind}
+use Rattle.st_tokens.specs.Stream.{Lexeme, Stream, ends, breaks, more}
 use Rattle.st_reading.specs.declared.mark.Mark.TheVariants as marks
-use Rattle.st_reading.specs.Sign.{sign_of, is}
+use Rattle.st_reading.specs.Sign.{sign_of}
 use Rattle.st_reading.specs.Faults.{Passed, passed}
-use Rattle.st_reading.specs.Reading.{other, Read, Label, label_of, ahead, place_of, name_of, is_name, refusal, expected, gives, then_reads, chain, size, Counted, Carried, counting, linked}
+use Rattle.st_reading.specs.Reading.{other, Label, label_of, is_name, refusal, expected, gives, then_reads, chain, size, Counted, Carried, counting}
 use Rattle.st_reading.proofs.Soundness.{split, values}
 use Rattle.spl_parser.specs.Signs.{mode}
 use Rattle.expression_parser.specs.ExpressionTree.{Expr}
@@ -17,7 +17,7 @@ use Rattle.spl_parser.specs.Programs.{Limits, Totals, totals, limited_name, valu
 use Rattle.spl_parser.proofs.InsideLaw.{unlimited}
 use Rattle.program_limits.specs.Order.{all_counts, name_counts, declaration_counts, process_counts, body_counts, program_counts}
 use Rattle.program_limits.proofs.Walking.{step, Meets, meets_value, meets_behind}
-use Rattle.program_limits.proofs.Besides.{Beside, BesideAt, Besides, ItemBesides, beside_bind, beside_behind, beside_gives, beside_fault, beside_one, beside_equal, beside_row, beside_counting}
+use Rattle.program_limits.proofs.Besides.{BesideAt, Besides, ItemBesides, beside_bind, beside_behind, beside_gives, beside_fault, beside_one, beside_equal, beside_row, beside_counting}
 use Rattle.program_limits.proofs.StatementsBeside.{body_beside}
 use Rattle.program_limits.proofs.LevelsBeside.{inside_beside}
 

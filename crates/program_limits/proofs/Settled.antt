@@ -1,5 +1,5 @@
 -- A limit is named at a token over which programs go on, each of which passes it first.
-use Rattle.std.proofs.Common.{◌≡◌, ℕ, suc, ◌+◌, ◌≤◌, Bool, true, false, List, [], ◌∷◌, ◌++◌, Option, Some, None, Result, Ok, Err, ◌⊎◌, inl, inr, refl, sym, ap, subst, ◌∙◌, append_assoc, arith}
+use Rattle.std.proofs.Common.{◌≡◌, ℕ, suc, ◌+◌, false, List, [], ◌∷◌, ◌++◌, Ok, Err, ◌⊎◌, inl, inr, refl, sym, ap, subst, ◌∙◌, append_assoc, arith}
 use Rattle.st_tokens.specs.declared.limit.LimitKind.{LimitKind}
 use Rattle.st_tokens.specs.declared.limit.LimitKind.TheVariants as limits
 use Rattle.st_tokens.specs.Stream.{◌++>◌, Lexeme, Stream, ends, breaks, more, text_stream}
@@ -12,15 +12,15 @@ use Rattle.st_reading.proofs.Lifting.{Lifted}
 use Rattle.expression_parser.specs.Grammar.{SpellsWithin}
 use Rattle.spl_parser.specs.ProgramTree.{Program}
 use Rattle.spl_parser.specs.Grammar.{Low, IsProgram, SpellsProgram}
-use Rattle.spl_parser.specs.Programs.{Limits, Totals, totals, spelled_of, program_of, usual}
-use Rattle.spl_parser.specs.Parsing.{alone, parsed}
+use Rattle.spl_parser.specs.Programs.{Totals, totals, spelled_of, program_of, usual}
+use Rattle.spl_parser.specs.Parsing.{alone}
 use Rattle.spl_parser.proofs.BodyLaw.{apart}
 use Rattle.spl_parser.proofs.ProgramLaw.{beyond, no_mode, lawful_program, quiet_apart}
 use Rattle.spl_parser.proofs.ProgramSoundness.{spelled_sound}
 use Rattle.spl_parser.proofs.ProgramLifting.{AsLarge, spelled_lifts}
 use Rattle.program_limits.specs.Order.{program_counts, IsFirstPassed}
 use Rattle.program_limits.specs.Theorems.{SpellsShallow, IsSettled, Concerned, LimitsAreSettled, OneIsSettled}
-use Rattle.program_limits.proofs.Walking.{walk, Meets, fits, passes}
+use Rattle.program_limits.proofs.Walking.{Meets, fits, passes}
 use Rattle.program_limits.proofs.Within.{numbers, walk_first, first_walk}
 use Rattle.program_limits.proofs.Whole.{spelled_meeting}
 

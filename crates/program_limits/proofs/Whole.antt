@@ -1,5 +1,5 @@
 -- A text that spells a program is read to it, or refused for the first limit that it passes.
-use Rattle.std.proofs.Common.{◌≡◌, ℕ, suc, ◌+◌, ◌≤◌, Bool, true, false, List, [], ◌∷◌, Option, Some, None, Result, Ok, Err, refl, sym, ap, subst, ◌∙◌, arith}
+use Rattle.std.proofs.Common.{◌≡◌, ℕ, ◌+◌, ◌≤◌, false, List, [], ◌∷◌, Ok, Err, refl, ap, subst, ◌∙◌, arith}
 use Rattle.st_tokens.specs.Stream.{◌++>◌, Lexeme, Stream, ends, text_stream}
 use Rattle.st_reading.specs.Reading.{◌>>=◌, other, Label, then_reads, gives, at_end}
 use Rattle.st_reading.specs.Faults.{Passed}
@@ -10,11 +10,10 @@ use Rattle.spl_parser.specs.ProgramTree.{Declaration, Process, Program}
 use Rattle.spl_parser.specs.Grammar.{Low, IsProgram}
 use Rattle.spl_parser.specs.Programs.{Limits, Totals, totals, spelled_of, program_of, usual}
 use Rattle.spl_parser.specs.Parsing.{alone, parsed}
-use Rattle.spl_parser.specs.Theorems.{HasTokens}
 use Rattle.spl_parser.proofs.ProgramCompleteness.{name_after, declaration_after, process_after, NameFits, DeclarationsFit, ProcessFits, ProgramFits, spelled_complete}
-use Rattle.program_limits.specs.Order.{program_counts, AreWithin, IsFirstPassed}
-use Rattle.program_limits.specs.Theorems.{SpellsShallow, IsAnswered, LimitsInOrder}
-use Rattle.program_limits.proofs.Walking.{walk, Meets, fits, passes}
+use Rattle.program_limits.specs.Order.{program_counts, IsFirstPassed}
+use Rattle.program_limits.specs.Theorems.{IsAnswered, LimitsInOrder}
+use Rattle.program_limits.proofs.Walking.{Meets, fits, passes}
 use Rattle.program_limits.proofs.ProgramsBeside.{freely, Meeting, spelled_meets}
 use Rattle.program_limits.proofs.Within.{numbers, walk_within, within_walk, walk_first, first_walk}
 

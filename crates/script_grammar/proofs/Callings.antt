@@ -75,7 +75,7 @@ found_is (s ∷ steps) name e h k = at_test (λ d m n. found_is steps name d m n
         subst (λ (x : ℕ × Bool). IsEarlierInvariance (s ∷ steps) name x.0) n (record { step = l.step; formula = l.formula; there = l.there; called = l.called; claims = l.claims })
 
     at_test : ((d : ℕ × Bool) → step_called steps name ≡ Some d → d.1 ≡ true → IsEarlierInvariance steps name d.0) → (b : Bool) → b ≡ bytes_eq s.name name → (if b then Some (0, is_invariance s.goal) else option_map one_later (step_called steps name)) ≡ Some e → IsEarlierInvariance (s ∷ steps) name e.0
-    at_test again true q m = here (cc) (sym q)
+    at_test again true q m = let n : (0, is_invariance s.goal) ≡ e = cc in here n (sym q)
     at_test again false q m = later (step_called steps name) refl m again
 
 not_there : (x : List ℕ) (steps : List PlainStep) (k : ℕ) (step : PlainStep) → IsNew x (names_of_steps steps) → slice_get steps k ≡ Some step → bytes_eq step.name x ≡ false

@@ -47,6 +47,13 @@ not_there : {A : Type 0} (o : Option A) → is_some o ≡ false → o ≡ None
 not_there None h = refl
 not_there (Some x) h = absurd cc
 
+-- WHAT IS MADE OF ITS PARTS
+abbrev make_drawn : ℕ → Formula → Option Linear → Option ℕ → PlainDrawnNode
+make_drawn n f r h = record { number = n; form = f; rank = r; helper = h }
+
+abbrev make_edge : ℕ → ℕ → List ℕ → PlainEdge
+make_edge i j on = record { from = i; to = j; on = on }
+
 -- NUMBERS OF NODES
 module _ (nodes : List PlainDrawnNode) where
   abbrev number_meant : RawNumber → ℕ
@@ -102,7 +109,7 @@ module _ (g : Setting) (kind : DiagramKind) (highest : ℕ) where
           (none_broken (q.lawful (at + 2 + p.raw.size))
           (none_broken (w.0.lawful (at + 2 + p.raw.size + optional_size unit_size q.raw))
           (not_broken (has_helpers kind && is_none w.0.raw) (at + drawn_node_size raw) (broke rules.NoHelper t.start) w.1))))));
-          means = same3 (λ x y v. record { number = k; form = x; rank = y; helper = v }) p.means q.means w.0.means;
+          means = same3 (make_drawn k) p.means q.means w.0.means;
         }
 
     drawn_node_lawful : (ts : List Lexeme) (n : RawDrawnNode) (at : ℕ) → IsRawDrawnNode Forms Sums kind ts n → drawn_node_rules g kind highest d place at n ≡ [] → (length d.nodes < 64) × IsDrawnNode g kind highest d.nodes ts (drawn_node_meant g n)
@@ -129,7 +136,7 @@ module _ (g : Setting) (kind : DiagramKind) (highest : ℕ) where
           raw = record { from = p.raw; to = q.raw; on = r.raw };
           spells = spells_edge a b (t ∷ us) u p.raw q.raw r.raw p.spells q.spells (after_mark t us r.raw e r.spells) z;
           lawful = λ at. none_broken (p.lawful at) (none_broken (q.lawful (at + 2)) (none_broken (not_broken (is_upward kind p.raw.number q.raw.number) (at + 3) (broke rules.Upward place) (same2 (is_upward kind) p.means q.means ∙ up)) (r.lawful (at + 3))));
-          means = same3 (λ x y v. record { from = x; to = y; on = v }) p.means q.means r.means;
+          means = same3 make_edge p.means q.means r.means;
         }
 
     edge_lawful : (ts : List Lexeme) (x : RawEdge) (at : ℕ) → IsRawEdge ts x → edge_rules g kind highest d place at x ≡ [] → IsEdge g kind highest d.nodes ts (edge_meant g x)

@@ -38,6 +38,22 @@ same_none f (Some x) = refl
 left_out_so : {A B : Type 0} (f : A → B) (o : Option A) (x : Option B) → option_map f o ≡ x → is_none o ≡ is_none x
 left_out_so f o x e = sym (same_none f o) ∙ ap is_none e
 
+-- WHAT IS MADE OF ITS PARTS
+abbrev pair : {A B : Type 0} → A → B → A × B
+pair x y = (x, y)
+
+abbrev triple : Formula → Linear → ℕ → Formula × Linear × ℕ
+triple f e h = (f, e, h)
+
+abbrev make_node : Formula → Linear → Linear → Linear → Option ℕ → Option ℕ → PlainNode
+make_node f base delay top group helper = record { form = f; base = base; delay = delay; top = top; group = group; helper = helper }
+
+abbrev make_level : Linear → Linear → ℕ → PlainLevel
+make_level base top group = record { base = base; top = top; group = group }
+
+abbrev make_nested : Formula → List PlainLevel → Linear → Option ℕ → PlainNestedNode
+make_nested f ls delay helper = record { form = f; levels = ls; delay = delay; helper = helper }
+
 module _ (g : Setting) where
   -- WHAT STANDS BEHIND A MARK
   abbrev sum_behind : (mark : Mark) (ts : List Lexeme) (x : Linear) → After mark (IsNumber g) ts x → Tree (After mark (IsUnit Sums)) (sum_rules g) (sum_meant g) ts x
@@ -63,7 +79,7 @@ module _ (g : Setting) where
   helped_tree ts x (helped a b f h l m) =
       let p = form_tree g a f l in
       let q = helper_behind marks.Helper b h m in
-      record { raw = record { form = p.raw; helper = q.raw }; spells = spells_helped a b p.raw q.raw p.spells q.spells; lawful = λ at. none_broken (p.lawful at) (q.lawful (at + p.raw.size + 1)); means = same2 (λ u v. (u, v)) p.means q.means }
+      record { raw = record { form = p.raw; helper = q.raw }; spells = spells_helped a b p.raw q.raw p.spells q.spells; lawful = λ at. none_broken (p.lawful at) (q.lawful (at + p.raw.size + 1)); means = same2 pair p.means q.means }
 
   helped_lawful : (ts : List Lexeme) (r : RawHelped) (at : ℕ) → IsRawHelped Forms Sums ts r → helped_rules g at r ≡ [] → IsHelped g ts (helped_meant g r)
   helped_lawful ts r at (spells_helped a b f h l m) kept =
@@ -79,7 +95,7 @@ module _ (g : Setting) where
         raw = record { form = p.raw; rank = q.raw; helper = r.raw };
         spells = spells_ranked a b c p.raw q.raw r.raw p.spells q.spells r.spells;
         lawful = λ at. none_broken (p.lawful at) (none_broken (q.lawful (at + p.raw.size + 1)) (r.lawful (at + p.raw.size + (1 + q.raw.size) + 1)));
-        means = same3 (λ u v w. (u, v, w)) p.means q.means r.means;
+        means = same3 triple p.means q.means r.means;
       }
 
   ranked_lawful : (ts : List Lexeme) (r : RawRanked) (at : ℕ) → IsRawRanked Forms Sums ts r → ranked_rules g at r ≡ [] → IsRanked g ts (ranked_meant g r)
@@ -92,7 +108,7 @@ module _ (g : Setting) where
   fair_tree ts x (fair_item a b f h l m) =
       let p = form_tree g a f l in
       let q = maybe_helper marks.Helper b h m in
-      record { raw = record { form = p.raw; helper = q.raw }; spells = spells_fair a b p.raw q.raw p.spells q.spells; lawful = λ at. none_broken (p.lawful at) (q.lawful (at + p.raw.size)); means = same2 (λ u v. (u, v)) p.means q.means }
+      record { raw = record { form = p.raw; helper = q.raw }; spells = spells_fair a b p.raw q.raw p.spells q.spells; lawful = λ at. none_broken (p.lawful at) (q.lawful (at + p.raw.size)); means = same2 pair p.means q.means }
 
   fair_lawful : (ts : List Lexeme) (r : RawFair) (at : ℕ) → IsRawFair Forms Sums ts r → fair_rules g at r ≡ [] → IsFairItem g ts (fair_meant g r)
   fair_lawful ts r at (spells_fair a b f h l m) kept =
@@ -119,8 +135,7 @@ module _ (g : Setting) where
         (none_broken (v.lawful (at + p.raw.size + (1 + q.raw.size) + (1 + r.raw.size) + (1 + s.raw.size)))
         (none_broken (w.lawful (at + p.raw.size + (1 + q.raw.size) + (1 + r.raw.size) + (1 + s.raw.size) + optional_size transition_size v.raw))
         (not_broken (is_none v.raw && is_none w.raw) (at + node_size raw + 1) (broke rules.NoHelper p.raw.place) (same2 (λ x y. x && y) (left_out_so (transition_meant g) v.raw group v.means) (left_out_so (transition_meant g) w.raw helper w.means) ∙ one)))))));
-        means = same4 (λ x y z u. record { form = x; base = y; delay = z; top = u; group = option_map (transition_meant g) v.raw; helper = option_map (transition_meant g) w.raw }) p.means q.means r.means s.means
-        ∙ same2 (λ x y. record { form = f; base = base; delay = delay; top = top; group = x; helper = y }) v.means w.means;
+        means = same4 (λ x y z u. make_node x y z u (option_map (transition_meant g) v.raw) (option_map (transition_meant g) w.raw)) p.means q.means r.means s.means ∙ same2 (make_node f base delay top) v.means w.means;
       }
 
   node_lawful : (ts : List Lexeme) (r : RawNode) (at : ℕ) → IsRawNode Forms Sums ts r → node_rules g at r ≡ [] → IsNode g ts (node_meant g r)
@@ -150,7 +165,7 @@ module _ (g : Setting) where
         raw = record { base = p.raw; top = q.raw; group = r.raw };
         spells = spells_level a b c p.raw q.raw r.raw p.spells q.spells r.spells;
         lawful = λ at. none_broken (p.lawful (at + 1)) (none_broken (q.lawful (at + (1 + p.raw.size) + 1)) (r.lawful (at + (1 + p.raw.size) + (1 + q.raw.size) + 1)));
-        means = same3 (λ x y z. record { base = x; top = y; group = z }) p.means q.means r.means;
+        means = same3 make_level p.means q.means r.means;
       }
 
   level_lawful : (ts : List Lexeme) (r : RawLevel) (at : ℕ) → IsRawLevel Forms Sums ts r → level_rules g at r ≡ [] → IsLevel g ts (level_meant g r)
@@ -176,7 +191,7 @@ module _ (g : Setting) where
         (none_broken (r.lawful (at + p.raw.size + many_size level_size q.raw + 1))
         (none_broken (w.lawful (at + p.raw.size + many_size level_size q.raw + (1 + r.raw.size)))
         (not_broken (nat_eq (length q.raw) 0 && is_none w.raw) (at + nested_node_size raw + 1) (broke rules.NoHelper p.raw.place) (same2 (λ x y. nat_eq x 0 && y) n (left_out_so (transition_meant g) w.raw helper w.means) ∙ one)))));
-        means = same4 (λ x y z u. record { form = x; levels = y; delay = z; helper = u }) p.means q.means r.means w.means;
+        means = same4 make_nested p.means q.means r.means w.means;
       }
 
   nested_node_lawful : (ts : List Lexeme) (r : RawNestedNode) (at : ℕ) → IsRawNestedNode Forms Sums ts r → nested_node_rules g at r ≡ [] → IsNestedNode g ts (nested_node_meant g r)

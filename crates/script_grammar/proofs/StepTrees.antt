@@ -1,5 +1,5 @@
 -- Goals, steps and scripts: trees that break no rule are what the grammar with rules spells.
-use Rattle.std.proofs.Common.{◌≡◌, ℕ, suc, ◌+◌, ◌-◌, ◌≤◌, Bool, false, true, not, nat_eq, List, [], ◌∷◌, ◌++◌, length, map, Option, Some, None, refl, sym, ap, subst, ◌∙◌, arith, unwrap_or}
+use Rattle.std.proofs.Common.{◌≡◌, ℕ, suc, ◌+◌, ◌-◌, ◌≤◌, Bool, false, true, not, nat_eq, List, [], ◌∷◌, ◌++◌, length, map, Option, Some, None, refl, sym, ap, subst, ◌∙◌, arith, append-nil, unwrap_or}
 use Rattle.std.specs.Prelude.{if◌then◌else◌, is_some}
 use Rattle.std.specs.Option.{option_map}
 use Rattle.std.proofs.lemmas.Bool.Decides.{nat_tests}
@@ -42,6 +42,19 @@ is_equal n m h = grind (arith, nat_tests)
 
 equal_is : (n m : ℕ) → nat_eq n m ≡ true → n ≡ m
 equal_is n m h = grind (arith, nat_tests)
+
+-- WHAT IS MADE OF ITS PARTS
+abbrev claimed : PlainGoal → PlainRule → PlainGoal × PlainRule
+claimed goal rule = (goal, rule)
+
+abbrev make_stronger : Formula → Formula → PlainGoal × PlainRule
+make_stronger p f = (invariant p, stronger f)
+
+abbrev two_more : Formula → Formula → List Formula → List Formula
+two_more q r qs = q ∷ r ∷ qs
+
+abbrev make_step : List ℕ → PlainGoal × PlainRule → List ℕ → PlainStep
+make_step name x cited = record { name = name; goal = x.0; rule = x.1; cited = cited }
 
 -- NAMES
 module _ (before : List PlainStep) where
@@ -101,11 +114,7 @@ module _ (g : Setting) where
   invariance_tree : (ts : List Lexeme) (x : PlainGoal × PlainRule) → IsInvariance g ts x → Tree (IsRawInvariance Forms Sums) (claim_rules g) (claim_meant g) ts x
   invariance_tree ts x (by_itself a p l) =
       let q = form_tree g a p l in
-      record { raw = raw_invariance q.raw None; spells = subst (λ us. IsRawInvariance Forms Sums us (raw_invariance q.raw None)) (append_nil a) (spells_invariance a [] q.raw None q.spells left_out); lawful = λ at. none_broken (q.lawful at) refl; means = ap (λ z. (invariant z, basic)) q.means }
-    where
-      append_nil : (us : List Lexeme) → us ++ [] ≡ us
-      append_nil [] = refl
-      append_nil (u ∷ us) = ap (λ z. u ∷ z) (append_nil us)
+      record { raw = raw_invariance q.raw None; spells = subst (λ us. IsRawInvariance Forms Sums us (raw_invariance q.raw None)) (append-nil a) (spells_invariance a [] q.raw None q.spells left_out); lawful = λ at. none_broken (q.lawful at) refl; means = ap (λ z. (invariant z, basic)) q.means }
   invariance_tree ts x (by_stronger a b p f l (after_mark t us y e m)) =
       let q = form_tree g a p l in
       let r = form_tree g us y m in
@@ -113,17 +122,13 @@ module _ (g : Setting) where
         raw = raw_invariance q.raw (Some r.raw);
         spells = spells_invariance a (t ∷ us) q.raw (Some r.raw) q.spells (put_in t us r.raw e r.spells);
         lawful = λ at. none_broken (q.lawful at) (r.lawful (at + q.raw.size + 1));
-        means = same2 (λ z w. (invariant z, stronger w)) q.means r.means;
+        means = same2 make_stronger q.means r.means;
       }
 
   invariance_lawful : (ts : List Lexeme) (r : RawClaim) (at : ℕ) → IsRawInvariance Forms Sums ts r → claim_rules g at r ≡ [] → IsInvariance g ts (claim_meant g r)
   invariance_lawful ts r at (spells_invariance a b p f l left_out) h =
       let k = both_kept _ _ h in
-      subst (λ us. IsInvariance g us (invariant (form_meant g p), basic)) (sym (append_nil a)) (by_itself a (form_meant g p) (form_lawful g a p at l k.0))
-    where
-      append_nil : (us : List Lexeme) → us ++ [] ≡ us
-      append_nil [] = refl
-      append_nil (u ∷ us) = ap (λ z. u ∷ z) (append_nil us)
+      subst (λ us. IsInvariance g us (invariant (form_meant g p), basic)) (sym (append-nil a)) (by_itself a (form_meant g p) (form_lawful g a p at l k.0))
   invariance_lawful ts r at (spells_invariance a b p f l (put_in t us y e m)) h =
       let k = both_kept _ _ h in
       by_stronger a (t ∷ us) (form_meant g p) (form_meant g y) (form_lawful g a p at l k.0) (after_mark t us (form_meant g y) e (form_lawful g us y (at + p.size + 1) m k.1))
@@ -171,7 +176,7 @@ module _ (g : Setting) where
         (listed_kept (λ u. u) unit_size (form_rules g) 0 (at + vp.raw.size) forms (omega (arith, few, n))
         (none_broken (vq.lawful (at + vp.raw.size + 1)) (none_broken (vr.lawful (at + vp.raw.size + (1 + vq.raw.size) + 1)) (vs.lawful (at + vp.raw.size + (1 + vq.raw.size) + (1 + vr.raw.size))))))
         (subst (λ k. waiting_rule_rules g k t.start (at + vp.raw.size + marked_size unit_size forms) v.raw ≡ []) count (v.lawful (at + vp.raw.size + marked_size unit_size forms))));
-        means = same2 (λ u k. (u, k)) (same2 waiting vp.means (same3 (λ u k m. u ∷ k ∷ m) vq.means vr.means vs.means)) v.means;
+        means = same2 claimed (same2 waiting vp.means (same3 two_more vq.means vr.means vs.means)) v.means;
       }
 
   waiting_lawful : (ts : List Lexeme) (r : RawClaim) (at : ℕ) → IsRawWaiting Forms Sums ts r → claim_rules g at r ≡ [] → IsWaiting g ts (claim_meant g r)
@@ -202,7 +207,7 @@ module _ (g : Setting) where
         raw = raw_response vp.raw vq.raw ve.raw vy.raw;
         spells = spells_response a b c d vp.raw vq.raw ve.raw vy.raw vp.spells vq.spells ve.spells vy.spells;
         lawful = λ at. none_broken (vp.lawful at) (none_broken (vq.lawful (at + vp.raw.size + 1)) (none_broken (ve.lawful (at + vp.raw.size + (1 + vq.raw.size) + 1)) (vy.lawful (at + vp.raw.size + (1 + vq.raw.size) + (1 + ve.raw.size) + 1))));
-        means = same2 (λ u k. (u, k)) (same3 response vp.means vq.means ve.means) vy.means;
+        means = same2 claimed (same3 response vp.means vq.means ve.means) vy.means;
       }
 
   response_lawful : (ts : List Lexeme) (r : RawClaim) (at : ℕ) → IsRawResponse Forms Sums ts r → claim_rules g at r ≡ [] → IsResponse g ts (claim_meant g r)
@@ -226,7 +231,7 @@ module _ (g : Setting) where
           raw = record { name = p.raw; claim = q.raw; cited = r.raw };
           spells = spells_named a b c u p.raw q.raw r.raw p.spells q.spells r.spells z;
           lawful = λ at. none_broken (p.lawful (at + 1)) (none_broken (q.lawful (at + 3)) (r.lawful (at + 3 + claim_size q.raw)));
-          means = same3 (λ v k w. record { name = v; goal = k.0; rule = k.1; cited = w }) p.means q.means r.means;
+          means = same3 make_step p.means q.means r.means;
         }
 
     named_lawful : ((ts : List Lexeme) (r : RawClaim) (at : ℕ) → Raw ts r → claim_rules g at r ≡ [] → claim ts (claim_meant g r))

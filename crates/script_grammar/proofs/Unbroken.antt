@@ -40,7 +40,7 @@ is_there other None h = absurd cc
 is_there other (Some x) h = refl
 
 pub there_is : {A : Type 0} (other x : A) (o : Option A) → o ≡ Some x → unwrap_or o other ≡ x
-there_is other x o e = ap (λ (z : Option _). unwrap_or z other) e
+there_is {A} other x o e = ap (λ (z : Option A). unwrap_or z other) e
 
 pub not_true : (b : Bool) → not b ≡ false → b ≡ true
 not_true true h = refl

@@ -1,6 +1,6 @@
 -- What a tree means: the script that it is where it breaks no rule. Where it breaks one, what it means is of no account: an
 -- expression that isn't typed is false or 0, and a name that nothing has is that of number 0.
-use Rattle.std.specs.Prelude.{ℕ, suc, ◌+◌, false, pos, List, [], ◌∷◌, ◌++◌, map, if◌then◌else◌, Option, Some, None, unwrap_or, option_map, Result, Ok, Err}
+use Rattle.std.specs.Prelude.{ℕ, suc, Bool, false, pos, List, [], ◌∷◌, ◌++◌, map, if◌then◌else◌, Option, Some, None, unwrap_or, option_map, Result, Ok, Err}
 use Rattle.std.specs.Str.{bytes_eq}
 use Rattle.st_reading.specs.Reading.{Label}
 use Rattle.st_linear.specs.Linear.{Linear, number as constant}

@@ -49,7 +49,7 @@ entry_names = refl
 pub data IsSuffix : List Lexeme → Part → Type 0 where
   a_suffix : (v : Lexeme) (part : Part) → IsName v → part_named v.text ≡ Some part → IsSuffix (v ∷ []) part
 
-suffix_sound : Sound suffix_of IsSuffix
+pub suffix_sound : Sound suffix_of IsSuffix
 unfolding suffix_of
 suffix_sound (ends q) part rest h = absurd cc
 suffix_sound (breaks f) part rest h = absurd cc
@@ -60,14 +60,14 @@ suffix_sound (more v s) part rest h = at_name (is_name (sign_of v)) refl (part_n
     at_name true e None f h = absurd cc
     at_name true e (Some p) f h = taken {X = Breach} IsSuffix (v ∷ []) (gives p s) p part s rest refl h (a_suffix v p (sym e) (sym f))
 
-suffix_complete : Complete anything suffix_of IsSuffix
+pub suffix_complete : Complete anything suffix_of IsSuffix
 unfolding suffix_of
 suffix_complete ts part (a_suffix v p e f) after h = rw (e, f) refl
 
-suffix_begins : (ts : List Lexeme) (part : Part) → IsSuffix ts part → (after : Stream) → anything (ahead after) ≡ true → is_name (ahead (ts ++> after)) ≡ true
+pub suffix_begins : (ts : List Lexeme) (part : Part) → IsSuffix ts part → (after : Stream) → anything (ahead after) ≡ true → is_name (ahead (ts ++> after)) ≡ true
 suffix_begins ts part (a_suffix v p e f) after h = e
 
-suffix_completed : Viable is_name anything suffix_of []
+pub suffix_completed : Viable is_name anything suffix_of []
 unfolding suffix_of
 suffix_completed = record { others = entry_token ∷ []; spelled = one_spelled entry_token entry_spelled; value = Entry; begins = λ n after h. refl; reads = λ after h. rw entry_names refl }
 
@@ -82,14 +82,14 @@ same_part (more t s) (ends q) h = cc
 same_part (more t s) (breaks f) h = cc
 same_part (more t s) (more u r) h = let e : u ≡ t = cc in ap (λ (v : Lexeme). cond (is_name (sign_of v)) (part_named v.text) None) e
 
-suffix_refused : (s : Stream) → part_at s ≡ None → (after : Stream) → head after ≡ head s → suffix_of after ≡ Err (refusal s)
+pub suffix_refused : (s : Stream) → part_at s ≡ None → (after : Stream) → head after ≡ head s → suffix_of after ≡ Err (refusal s)
 unfolding suffix_of
 suffix_refused s e after h = let k = same_part s after h ∙ e in rw k (ap Err (refusal_same s after h))
 
-suffix_stuck : (s : Stream) → part_at s ≡ None → SteadyAt {I = Unit {0}} is_name anything suffix_of (λ i. suffix_of) s
+pub suffix_stuck : (s : Stream) → part_at s ≡ None → SteadyAt {I = Unit {0}} is_name anything suffix_of (λ i. suffix_of) s
 suffix_stuck s e = stops [] (refusal s) s refl (λ after h. suffix_refused s e after h) (λ i. suffix_completed) (refused refl (λ i after h. suffix_refused s e after h))
 
-suffix_law : (s : Stream) → SteadyAt {I = Unit {0}} is_name anything suffix_of (λ i. suffix_of) s
+pub suffix_law : (s : Stream) → SteadyAt {I = Unit {0}} is_name anything suffix_of (λ i. suffix_of) s
 unfolding suffix_of
 suffix_law (ends q) = suffix_stuck (ends q) refl
 suffix_law (breaks f) = suffix_stuck (breaks f) refl
@@ -99,7 +99,7 @@ suffix_law (more v s) = at_part (part_at (more v s)) refl
     at_part None e = suffix_stuck (more v s) e
     at_part (Some p) e = both (v ∷ []) p s refl (λ after h. rw e refl) (λ i after h. rw e refl)
 
-abbrev suffix_lawful : LawfulPhrase Breach Part is_name anything
+abbrev pub suffix_lawful : LawfulPhrase Breach Part is_name anything
 suffix_lawful = record {
   phrase = record { reader = suffix_of; language = IsSuffix; sound = suffix_sound; complete = suffix_complete; begins = suffix_begins };
   lawful = record { law = suffix_law; one = sound_shrinks suffix_of IsSuffix suffix_sound; each = λ i. sound_shrinks suffix_of IsSuffix suffix_sound };
@@ -122,11 +122,11 @@ behind_name l = map_lawful anything no_dot (λ g h. refl) (the_reference l) suff
 abbrev pub reference_parts : LawfulPhrase Breach RawTransition is_name no_dot
 reference_parts = then_lawful is_name anything anything no_dot (λ g h. refl) (name_lawful name_token name_spelled refl) behind_name (λ l. wider (λ g h. refl)) (moves refl (syntax 0) refl) (calmer (λ g h. refl))
 
-to_reference : (ts : List Lexeme) (r : RawTransition) → reference_parts.phrase.language ts r → IsReference ts r
+pub to_reference : (ts : List Lexeme) (r : RawTransition) → reference_parts.phrase.language ts r → IsReference ts r
 to_reference ts r (behind_it a b l r2 (one_name t e) (made us q left_out)) = spells_reference t [] Whole e the_whole
 to_reference ts r (behind_it a b l r2 (one_name t e) (made us q (put_in u vs p d (a_suffix v p2 f k)))) = spells_reference t (u ∷ v ∷ []) p e (a_part u v p d f k)
 
-from_reference : (ts : List Lexeme) (r : RawTransition) → IsReference ts r → reference_parts.phrase.language ts r
+pub from_reference : (ts : List Lexeme) (r : RawTransition) → IsReference ts r → reference_parts.phrase.language ts r
 from_reference ts r (spells_reference t us part e the_whole) = behind_it (t ∷ []) [] (label_of t) (the_reference (label_of t) None) (one_name t e) (made [] None left_out)
 from_reference ts r (spells_reference t us part e (a_part u v p d f k)) =
     behind_it (t ∷ []) (u ∷ v ∷ []) (label_of t) (the_reference (label_of t) (Some p)) (one_name t e) (made (u ∷ v ∷ []) (Some p) (put_in u (v ∷ []) p d (a_suffix v p f k)))

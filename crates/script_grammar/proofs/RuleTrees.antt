@@ -200,7 +200,7 @@ module _ (g : Setting) where
       let k2 = both_kept _ _ k1.1 in
       let k3 = both_kept _ _ k2.1 in
       let k4 = both_kept _ _ k3.1 in
-      let n : length (map (level_meant g) ls) ≡ length ls = length-map (level_meant g) ls in
+      let n : length (map (level_meant g) ls) ≡ length ls = length-map ls (level_meant g) in
       a_nested_node a b c d (form_meant g f) (map (level_meant g) ls) (sum_meant g delay) (option_map (transition_meant g) helper)
       (form_lawful g a f at lf k1.0)
       (many_lawful (IsLevel g) (IsRawLevel Forms Sums) (level_rules g) (level_meant g) level_lawful level_size b ls (at + f.size) ll k2.0) (omega (arith, n, four))

@@ -155,7 +155,7 @@ module _ (g : Setting) where
   waiting_rule_lawful count place ts r at (spells_levels us ls l) h =
       let k = both_kept _ _ h in
       let m = kept_listed (λ z. z) unit_size (form_rules g) 0 at ls (omega arith) k.0 in
-      by_levels us (map (form_meant g) ls) (row_lawful (IsFormula g) (IsUnit Forms) (form_rules g) (form_meant g) (form_lawful g) unit_size marks.Comma us ls at l m.1) (length-map (form_meant g) ls ∙ equal_is (length ls) count (not_true (nat_eq (length ls) count) (is_kept _ _ _ k.1)))
+      by_levels us (map (form_meant g) ls) (row_lawful (IsFormula g) (IsUnit Forms) (form_rules g) (form_meant g) (form_lawful g) unit_size marks.Comma us ls at l m.1) (length-map ls (form_meant g) ∙ equal_is (length ls) count (not_true (nat_eq (length ls) count) (is_kept _ _ _ k.1)))
   waiting_rule_lawful count place ts r at (spells_wait_diagram t u us d e f l) h = by_wait_diagram t u us (drawing_meant g Wait d) e f (drawing_lawful g Wait (count - 1) us d (at + 3) l h)
 
   waiting_tree : (ts : List Lexeme) (x : PlainGoal × PlainRule) → IsWaiting g ts x → Tree (IsRawWaiting Forms Sums) (claim_rules g) (claim_meant g) ts x
@@ -188,8 +188,8 @@ module _ (g : Setting) where
       let few = k3.0 in
       let k4 = both_kept _ _ k3.1 in
       let k5 = both_kept _ _ k4.1 in
-      let n : length (map (form_meant g) qs) ≡ length qs = length-map (form_meant g) qs in
-      let count : length forms ≡ length (map (form_meant g) forms) = sym (length-map (form_meant g) forms) in
+      let n : length (map (form_meant g) qs) ≡ length qs = length-map qs (form_meant g) in
+      let count : length forms ≡ length (map (form_meant g) forms) = sym (length-map forms (form_meant g)) in
       waits (a ++ (b ++ (c ++ d))) (t ∷ e) (form_meant g p, map (form_meant g) forms) (waiting_rule_meant g x)
       (waiting_goal a b c d (form_meant g p) (form_meant g q) (form_meant g r2) (map (form_meant g) qs) (form_lawful g a p at lp k.0)
       (form_behind_lawful marks.Unless b q (at + p.size + 1) lq k4.0) (form_behind_lawful marks.Wait c r2 (at + p.size + (1 + q.size) + 1) lr k5.0)

@@ -57,7 +57,7 @@ module _ {R A : Type 0} (L : List Lexeme → A → Type 0) (Raw : List Lexeme �
 
     -- as many trees as values
     pub as_many : (rs : List R) (xs : List A) → map meant rs ≡ xs → length rs ≡ length xs
-    as_many rs xs e = sym (length-map meant rs) ∙ ap length e
+    as_many rs xs e = sym (length-map rs meant) ∙ ap length e
 
     pub brackets_tree : (form : R → RawUnit) (ts : List Lexeme) (xs : List A) → Bracketed L ts xs → Tree (InBrackets Raw) (listed_rules form size judge 0) (map meant) ts xs
     brackets_tree form ts xs (bracketed t u us ys e m few f) =
@@ -96,5 +96,5 @@ module _ {R A : Type 0} (L : List Lexeme → A → Type 0) (Raw : List Lexeme �
     brackets_lawful form ts rs at (in_brackets t u us ys e m f) h =
         let k = kept_listed form size judge 0 at ys (omega arith) h in
         let few = k.0 in
-        let n = length-map meant ys in
+        let n = length-map ys meant in
         bracketed t u us (map meant ys) e (row_lawful marks.Semicolon us ys at m k.1) (omega (arith, few, n)) f

@@ -1,5 +1,5 @@
 -- Formulas, integer expressions and transitions: trees that break no rule are what the grammar with rules spells.
-use Rattle.std.proofs.Common.{◌≡◌, ℕ, ◌+◌, false, true, not, List, [], ◌∷◌, length, Option, Some, None, inl, inr, refl, sym, ap, subst, ◌∙◌, ◌⊎◌, pos, slice_get, unwrap_or}
+use Rattle.std.proofs.Common.{◌≡◌, ℕ, Bool, ◌+◌, false, true, not, List, [], ◌∷◌, length, Option, Some, None, inl, inr, refl, sym, ap, subst, ◌∙◌, ◌⊎◌, pos, slice_get, unwrap_or}
 use Rattle.std.specs.Prelude.{is_none}
 use Rattle.st_tokens.specs.Stream.{Lexeme}
 use Rattle.st_reading.specs.Rule.{Rule}

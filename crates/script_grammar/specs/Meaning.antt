@@ -38,6 +38,10 @@ step_called (s ∷ steps) name = if bytes_eq s.name name then Some (0, is_invari
 abbrev pub lemma_called : List PlainStep → List ℕ → Option (ℕ × Bool)
 lemma_called steps name = if is_text name then step_called steps name else None
 
+-- the number of the step that is cited, of those that stand before
+abbrev pub cited_meant : List PlainStep → Label → ℕ
+cited_meant before l = unwrap_or (option_map number_in (lemma_called before l.text)) 0
+
 module _ (g : Setting) where
   abbrev pub form_meant : RawUnit → Formula
   form_meant u = value_or (truth_value false) (truth_of (names_of g.names) u.tree)
@@ -113,10 +117,6 @@ module _ (g : Setting) where
   claim_meant (raw_invariance p f) = (invariant (form_meant p), stronger_meant f)
   claim_meant (raw_waiting p qs place r) = (waiting (form_meant p) (map form_meant qs), waiting_rule_meant r)
   claim_meant (raw_response p q e r) = (response (form_meant p) (form_meant q) (sum_meant e), rule_meant r)
-
-  -- the number of the step that is cited, of those that stand before
-  abbrev pub cited_meant : List PlainStep → Label → ℕ
-  cited_meant before l = unwrap_or (option_map number_in (lemma_called before l.text)) 0
 
   abbrev pub step_meant : List PlainStep → RawStep → PlainStep
   step_meant before s = record { name = s.name.text; goal = (claim_meant s.claim).0; rule = (claim_meant s.claim).1; cited = map (cited_meant before) s.cited }

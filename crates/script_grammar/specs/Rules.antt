@@ -1,6 +1,6 @@
 -- The rules of scripts, on trees: which are broken, in the order of the text, with the token at which each is found and the
 -- place that is named. `at` counts the tokens before a part. Behind the first rule that is broken the list is of no account.
-use Rattle.std.specs.Prelude.{ℕ, ◌+◌, ◌-◌, Bool, not, ◌&&◌, nat_eq, nat_lt, is_none, is_some, List, [], ◌∷◌, ◌++◌, length, Option, Some, None}
+use Rattle.std.specs.Prelude.{ℕ, ◌+◌, ◌-◌, Bool, true, not, ◌&&◌, nat_eq, nat_lt, is_none, is_some, List, [], ◌∷◌, ◌++◌, length, Option, Some, None}
 use Rattle.st_tokens.specs.declared.limit.LimitKind.TheVariants as limits
 use Rattle.st_reading.specs.Reading.{Label}
 use Rattle.st_reading.specs.Rule.{Rule}

@@ -6,3 +6,7 @@ mod RuleTrees
 mod Callings
 mod StepTrees
 mod Lawful
+mod RawReferences
+mod JudgedReferences
+mod PartLaws
+mod References

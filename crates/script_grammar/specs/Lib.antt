@@ -6,3 +6,4 @@ pub mod Meaning
 pub mod Breaking
 pub mod Rules
 pub mod Theorems
+pub mod FirstFaults

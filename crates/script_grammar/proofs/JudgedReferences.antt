@@ -108,7 +108,7 @@ module _ {A : Type 0} (verdict : Verdict A) (rules : ℕ → RawTransition → L
       spelled = one_spelled entry_token entry_spelled;
       value = the_reference (label_of t) (Some Entry);
       reads = λ after h. rw (n, e, entry_names) refl;
-      settled = λ after h. closed_settles after;
+      settled = λ after h. refl;
     }
 
     -- a name and a part that are whole

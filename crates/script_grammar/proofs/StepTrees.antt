@@ -30,7 +30,7 @@ use Rattle.script_grammar.specs.Meaning.{number_in, step_called, lemma_called, f
 use Rattle.script_grammar.specs.Breaking.{optional_rules, marked_rules, listed_rules}
 use Rattle.script_grammar.specs.Rules.{name_rules, lemma_rules, cited_rules, form_rules, sum_rules, rule_rules, waiting_rule_rules, claim_rules, step_rules, steps_rules}
 use Rattle.script_grammar.specs.Theorems.{Forms, Sums}
-use Rattle.script_grammar.proofs.Unbroken.{none_broken, both_kept, not_broken, is_kept, not_true, listed_kept, kept_listed, same2, same3}
+use Rattle.script_grammar.proofs.Unbroken.{none_broken, both_kept, not_broken, is_kept, not_true, listed_kept, kept_listed, few_at_first, same2, same3}
 use Rattle.script_grammar.proofs.Trees.{Tree, after_tree, items_tree, row_tree, as_many, after_lawful, items_lawful, row_lawful}
 use Rattle.script_grammar.proofs.Units.{form_tree, form_lawful, sum_tree, sum_lawful}
 use Rattle.script_grammar.proofs.DrawnTrees.{drawing_tree, drawing_lawful}
@@ -154,7 +154,7 @@ module _ (g : Setting) where
   waiting_rule_lawful : (count place : ℕ) (ts : List Lexeme) (r : RawWaitingRule) (at : ℕ) → IsRawWaitingRule Forms Sums ts r → waiting_rule_rules g count place at r ≡ [] → IsWaitingRule g count ts (waiting_rule_meant g r)
   waiting_rule_lawful count place ts r at (spells_levels us ls l) h =
       let k = both_kept _ _ h in
-      let m = kept_listed (λ z. z) unit_size (form_rules g) 0 at ls (omega arith) k.0 in
+      let m = kept_listed (λ z. z) unit_size (form_rules g) 0 at ls few_at_first k.0 in
       by_levels us (map (form_meant g) ls) (row_lawful (IsFormula g) (IsUnit Forms) (form_rules g) (form_meant g) (form_lawful g) unit_size marks.Comma us ls at l m.1) (length-map ls (form_meant g) ∙ equal_is (length ls) count (not_true (nat_eq (length ls) count) (is_kept _ _ _ k.1)))
   waiting_rule_lawful count place ts r at (spells_wait_diagram t u us d e f l) h = by_wait_diagram t u us (drawing_meant g Wait d) e f (drawing_lawful g Wait (count - 1) us d (at + 3) l h)
 
@@ -184,7 +184,7 @@ module _ (g : Setting) where
       let k = both_kept _ _ h in
       let k2 = both_kept _ _ k.1 in
       let forms : List RawUnit = q ∷ r2 ∷ qs in
-      let k3 = kept_listed (λ u. u) unit_size (form_rules g) 0 (at + p.size) forms (omega arith) k2.0 in
+      let k3 = kept_listed (λ u. u) unit_size (form_rules g) 0 (at + p.size) forms few_at_first k2.0 in
       let few = k3.0 in
       let k4 = both_kept _ _ k3.1 in
       let k5 = both_kept _ _ k4.1 in

@@ -12,7 +12,7 @@ use Rattle.st_reading.specs.BrokenRules.{Broken}
 use Rattle.script_grammar.specs.RawScripts.{RawUnit}
 use Rattle.script_grammar.specs.Breaking.{optional_rules, marked_rules, many_rules, listed_rules}
 use Rattle.script_grammar.specs.Grammar.{InBrackets, in_brackets}
-use Rattle.script_grammar.proofs.Unbroken.{none_broken, both_kept, same2, listed_kept, kept_listed}
+use Rattle.script_grammar.proofs.Unbroken.{none_broken, both_kept, same2, listed_kept, kept_listed, few_at_first}
 
 abbrev pub Judge : Type 0 → Type 0
 Judge R = ℕ → R → List (Broken Breach)
@@ -94,7 +94,7 @@ module _ {R A : Type 0} (L : List Lexeme → A → Type 0) (Raw : List Lexeme �
 
     pub brackets_lawful : (form : R → RawUnit) (ts : List Lexeme) (rs : List R) (at : ℕ) → InBrackets Raw ts rs → listed_rules form size judge 0 at rs ≡ [] → Bracketed L ts (map meant rs)
     brackets_lawful form ts rs at (in_brackets t u us ys e m f) h =
-        let k = kept_listed form size judge 0 at ys (omega arith) h in
+        let k = kept_listed form size judge 0 at ys few_at_first h in
         let few = k.0 in
         let n = length-map ys meant in
         bracketed t u us (map meant ys) e (row_lawful marks.Semicolon us ys at m k.1) (omega (arith, few, n)) f

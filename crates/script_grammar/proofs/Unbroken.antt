@@ -57,6 +57,9 @@ pub same4 : {A B C D E : Type 0} (f : A → B → C → D → E) {a a2 : A} {b b
 same4 f {a} {a2} {b} {b2} {c} {c2} {d} {d2} e h k m = ap (λ x. f x b c d) e ∙ same3 (f a2) h k m
 
 -- LISTS OF AT MOST 64
+pub few_at_first : 0 ≤ 64
+few_at_first = omega arith
+
 below_64 : (n m : ℕ) → n + suc m ≤ 64 → nat_lt n 64 ≡ true
 below_64 n m h = grind (arith, nat_tests)
 

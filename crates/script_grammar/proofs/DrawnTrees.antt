@@ -103,12 +103,12 @@ module _ (g : Setting) (kind : DiagramKind) (highest : ℕ) where
           raw = raw;
           spells = spells_drawn_node a b c e u number p.raw q.raw w.0.raw (spells_numeral t k is) p.spells q.spells w.0.spells z;
           lawful = λ at. none_broken (not_broken (not (nat_lt (length d.nodes) 64)) at (limited limits.Nodes place) (ap not (less_is (length d.nodes) 64 few)))
-          (none_broken (not_broken (is_known k d.nodes) (at + 1) (broke rules.Twice t.start) new)
-          (none_broken (not_broken (is_above kind highest k) (at + 1) (broke rules.UnknownNode t.start) low)
-          (none_broken (p.lawful (at + 2))
-          (none_broken (q.lawful (at + 2 + p.raw.size))
-          (none_broken (w.0.lawful (at + 2 + p.raw.size + optional_size unit_size q.raw))
-          (not_broken (has_helpers kind && is_none w.0.raw) (at + drawn_node_size raw) (broke rules.NoHelper t.start) w.1))))));
+              (none_broken (not_broken (is_known k d.nodes) (at + 1) (broke rules.Twice t.start) new)
+              (none_broken (not_broken (is_above kind highest k) (at + 1) (broke rules.UnknownNode t.start) low)
+              (none_broken (p.lawful (at + 2))
+              (none_broken (q.lawful (at + 2 + p.raw.size))
+              (none_broken (w.0.lawful (at + 2 + p.raw.size + optional_size unit_size q.raw))
+              (not_broken (has_helpers kind && is_none w.0.raw) (at + drawn_node_size raw) (broke rules.NoHelper t.start) w.1))))));
           means = same3 (make_drawn k) p.means q.means w.0.means;
         }
 
@@ -119,12 +119,13 @@ module _ (g : Setting) (kind : DiagramKind) (highest : ℕ) where
         let k3 = both_kept _ _ k2.1 in
         let k4 = both_kept _ _ k3.1 in
         let k5 = both_kept _ _ k4.1 in
-        let k6 = both_kept _ _ k5.1 in
-        (is_less (length d.nodes) 64 (not_true (nat_lt (length d.nodes) 64) (is_kept _ _ _ k1.0)),
-        drawn_node a b c e u k (form_meant g f) (option_map (sum_meant g) r) (option_map (transition_meant g) h) (new_number t k is (is_kept _ _ _ k2.0) (is_kept _ _ _ k3.0))
-        (after_lawful (IsFormula g) (IsUnit Forms) (form_rules g) (form_meant g) (form_lawful g) marks.Colon b f (at + 2) lf k4.0)
-        (rank_lawful c r (at + 2 + f.size) lr k5.0)
-        (node_helper_lawful e h (at + 2 + f.size + optional_size unit_size r) lh k6.0 (is_kept _ _ _ k6.1)) z)
+        let k6 = both_kept _ _ k5.1 in (
+          is_less (length d.nodes) 64 (not_true (nat_lt (length d.nodes) 64) (is_kept _ _ _ k1.0)),
+          drawn_node a b c e u k (form_meant g f) (option_map (sum_meant g) r) (option_map (transition_meant g) h) (new_number t k is (is_kept _ _ _ k2.0) (is_kept _ _ _ k3.0))
+              (after_lawful (IsFormula g) (IsUnit Forms) (form_rules g) (form_meant g) (form_lawful g) marks.Colon b f (at + 2) lf k4.0)
+              (rank_lawful c r (at + 2 + f.size) lr k5.0)
+              (node_helper_lawful e h (at + 2 + f.size + optional_size unit_size r) lh k6.0 (is_kept _ _ _ k6.1)) z,
+        )
 
     -- EDGES
     edge_tree : (ts : List Lexeme) (x : PlainEdge) → IsEdge g kind highest d.nodes ts x → Tree IsRawEdge (edge_rules g kind highest d place) (edge_meant g) ts x

@@ -129,12 +129,12 @@ module _ (g : Setting) where
         raw = raw;
         spells = spells_node a b c d e k p.raw q.raw r.raw s.raw v.raw w.raw p.spells q.spells r.spells s.spells v.spells w.spells;
         lawful = λ at. none_broken (p.lawful at)
-        (none_broken (q.lawful (at + p.raw.size + 1))
-        (none_broken (r.lawful (at + p.raw.size + (1 + q.raw.size) + 1))
-        (none_broken (s.lawful (at + p.raw.size + (1 + q.raw.size) + (1 + r.raw.size) + 1))
-        (none_broken (v.lawful (at + p.raw.size + (1 + q.raw.size) + (1 + r.raw.size) + (1 + s.raw.size)))
-        (none_broken (w.lawful (at + p.raw.size + (1 + q.raw.size) + (1 + r.raw.size) + (1 + s.raw.size) + optional_size transition_size v.raw))
-        (not_broken (is_none v.raw && is_none w.raw) (at + node_size raw + 1) (broke rules.NoHelper p.raw.place) (same2 (λ x y. x && y) (left_out_so (transition_meant g) v.raw group v.means) (left_out_so (transition_meant g) w.raw helper w.means) ∙ one)))))));
+            (none_broken (q.lawful (at + p.raw.size + 1))
+            (none_broken (r.lawful (at + p.raw.size + (1 + q.raw.size) + 1))
+            (none_broken (s.lawful (at + p.raw.size + (1 + q.raw.size) + (1 + r.raw.size) + 1))
+            (none_broken (v.lawful (at + p.raw.size + (1 + q.raw.size) + (1 + r.raw.size) + (1 + s.raw.size)))
+            (none_broken (w.lawful (at + p.raw.size + (1 + q.raw.size) + (1 + r.raw.size) + (1 + s.raw.size) + optional_size transition_size v.raw))
+            (not_broken (is_none v.raw && is_none w.raw) (at + node_size raw + 1) (broke rules.NoHelper p.raw.place) (same2 (λ x y. x && y) (left_out_so (transition_meant g) v.raw group v.means) (left_out_so (transition_meant g) w.raw helper w.means) ∙ one)))))));
         means = same4 (λ x y z u. make_node x y z u (option_map (transition_meant g) v.raw) (option_map (transition_meant g) w.raw)) p.means q.means r.means s.means ∙ same2 (make_node f base delay top) v.means w.means;
       }
 
@@ -187,10 +187,10 @@ module _ (g : Setting) where
         raw = raw;
         spells = spells_nested_node a b c d p.raw q.raw r.raw w.raw p.spells q.spells (omega (arith, n, four)) r.spells w.spells;
         lawful = λ at. none_broken (p.lawful at)
-        (none_broken (q.lawful (at + p.raw.size))
-        (none_broken (r.lawful (at + p.raw.size + many_size level_size q.raw + 1))
-        (none_broken (w.lawful (at + p.raw.size + many_size level_size q.raw + (1 + r.raw.size)))
-        (not_broken (nat_eq (length q.raw) 0 && is_none w.raw) (at + nested_node_size raw + 1) (broke rules.NoHelper p.raw.place) (same2 (λ x y. nat_eq x 0 && y) n (left_out_so (transition_meant g) w.raw helper w.means) ∙ one)))));
+            (none_broken (q.lawful (at + p.raw.size))
+            (none_broken (r.lawful (at + p.raw.size + many_size level_size q.raw + 1))
+            (none_broken (w.lawful (at + p.raw.size + many_size level_size q.raw + (1 + r.raw.size)))
+            (not_broken (nat_eq (length q.raw) 0 && is_none w.raw) (at + nested_node_size raw + 1) (broke rules.NoHelper p.raw.place) (same2 (λ x y. nat_eq x 0 && y) n (left_out_so (transition_meant g) w.raw helper w.means) ∙ one)))));
         means = same4 make_nested p.means q.means r.means w.means;
       }
 

@@ -172,10 +172,10 @@ module _ (g : Setting) where
         raw = raw_waiting vp.raw forms t.start v.raw;
         spells = spells_waiting a b c d us t vp.raw vq.raw vr.raw vs.raw v.raw vp.spells vq.spells vr.spells vs.spells i v.spells;
         lawful = λ at. none_broken (vp.lawful at)
-        (none_broken
-        (listed_kept (λ u. u) unit_size (form_rules g) 0 (at + vp.raw.size) forms (omega (arith, few, n))
-        (none_broken (vq.lawful (at + vp.raw.size + 1)) (none_broken (vr.lawful (at + vp.raw.size + (1 + vq.raw.size) + 1)) (vs.lawful (at + vp.raw.size + (1 + vq.raw.size) + (1 + vr.raw.size))))))
-        (subst (λ k. waiting_rule_rules g k t.start (at + vp.raw.size + marked_size unit_size forms) v.raw ≡ []) count (v.lawful (at + vp.raw.size + marked_size unit_size forms))));
+            (none_broken
+            (listed_kept (λ u. u) unit_size (form_rules g) 0 (at + vp.raw.size) forms (omega (arith, few, n))
+            (none_broken (vq.lawful (at + vp.raw.size + 1)) (none_broken (vr.lawful (at + vp.raw.size + (1 + vq.raw.size) + 1)) (vs.lawful (at + vp.raw.size + (1 + vq.raw.size) + (1 + vr.raw.size))))))
+            (subst (λ k. waiting_rule_rules g k t.start (at + vp.raw.size + marked_size unit_size forms) v.raw ≡ []) count (v.lawful (at + vp.raw.size + marked_size unit_size forms))));
         means = same2 claimed (same2 waiting vp.means (same3 two_more vq.means vr.means vs.means)) v.means;
       }
 

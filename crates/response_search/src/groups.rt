@@ -10,10 +10,13 @@ use crate::chain::nearer;
 use crate::items::{Around, Denied, Group, Trial, astray_by_steps};
 use crate::saturation::Saturation;
 use control_cubes::CubeFault;
-use invariant_search::{ALWAYS, Allowed, Search};
-use st_form::SharedForm;
+use invariant_search::{ALWAYS, Allowed, Outcome, Search};
+use st_form::{Form, SharedForm};
 use std::alloc::Global;
 use std::collections::BTreeMap;
+
+/// Of how many groups it is asked if what they leave never comes.
+const MOST: usize = 4;
 
 /// A group that grows: its region, its bases, and the number of its first item.
 #[derive(Drop)]
@@ -94,6 +97,24 @@ impl Saturation<'_> {
             }
         }
         Ok(false)
+    }
+
+    /// Whether what the group that grows leaves of its region never comes, asked as a goal of invariance.
+    pub(crate) fn is_filled(
+        &self,
+        alloc: Global,
+        search: &mut Search<'_>,
+    ) -> Result<bool, CubeFault> {
+        let Some(opened) = self.opened.first() else {
+            return Ok(false);
+        };
+        if opened.group.number >= MOST || opened.first >= self.chain.items.len() {
+            return Ok(false);
+        }
+        let parts = self.settled_form(alloc, opened.region.get())?;
+        let outcome = search.ic3(alloc, &Form::Or(parts))?;
+        search.drop_bounded();
+        Ok(matches!(outcome, Outcome::Inductive))
     }
 
     /// Gives the group up that grows.

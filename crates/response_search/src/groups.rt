@@ -9,7 +9,7 @@ use crate::bases::{Base, bases_in};
 use crate::chain::nearer;
 use crate::items::{Around, Denied, Group, Trial, astray_by_steps};
 use crate::saturation::Saturation;
-use control_cubes::CubeFault;
+use control_cubes::{Cube, CubeFault, PlaceSet};
 use invariant_search::{ALWAYS, Allowed, Outcome, Search};
 use st_form::{Form, SharedForm};
 use std::alloc::Global;
@@ -26,6 +26,36 @@ pub(crate) struct Opened {
     pub(crate) denied: Denied,
     pub(crate) bases: Vec<Base>,
     first: usize,
+}
+
+/// Gives the search that a component is at none of some places to which control never comes.
+fn exclude(
+    alloc: Global,
+    search: &mut Search<'_>,
+    component: usize,
+    never: PlaceSet,
+) -> Result<(), CubeFault> {
+    if !never.is_empty()
+        && let Ok(number) = u32::try_from(component)
+    {
+        let mut cube = Cube::everything(alloc, search.layout())?;
+        cube.set_places(number, never);
+        search.add(alloc, cube, ALWAYS)?;
+    }
+    Ok(())
+}
+
+/// Gives the search that control comes to no place to which no chain of steps leads, since all of a region has to be in items.
+fn exclude_dead(alloc: Global, search: &mut Search<'_>) -> Result<(), CubeFault> {
+    for component in 0..search.dead().len() {
+        let never = search
+            .dead()
+            .get(component)
+            .copied()
+            .unwrap_or(PlaceSet::EMPTY);
+        exclude(alloc, search, component, never)?;
+    }
+    Ok(())
 }
 
 impl Saturation<'_> {
@@ -66,6 +96,9 @@ impl Saturation<'_> {
         let trial = Trial::new(alloc, search, form, region.helper, None)?;
         if !self.may_wait(alloc, search, &trial)? {
             return Ok(false);
+        }
+        if self.groups == 0 {
+            exclude_dead(alloc, search)?;
         }
         let bases = bases_in(alloc, self.setting, search, &region.said)?;
         let group = Group {

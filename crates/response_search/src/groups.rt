@@ -9,11 +9,14 @@ use crate::bases::{Base, bases_in};
 use crate::chain::nearer;
 use crate::items::{Around, Denied, Group, Trial, astray_by_steps};
 use crate::saturation::Saturation;
-use control_cubes::CubeFault;
-use invariant_search::{ALWAYS, Allowed, Search};
-use st_form::SharedForm;
+use control_cubes::{Cube, CubeFault, PlaceSet};
+use invariant_search::{ALWAYS, Allowed, Outcome, Search};
+use st_form::{Form, SharedForm};
 use std::alloc::Global;
 use std::collections::BTreeMap;
+
+/// Of how many groups it is asked if what they leave never comes.
+const MOST: usize = 4;
 
 /// A group that grows: its region, its bases, and the number of its first item.
 #[derive(Drop)]
@@ -23,6 +26,36 @@ pub(crate) struct Opened {
     pub(crate) denied: Denied,
     pub(crate) bases: Vec<Base>,
     first: usize,
+}
+
+/// Gives the search that a component is at none of some places to which control never comes.
+fn exclude(
+    alloc: Global,
+    search: &mut Search<'_>,
+    component: usize,
+    never: PlaceSet,
+) -> Result<(), CubeFault> {
+    if !never.is_empty()
+        && let Ok(number) = u32::try_from(component)
+    {
+        let mut cube = Cube::everything(alloc, search.layout())?;
+        cube.set_places(number, never);
+        search.add(alloc, cube, ALWAYS)?;
+    }
+    Ok(())
+}
+
+/// Gives the search that control comes to no place to which no chain of steps leads, since all of a region has to be in items.
+fn exclude_dead(alloc: Global, search: &mut Search<'_>) -> Result<(), CubeFault> {
+    for component in 0..search.dead().len() {
+        let never = search
+            .dead()
+            .get(component)
+            .copied()
+            .unwrap_or(PlaceSet::EMPTY);
+        exclude(alloc, search, component, never)?;
+    }
+    Ok(())
 }
 
 impl Saturation<'_> {
@@ -64,6 +97,9 @@ impl Saturation<'_> {
         if !self.may_wait(alloc, search, &trial)? {
             return Ok(false);
         }
+        if self.groups == 0 {
+            exclude_dead(alloc, search)?;
+        }
         let bases = bases_in(alloc, self.setting, search, &region.said)?;
         let group = Group {
             transition: trial.helper.unwrap_or(u32::MAX),
@@ -94,6 +130,24 @@ impl Saturation<'_> {
             }
         }
         Ok(false)
+    }
+
+    /// Whether what the group that grows leaves of its region never comes, asked as a goal of invariance.
+    pub(crate) fn is_filled(
+        &self,
+        alloc: Global,
+        search: &mut Search<'_>,
+    ) -> Result<bool, CubeFault> {
+        let Some(opened) = self.opened.first() else {
+            return Ok(false);
+        };
+        if opened.group.number >= MOST || opened.first >= self.chain.items.len() {
+            return Ok(false);
+        }
+        let parts = self.settled_form(alloc, opened.region.get())?;
+        let outcome = search.ic3(alloc, &Form::Or(parts))?;
+        search.drop_bounded();
+        Ok(matches!(outcome, Outcome::Inductive))
     }
 
     /// Gives the group up that grows.

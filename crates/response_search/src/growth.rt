@@ -44,10 +44,10 @@ enum Round {
 }
 
 impl Saturation<'_> {
-    /// That the wait isn't on, or the goal or an item holds.
-    fn settled_form(&self, alloc: Global) -> Result<Vec<Form>, Memory> {
+    /// That a formula doesn't hold, or the goal or an item does.
+    pub(crate) fn settled_form(&self, alloc: Global, start: &Form) -> Result<Vec<Form>, Memory> {
         let mut parts = Vec::new(alloc);
-        parts.push(negation(alloc, self.start.copy(alloc)?)?)?;
+        parts.push(negation(alloc, start.copy(alloc)?)?)?;
         parts.push(self.goal.copy(alloc)?)?;
         for item in &self.chain.items {
             parts.push(item.trial.form.get().copy(alloc)?)?;
@@ -61,7 +61,8 @@ impl Saturation<'_> {
             return Ok(false);
         }
         self.asked = true;
-        let outcome = search.ic3(alloc, &Form::Or(self.settled_form(alloc)?))?;
+        let parts = self.settled_form(alloc, self.start)?;
+        let outcome = search.ic3(alloc, &Form::Or(parts))?;
         search.drop_bounded();
         match outcome {
             Outcome::Inductive => self.is_covered(alloc, search),
@@ -104,8 +105,7 @@ impl Saturation<'_> {
             return self.settle(alloc, search);
         }
         if self.group().is_some() {
-            self.give_up(alloc);
-            return Ok(Round::On);
+            return self.end_group(alloc, search);
         }
         if self.opens(alloc, search)? {
             return Ok(Round::On);
@@ -115,6 +115,15 @@ impl Saturation<'_> {
         } else {
             Ok(Round::Over)
         }
+    }
+
+    /// Closes a group to which nothing can be added, if what it leaves never comes; else gives it up.
+    fn end_group(&mut self, alloc: Global, search: &mut Search<'_>) -> Result<Round, CubeFault> {
+        if self.is_filled(alloc, search)? && self.closes(alloc, search)? {
+            return self.settle(alloc, search);
+        }
+        self.give_up(alloc);
+        Ok(Round::On)
     }
 
     /// What is tried where nothing else can be added: that the rest never comes, and pairs of literals.

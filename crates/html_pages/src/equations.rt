@@ -24,10 +24,12 @@ pub fn equation_page(
     report: &EquationReport,
     program: &[u8],
 ) -> Result<Vec<u8>, Memory> {
+    let are_equations = report.equations.iter().all(|step| !step.is_fact());
     let title = format!(in alloc;
-        "{}: {} equations that hold on every run",
+        "{}: {} {} that hold on every run",
         report.program,
-        report.equations.len()
+        report.equations.len(),
+        if are_equations { "equations" } else { "equations and facts" }
     )?;
     let mut page = Page::new(alloc);
     push_head(&mut page, &title)?;
@@ -42,7 +44,14 @@ pub fn equation_page(
         &[],
         1,
     )?;
-    page.markup("</section>\n<section>\n<h2>Equations</h2>\n")?;
+    page.markup("</section>\n<section>\n")?;
+    page.markup(
+        if are_equations {
+            "<h2>Equations</h2>\n"
+        } else {
+            "<h2>Equations and facts</h2>\n"
+        },
+    )?;
     for equation in &report.equations {
         push_equation(&mut page, equation)?;
     }

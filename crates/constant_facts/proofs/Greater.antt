@@ -1,5 +1,5 @@
 -- A set of facts that the rules admit stays within what is left of the candidates, as more facts keep more.
-use Rattle.std.proofs.Common.{cond, ◌≡◌, ℕ, Bool, true, false, ◌||◌, ◌&&◌, List, [], ◌∷◌, filter, refl, ap, ◌∙◌, sym, subst, ℤ, pos, Option, Some, None}
+use Rattle.std.proofs.Common.{cond, ◌≡◌, ℕ, Bool, true, false, ◌||◌, ◌&&◌, List, [], ◌∷◌, filter, refl, ap, ◌∙◌, sym, subst, ℤ, pos, Option, Some, None, inl, inr}
 use Rattle.std.specs.Prelude.{not, ◌==◌}
 use Rattle.std.specs.List.{list_any}
 use Rattle.std.specs.Ordering.{int_eq}
@@ -58,12 +58,12 @@ module _ (test : Fact → Bool) where
 
   member-filter : (f : Fact) (fs : List Fact) → Member f (filter test fs) → Member f fs × (test f ≡ true)
   member-filter f [] m = elim m [ ]
-  member-filter f (g ∷ fs) m = by_test (test g) refl m
+  member-filter f (g ∷ fs) m = by_test (test g) refl (λ m. member-filter f fs m) m
     where
-      by_test : (b : Bool) → test g ≡ b → Member f (cond b (g ∷ filter test fs) (filter test fs)) → Member f (g ∷ fs) × (test f ≡ true)
-      by_test true t (here e) = (here e, ap test e ∙ t)
-      by_test true t (there m) = let r = member-filter f fs m in (there r.0, r.1)
-      by_test false t m = let r = member-filter f fs m in (there r.0, r.1)
+      by_test : (b : Bool) → test g ≡ b → (Member f (filter test fs) → Member f fs × (test f ≡ true)) → Member f (cond b (g ∷ filter test fs) (filter test fs)) → Member f (g ∷ fs) × (test f ≡ true)
+      by_test true t more (here e) = (here e, ap test e ∙ t)
+      by_test true t more (there m) = let r = more m in (there r.0, r.1)
+      by_test false t more m = let r = more m in (there r.0, r.1)
 
 module _ (gs fs : List Fact) (among : AreAmong gs fs) where
   known-among : (ls : List ℕ) → AreAmong (known_at ls gs) (known_at ls fs)
@@ -101,9 +101,9 @@ module _ (gs fs : List Fact) (among : AreAmong gs fs) where
   gives-more x v (Number z) h = number-more (form_for v x.numbers) v z h
   gives-more x v (Truth b) h = formula-more (truth_for v x.truths) b h
 
-  kept-more : (at : ℕ → Option Bool) (x : Exchange) (f : Fact) → is_kept gs at x f ≡ true → is_kept fs at x f ≡ true
-  kept-more at x f h =
-      elim (or_parts (gives gs x f.variable f.value) (not (is_listed f.place x.enters) && is_spared at x f) h) [
+  kept-more : (table : ℕ → Option Bool) (x : Exchange) (f : Fact) → is_kept gs table x f ≡ true → is_kept fs table x f ≡ true
+  kept-more table x f h =
+      elim (or_parts (gives gs x f.variable f.value) (not (is_listed f.place x.enters) && is_spared table x f) h) [
         | inl e ↦ or-left _ _ (gives-more x f.variable f.value e)
         | inr e ↦ or-right (gives fs x f.variable f.value) _ e
       ]

@@ -21,12 +21,12 @@ module _ {X : Type 0} (test : X → Bool) where
   -- a filter that keeps as many keeps all
   pub filter-all : (xs : List X) → length xs ≤ length (filter test xs) → (filter test xs ≡ xs) × Each (λ x. test x ≡ true) xs
   filter-all [] h = (refl, tt)
-  filter-all (x ∷ xs) h = by_test (test x) refl h
+  filter-all (x ∷ xs) h = by_test (test x) refl (λ k. filter-all xs k) h
     where
-      by_test : (b : Bool) → test x ≡ b → suc (length xs) ≤ length (cond b (x ∷ filter test xs) (filter test xs))
+      by_test : (b : Bool) → test x ≡ b → (length xs ≤ length (filter test xs) → (filter test xs ≡ xs) × Each (λ x. test x ≡ true) xs) → suc (length xs) ≤ length (cond b (x ∷ filter test xs) (filter test xs))
           → (cond b (x ∷ filter test xs) (filter test xs) ≡ x ∷ xs) × Each (λ x. test x ≡ true) (x ∷ xs)
-      by_test true e k = let r = filter-all xs (omega arith) in (ap (λ ys. x ∷ ys) r.0, (e, r.1))
-      by_test false e k = let s = filter-shorter xs in absurd (omega arith)
+      by_test true e f k = let r = f (omega arith) in (ap (λ ys. x ∷ ys) r.0, (e, r.1))
+      by_test false e f k = let s = filter-shorter xs in absurd (omega arith)
 
 module _ (k : ControlFacts) where
   pub all-shorter : (ms : List PlainMode) (fs : List Fact) → length (kept_by_all k ms fs) ≤ length fs

@@ -1,5 +1,5 @@
 -- What the rules say is so.
-use Rattle.std.proofs.Common.{cond, ◌≡◌, ℕ, zero, suc, ◌+◌, ◌≤◌, Bool, true, false, ◌||◌, ◌&&◌, List, [], ◌∷◌, ◌++◌, filter, length, refl, ap, ◌∙◌, sym, subst, arith, ℤ, pos, neg_ℤ, ◌+ℤ◌, ◌*ℤ◌, Option, Some, None}
+use Rattle.std.proofs.Common.{cond, ◌≡◌, ℕ, zero, suc, ◌+◌, ◌≤◌, Bool, true, false, ◌||◌, ◌&&◌, List, [], ◌∷◌, ◌++◌, filter, length, refl, ap, ◌∙◌, sym, subst, arith, ℤ, pos, neg_ℤ, ◌+ℤ◌, ◌*ℤ◌, Option, Some, None, inl, inr}
 use Rattle.std.specs.Prelude.{IsTrue, not, ◌==◌, slice_get, slice_index_or, is_some, if◌then◌else◌}
 use Rattle.std.specs.List.{list_any, list_all}
 use Rattle.std.specs.Ordering.{int_eq}
@@ -23,7 +23,7 @@ use Rattle.constant_facts.specs.declared.fact.Constant.{Constant}
 use Rattle.constant_facts.specs.declared.fact.Constant.TheVariants.{Number, Truth}
 use Rattle.constant_facts.specs.declared.fact.Fact.{Fact}
 use Rattle.constant_facts.specs.Facts.{Has, Holds, AllHold, IsControlled, Keeps, AreInductive, modes_of}
-use Rattle.constant_facts.specs.Rules.{is_truth, is_same, knows, known_at, entries_are, form_is, formula_is, number_is, gives, changes, is_false, is_spared, is_kept, is_owner, case_of, cases_from, decided, entries_say, equation_says, variable_says, denial_says, says, one_says, places, places_among, is_first, narrowed}
+use Rattle.constant_facts.specs.Rules.{is_truth, is_same, knows, known_at, entries_are, form_is, formula_is, number_is, gives, is_put, changes, is_false, is_spared, is_kept, is_owner, case_of, cases_from, decided, entries_say, equation_says, variable_says, denial_says, says, one_says, places, places_among, is_first, narrowed}
 use Rattle.constant_facts.specs.Greatest.{IsKeptBy}
 use Rattle.constant_facts.proofs.Settling.{narrowed-same}
 
@@ -50,11 +50,11 @@ module _ (s : Situation) where
 
   known-so : (ls : List ℕ) (fs : List Fact) → ((l : ℕ) → is_listed l ls ≡ true → s.located l ≡ true) → AllHold s fs → AreSo (known_at ls fs)
   known-so ls [] there h = tt
-  known-so ls (f ∷ fs) there h = by_test (is_listed f.place ls) refl
+  known-so ls (f ∷ fs) there h = by_test (is_listed f.place ls) refl (known-so ls fs there h.1)
     where
-      by_test : (b : Bool) → is_listed f.place ls ≡ b → AreSo (cond b (f ∷ known_at ls fs) (known_at ls fs))
-      by_test true e = (h.0 (there f.place e), known-so ls fs there h.1)
-      by_test false e = known-so ls fs there h.1
+      by_test : (b : Bool) → is_listed f.place ls ≡ b → AreSo (known_at ls fs) → AreSo (cond b (f ∷ known_at ls fs) (known_at ls fs))
+      by_test true e k = (h.0 (there f.place e), k)
+      by_test false e k = k
 
   module _ (known : List Fact) (so : AreSo known) where
     knows-along : (fs : List Fact) → AreSo fs → (v : ℕ) (c : Constant) → knows fs v c ≡ true → Has s v c
@@ -103,13 +103,13 @@ module _ (s : Situation) where
         by_form (Some f) e k = rw e (entries-value f.constant f.entries z k)
     gives-has x v (Truth b) h = formula-truth (truth_for v x.truths) b h
 
-  unlisted : (v : ℕ) (ps : List (ℕ × Formula)) → list_any (λ p. p.0 == v) ps ≡ false → truth_for v ps ≡ bool_var v
+  unlisted : (v : ℕ) (ps : List (ℕ × Formula)) → is_put v ps ≡ false → truth_for v ps ≡ bool_var v
   unlisted v [] h = refl
-  unlisted v (p ∷ ps) h = by_test (p.0 == v) h
+  unlisted v (p ∷ ps) h = by_test (p.0 == v) (λ k. unlisted v ps k) h
     where
-      by_test : (b : Bool) → (b || list_any (λ p. p.0 == v) ps) ≡ false → (if b then p.1 else truth_for v ps) ≡ bool_var v
-      by_test true k = absurd (cc)
-      by_test false k = unlisted v ps k
+      by_test : (b : Bool) → (is_put v ps ≡ false → truth_for v ps ≡ bool_var v) → (b || is_put v ps) ≡ false → (if b then p.1 else truth_for v ps) ≡ bool_var v
+      by_test true f k = absurd (cc)
+      by_test false f k = f k
 
   unchanged-has : (x : Exchange) (v : ℕ) (c : Constant) → changes x v c ≡ false → Has s v c → Has (before s x) v c
   unchanged-has x v (Number z) h k = by_form (form_for v x.numbers) refl h
@@ -120,13 +120,13 @@ module _ (s : Situation) where
   unchanged-has x v (Truth b) h k = ap (truth s) (unlisted v x.truths h) ∙ k
 
   -- a fact that is kept holds behind the change
-  kept-holds : (known : List Fact) → AreSo known → (at : ℕ → Option Bool) → ((l : ℕ) (b : Bool) → at l ≡ Some b → s.located l ≡ b)
-      → (x : Exchange) (f : Fact) → Holds s f → is_kept known at x f ≡ true → Holds (before s x) f
-  kept-holds known so at right x f holds h there =
-      elim (or_parts (gives known x f.variable f.value) (not (is_listed f.place x.enters) && is_spared at x f) h) [
+  kept-holds : (known : List Fact) → AreSo known → (table : ℕ → Option Bool) → ((l : ℕ) (b : Bool) → table l ≡ Some b → s.located l ≡ b)
+      → (x : Exchange) (f : Fact) → Holds s f → is_kept known table x f ≡ true → Holds (before s x) f
+  kept-holds known so table right x f holds h there =
+      elim (or_parts (gives known x f.variable f.value) (not (is_listed f.place x.enters) && is_spared table x f) h) [
         | inl g ↦ gives-has known so x f.variable f.value g
         | inr g ↦
-            let b = both_true (not (is_listed f.place x.enters)) (is_spared at x f) g in
+            let b = both_true (not (is_listed f.place x.enters)) (is_spared table x f) g in
             spared b.1 (old (is_listed f.place x.enters) (is_listed f.place x.leaves) (false-true _ b.0) there)
       ]
     where
@@ -135,17 +135,17 @@ module _ (s : Situation) where
       old false true h k = absurd (cc)
       old false false h k = (refl, k)
 
-      absent : (o : Option Bool) → at f.place ≡ o → is_false o ≡ true → s.located f.place ≡ false
+      absent : (o : Option Bool) → table f.place ≡ o → is_false o ≡ true → s.located f.place ≡ false
       absent None e k = absurd (cc)
       absent (Some true) e k = absurd (cc)
       absent (Some false) e k = right f.place false e
 
-      spared : is_spared at x f ≡ true → (is_listed f.place x.leaves ≡ false) × (s.located f.place ≡ true) → Has (before s x) f.variable f.value
+      spared : is_spared table x f ≡ true → (is_listed f.place x.leaves ≡ false) × (s.located f.place ≡ true) → Has (before s x) f.variable f.value
       spared h k =
-          elim (or_parts (is_listed f.place x.leaves) (is_false (at f.place) || not (changes x f.variable f.value)) h) [
+          elim (or_parts (is_listed f.place x.leaves) (is_false (table f.place) || not (changes x f.variable f.value)) h) [
             | inl a ↦ absurd (cc)
-            | inr a ↦ elim (or_parts (is_false (at f.place)) (not (changes x f.variable f.value)) a) [
-              | inl b ↦ let n = absent (at f.place) refl b in absurd (cc)
+            | inr a ↦ elim (or_parts (is_false (table f.place)) (not (changes x f.variable f.value)) a) [
+              | inl b ↦ let n = absent (table f.place) refl b in absurd (cc)
               | inr b ↦ unchanged-has x f.variable f.value (false-true _ b) (holds k.1)
             ]
           ]
@@ -155,25 +155,28 @@ module _ (k : ControlFacts) where
   case-owned : (ls : List ℕ) (c : ℕ) (a : Alternative) → case_of k.owners ls c ≡ Some a
       → (l : ℕ) × ((is_listed l ls ≡ true) × ((slice_get k.owners l ≡ Some c) × (a ≡ Location l)))
   case-owned [] c a h = absurd (cc)
-  case-owned (l ∷ ls) c a h = by_owner (slice_get k.owners l) refl h
+  case-owned (l ∷ ls) c a h = by_owner (slice_get k.owners l) refl (λ h. case-owned ls c a h) h
     where
-      further : case_of k.owners ls c ≡ Some a → (m : ℕ) × ((is_listed m (l ∷ ls) ≡ true) × ((slice_get k.owners m ≡ Some c) × (a ≡ Location m)))
-      further h = let r = case-owned ls c a h in (r.0, (or-right (l == r.0) _ r.1.0, r.1.1))
-        where
-          or-right : (x y : Bool) → y ≡ true → (x || y) ≡ true
-          or-right true y h = refl
-          or-right false y h = h
+      abbrev Owned : List ℕ → Type 0
+      Owned ms = (m : ℕ) × ((is_listed m ms ≡ true) × ((slice_get k.owners m ≡ Some c) × (a ≡ Location m)))
 
-      by_test : (d : ℕ) (b : Bool) → slice_get k.owners l ≡ Some d → (d == c) ≡ b → (if b then Some (Location l) else case_of k.owners ls c) ≡ Some a
-          → (m : ℕ) × ((is_listed m (l ∷ ls) ≡ true) × ((slice_get k.owners m ≡ Some c) × (a ≡ Location m)))
-      by_test d true own e h =
+      or-right : (x y : Bool) → y ≡ true → (x || y) ≡ true
+      or-right true y h = refl
+      or-right false y h = h
+
+      further : Owned ls → Owned (l ∷ ls)
+      further r = (r.0, (or-right (l == r.0) _ r.1.0, r.1.1))
+
+      by_test : (d : ℕ) (b : Bool) → slice_get k.owners l ≡ Some d → (d == c) ≡ b → (case_of k.owners ls c ≡ Some a → Owned ls)
+          → (if b then Some (Location l) else case_of k.owners ls c) ≡ Some a → Owned (l ∷ ls)
+      by_test d true own e rest h =
           (l, (ap (λ b. b || is_listed l ls) (same_test l), (own ∙ ap Some (test_same d c e), sym (some_same _ _ h))))
-      by_test d false own e h = further h
+      by_test d false own e rest h = further (rest h)
 
-      by_owner : (o : Option ℕ) → slice_get k.owners l ≡ o → (if is_owner o c then Some (Location l) else case_of k.owners ls c) ≡ Some a
-          → (m : ℕ) × ((is_listed m (l ∷ ls) ≡ true) × ((slice_get k.owners m ≡ Some c) × (a ≡ Location m)))
-      by_owner None own h = further h
-      by_owner (Some d) own h = by_test d (d == c) own refl h
+      by_owner : (o : Option ℕ) → slice_get k.owners l ≡ o → (case_of k.owners ls c ≡ Some a → Owned ls)
+          → (if is_owner o c then Some (Location l) else case_of k.owners ls c) ≡ Some a → Owned (l ∷ ls)
+      by_owner None own rest h = further (rest h)
+      by_owner (Some d) own rest h = by_test d (d == c) own refl rest h
 
   cases-case : (ls : List ℕ) (n c j : ℕ) (a : Alternative) → slice_index_or (cases_from k.owners ls n c) j None ≡ Some a → case_of k.owners ls (c + j) ≡ Some a
   cases-case ls zero c j a h = absurd (nowhere j h)
@@ -190,7 +193,8 @@ module _ (k : ControlFacts) where
     where
       follows : Follows k.components m (cases_from k.owners ls (length k.components) 0)
       follows c a e =
-          let r = case-owned ls c a (cases-case ls (length k.components) 0 c a e) in
+          let zero-less : 0 + c ≡ c = omega arith in
+          let r = case-owned ls c a (subst (λ (n : ℕ). case_of k.owners ls n ≡ Some a) zero-less (cases-case ls (length k.components) 0 c a e)) in
           let w = (control.located r.0).0 (there r.0 r.1.0) in
           let same : w.0 ≡ c = some_same _ _ (sym w.1 ∙ r.1.1.0) in
           (subst (λ (x : ℕ). Active k.components m x) same w.2, ap m (sym same) ∙ w.3 ∙ sym r.1.1.1)
@@ -204,10 +208,10 @@ module _ (k : ControlFacts) where
         | inr i ↦ all-listed s ls b.1 l i
       ]
 
-  kept-each : (s : Situation) (known : List Fact) → AreSo s known → (at : ℕ → Option Bool) → ((l : ℕ) (b : Bool) → at l ≡ Some b → s.located l ≡ b) → (x : Exchange) (fs : List Fact)
-      → AllHold s fs → Each (λ f. is_kept known at x f ≡ true) fs → AllHold (before s x) fs
-  kept-each s known so at right x [] h i = tt
-  kept-each s known so at right x (f ∷ fs) h i = (kept-holds s known so at right x f h.0 i.0, kept-each s known so at right x fs h.1 i.1)
+  kept-each : (s : Situation) (known : List Fact) → AreSo s known → (table : ℕ → Option Bool) → ((l : ℕ) (b : Bool) → table l ≡ Some b → s.located l ≡ b) → (x : Exchange) (fs : List Fact)
+      → AllHold s fs → Each (λ f. is_kept known table x f ≡ true) fs → AllHold (before s x) fs
+  kept-each s known so table right x [] h i = tt
+  kept-each s known so table right x (f ∷ fs) h i = (kept-holds s known so table right x f h.0 i.0, kept-each s known so table right x fs h.1 i.1)
 
   mode-keeps : (fs : List Fact) (m : PlainMode) → IsKeptBy k fs m → Keeps k fs m
   mode-keeps fs m h s control holds go =
@@ -287,11 +291,11 @@ module _ (s : Situation) where
 
   listed-either : (l : ℕ) (xs ys : List ℕ) → is_listed l (xs ++ ys) ≡ true → (is_listed l xs || is_listed l ys) ≡ true
   listed-either l [] ys h = h
-  listed-either l (x ∷ xs) ys h = by_test (x == l) h
+  listed-either l (x ∷ xs) ys h = by_test (x == l) (λ k. listed-either l xs ys k) h
     where
-      by_test : (b : Bool) → (b || is_listed l (xs ++ ys)) ≡ true → ((b || is_listed l xs) || is_listed l ys) ≡ true
-      by_test true h = refl
-      by_test false h = listed-either l xs ys h
+      by_test : (b : Bool) → (is_listed l (xs ++ ys) ≡ true → (is_listed l xs || is_listed l ys) ≡ true) → (b || is_listed l (xs ++ ys)) ≡ true → ((b || is_listed l xs) || is_listed l ys) ≡ true
+      by_test true f h = refl
+      by_test false f h = f h
 
   mutual
     places-there : (f : Formula) → truth s f ≡ true → (l : ℕ) → is_listed l (places f) ≡ true → s.located l ≡ true
@@ -313,20 +317,20 @@ module _ (s : Situation) where
           | inr i ↦ among-there fs b.1 l i
         ]
 
-  first-holds : (at : ℕ → Option Bool) → ((l : ℕ) (b : Bool) → at l ≡ Some b → s.located l ≡ b) → (initial : Formula) → truth s initial ≡ true
-      → (fs : List Fact) → Each (λ f. is_first at initial f ≡ true) fs → AllHold s fs
-  first-holds at right initial e [] h = tt
-  first-holds at right initial e (f ∷ fs) h = (one, first-holds at right initial e fs h.1)
+  first-holds : (table : ℕ → Option Bool) → ((l : ℕ) (b : Bool) → table l ≡ Some b → s.located l ≡ b) → (initial : Formula) → truth s initial ≡ true
+      → (fs : List Fact) → Each (λ f. is_first table initial f ≡ true) fs → AllHold s fs
+  first-holds table right initial e [] h = tt
+  first-holds table right initial e (f ∷ fs) h = (one, first-holds table right initial e fs h.1)
     where
-      absent : (o : Option Bool) → at f.place ≡ o → is_false o ≡ true → s.located f.place ≡ false
+      absent : (o : Option Bool) → table f.place ≡ o → is_false o ≡ true → s.located f.place ≡ false
       absent None e k = absurd (cc)
       absent (Some true) e k = absurd (cc)
       absent (Some false) e k = right f.place false e
 
       one : Holds s f
       one there =
-          elim (or_parts (is_false (at f.place)) (says initial f.variable f.value) h.0) [
-            | inl i ↦ let n = absent (at f.place) refl i in absurd (cc)
+          elim (or_parts (is_false (table f.place)) (says initial f.variable f.value) h.0) [
+            | inl i ↦ let n = absent (table f.place) refl i in absurd (cc)
             | inr i ↦ says-has initial f.variable f.value i e
           ]
 

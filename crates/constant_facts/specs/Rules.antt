@@ -62,10 +62,13 @@ abbrev pub gives : List Fact → Exchange → ℕ → Constant → Bool
 gives known x v (Number z) = number_is known (form_for v x.numbers) v z
 gives known x v (Truth b) = formula_is known (truth_for v x.truths) b
 
+abbrev pub is_put : ℕ → List (ℕ × Formula) → Bool
+is_put v ps = list_any (λ p. p.0 == v) ps
+
 -- the change gives the variable a value
 abbrev pub changes : Exchange → ℕ → Constant → Bool
 changes x v (Number z) = is_some (form_for v x.numbers)
-changes x v (Truth b) = list_any (λ p. p.0 == v) x.truths
+changes x v (Truth b) = is_put v x.truths
 
 -- what a table says of a location
 abbrev pub places_or : List (Option Bool) → ℕ → Option Bool

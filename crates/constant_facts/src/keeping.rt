@@ -1,12 +1,11 @@
 //! Which facts a step keeps. A step is one of a mode; where it can be taken, control is at the mode's locations, so the facts of
 //! these locations are known, and control is at no other location of the same components.
 
-ghost use Rattle.std.specs.Prelude.{◌≡◌, ◌==◌, ◌++◌, IfOk, OnOk, map, filter, flat_map, length, slice_get, slice_index_or, is_some};
-ghost use Rattle.std.specs.List.{list_any};
+ghost use Rattle.std.specs.Prelude.{◌≡◌, IfOk, map, filter, flat_map, slice_get, is_some};
 ghost use Rattle.st_linear.specs.Linear.{form_for};
 ghost use Rattle.st_form.specs.Plain.{plain, plain_change};
 ghost use Rattle.transition_system.specs.Plain.{plain_mode, plain_transition};
-ghost use Rattle.constant_facts.specs.Rules.{is_false, is_spared, is_kept, is_owner, case_of, cases_from, decided, kept_by, kept_by_all, changes, places_or};
+ghost use Rattle.constant_facts.specs.Rules.{is_false, is_spared, is_kept, is_owner, case_of, cases_from, decided, kept_by, kept_by_all, is_put, changes, places_or};
 
 use crate::fact::{Constant, Fact};
 use crate::knowing::{gives, is_listed, known_at};
@@ -17,21 +16,42 @@ use st_memory::Memory;
 use std::alloc::Global;
 use transition_system::{Mode, Transition};
 
+/// Whether the location is the component's own.
+fn is_owner(owners: &[u32], location: u32, component: u32) -> bool
+    ensures { result ≡ is_owner (slice_get owners.now location) component }
+{
+    match owners.get(location as usize) {
+        Some(owner) => *owner == component,
+        None => false,
+    }
+}
+
 /// Of a component that owns one of these locations, this location.
 fn case_of(owners: &[u32], places: &[u32], component: u32) -> Option<Alternative>
     ensures { result ≡ case_of owners.now places.now component }
 {
     for place in places {
-        match owners.get(*place as usize) {
-            Some(owner) => {
-                if *owner == component {
-                    return Some(Alternative::Location(*place));
-                }
-            }
-            None => {}
+        if is_owner(owners, *place, component) {
+            return Some(Alternative::Location(*place));
         }
     }
     None
+}
+
+/// Of so many components what is decided of each where control is at these locations.
+fn cases(
+    alloc: Global,
+    owners: &[u32],
+    places: &[u32],
+    count: u32,
+) -> Result<Vec<Option<Alternative>>, Memory>
+    ensures { IfOk result (λ v. v.items ≡ cases_from owners.now places.now count 0) }
+{
+    let mut out = Vec::new(alloc);
+    for component in 0..count {
+        out.push(case_of(owners, places, component))?;
+    }
+    Ok(out)
 }
 
 /// Where control is at these locations, what is decided of each location.
@@ -42,11 +62,9 @@ pub(crate) fn decided(
 ) -> Result<Vec<Option<bool>>, Memory>
     ensures { IfOk result (λ v. places_or v.items ≡ decided components.now places.now) }
 {
-    let mut cases = Vec::new(alloc);
-    for component in 0..components.count() {
-        cases.push(case_of(components.owners(), places, component))?;
-    }
-    components.places(alloc, &cases)
+    let cases = cases(alloc, components.owners(), places, components.count())?;
+    let table = components.places(alloc, &cases)?;
+    Ok(table)
 }
 
 fn changes_number(numbers: &[(u32, Lin)], variable: u32) -> bool
@@ -61,7 +79,7 @@ fn changes_number(numbers: &[(u32, Lin)], variable: u32) -> bool
 }
 
 fn changes_truth(truths: &[(u32, Form)], variable: u32) -> bool
-    ensures { result ≡ list_any (λ p. p.0 == variable) (map (λ p. (p.0, plain p.1)) truths.now) }
+    ensures { result ≡ is_put variable (map (λ p. (p.0, plain p.1)) truths.now) }
 {
     for pair in truths {
         if pair.0 == variable {

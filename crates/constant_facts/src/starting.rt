@@ -124,6 +124,33 @@ fn is_first(places: &[Option<bool>], initial: &Form, fact: &Fact) -> bool
     is_absent(places, fact.place) || says(initial, fact.variable, &fact.value)
 }
 
+/// Those of the facts that hold at the beginning, where what is decided of locations is in a table.
+fn first_among(
+    alloc: Global,
+    places: &[Option<bool>],
+    beginning: &Form,
+    facts: &[Fact],
+) -> Result<Vec<Fact>, Memory>
+    ensures { IfOk result (λ v. v.items ≡ filter (is_first (places_or places.now) (plain beginning.now)) facts.now) }
+{
+    let mut out = Vec::new(alloc);
+    for fact in facts {
+        if is_first(places, beginning, fact) {
+            out.push(*fact)?;
+        }
+    }
+    Ok(out)
+}
+
+/// The locations that the initial condition names.
+fn places_of(alloc: Global, initial: &Form) -> Result<Vec<u32>, Memory>
+    ensures { IfOk result (λ v. v.items ≡ places (plain initial.now)) }
+{
+    let mut out = Vec::new(alloc);
+    push_places(initial, &mut out)?;
+    Ok(out)
+}
+
 /// Those of the facts that hold at the beginning.
 pub(crate) fn first_of(
     alloc: Global,
@@ -133,14 +160,7 @@ pub(crate) fn first_of(
 ) -> Result<Vec<Fact>, Memory>
     ensures { IfOk result (λ v. v.items ≡ first_of components.now (plain initial.now) facts.now) }
 {
-    let mut starts = Vec::new(alloc);
-    push_places(initial, &mut starts)?;
-    let places = decided(alloc, components, &starts)?;
-    let mut out = Vec::new(alloc);
-    for fact in facts {
-        if is_first(&places, initial, fact) {
-            out.push(*fact)?;
-        }
-    }
-    Ok(out)
+    let starts = places_of(alloc, initial)?;
+    let table = decided(alloc, components, &starts)?;
+    first_among(alloc, &table, initial, facts)
 }

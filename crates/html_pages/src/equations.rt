@@ -24,7 +24,7 @@ pub fn equation_page(
     report: &EquationReport,
     program: &[u8],
 ) -> Result<Vec<u8>, Memory> {
-    let are_equations = report.equations.iter().all(|step| !step.is_fact());
+    let are_equations = report.equations.iter().all(|step| !step.name.starts_with("fact"));
     let title = format!(in alloc;
         "{}: {} {} that hold on every run",
         report.program,

@@ -9,13 +9,6 @@ pub struct Equation {
     pub text: Option<String>,
 }
 
-impl Equation {
-    /// Whether the step says what value a variable has at places, rather than a sum; its name tells.
-    pub fn is_fact(&self) -> bool {
-        self.name.starts_with("fact")
-    }
-}
-
 /// What was found for a program. `status` and `headline` are `step`'s.
 #[derive(Serialize, Drop)]
 pub struct EquationReport {

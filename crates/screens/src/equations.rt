@@ -61,9 +61,14 @@ fn so_many(alloc: Global, count: usize, what: &str) -> Result<String, Memory> {
     Ok(format!(in alloc; "{count} {what}{ending}")?)
 }
 
+/// How many steps say what value a variable has at places, rather than a sum; their names tell.
+fn facts_in(report: &EquationReport) -> usize {
+    report.equations.iter().filter(|step| step.name.starts_with("fact")).count()
+}
+
 /// How many equations were found, and how many facts beside them.
 fn counts(alloc: Global, report: &EquationReport) -> Result<String, Memory> {
-    let facts = report.equations.iter().filter(|step| step.is_fact()).count();
+    let facts = facts_in(report);
     let equations = report.equations.len().saturating_sub(facts);
     let mut counts = String::new(alloc);
     if equations > 0 {

@@ -18,19 +18,31 @@ fn push_equation(page: &mut Page, equation: &Equation) -> Result<(), Memory> {
     }
 }
 
+/// Whether some step says what value a variable has at places, rather than a sum; its name tells.
+fn has_facts(report: &EquationReport) -> bool {
+    report.equations.iter().any(|step| step.name.starts_with("fact"))
+}
+
+/// How many equations there are, and facts among them.
+fn title(alloc: Global, report: &EquationReport) -> Result<String, Memory> {
+    let program = &report.program;
+    let count = report.equations.len();
+    if has_facts(report) {
+        return Ok(format!(in alloc; "{program}: {count} invariants that hold on every run")?);
+    }
+    if count == 1 {
+        return Ok(format!(in alloc; "{program}: an equation that holds on every run")?);
+    }
+    Ok(format!(in alloc; "{program}: {count} equations that hold on every run")?)
+}
+
 /// The page of the equations of a program: the report, and the program's text.
 pub fn equation_page(
     alloc: Global,
     report: &EquationReport,
     program: &[u8],
 ) -> Result<Vec<u8>, Memory> {
-    let are_equations = report.equations.iter().all(|step| !step.name.starts_with("fact"));
-    let title = format!(in alloc;
-        "{}: {} {} that hold on every run",
-        report.program,
-        report.equations.len(),
-        if are_equations { "equations" } else { "equations and facts" }
-    )?;
+    let title = title(alloc, report)?;
     let mut page = Page::new(alloc);
     push_head(&mut page, &title)?;
     push_headline(&mut page, !report.equations.is_empty(), &title)?;
@@ -46,10 +58,10 @@ pub fn equation_page(
     )?;
     page.markup("</section>\n<section>\n")?;
     page.markup(
-        if are_equations {
-            "<h2>Equations</h2>\n"
-        } else {
+        if has_facts(report) {
             "<h2>Equations and facts</h2>\n"
+        } else {
+            "<h2>Equations</h2>\n"
         },
     )?;
     for equation in &report.equations {

@@ -3,6 +3,7 @@
 use fact_texts::fact_texts;
 use milkhour_run::{Answer, Question, Status, Texts, answer};
 use st_memory::Memory;
+use st_outside::OpenGate;
 use std::alloc::Global;
 use std::thread::Threads;
 
@@ -19,7 +20,7 @@ fn verifies<'x, R: Threads + Sync>(
         proof: Some(proof),
         third: None,
     };
-    let judged = answer(rt, alloc, Question::Verify, workers, &texts)?;
+    let judged = answer(rt, alloc, Question::Verify, workers, &texts, &OpenGate)?;
     Ok(judged.status == Status::Proved)
 }
 

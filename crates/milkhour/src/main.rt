@@ -15,6 +15,7 @@ mod serving;
 mod stepping;
 mod stepping_through;
 mod streams;
+mod titles;
 mod trouble;
 mod working;
 

@@ -14,17 +14,17 @@ pub(crate) struct Group {
 
 /// Adds a fact to the group of its variable and value.
 fn push_fact(alloc: Global, groups: &mut Vec<Group>, fact: &Fact) -> Result<(), Memory> {
-    for group in groups.iter_mut() {
-        if group.variable == fact.variable && group.value == fact.value {
-            group.places.push(fact.place)?;
-            return Ok(());
-        }
+    let place = groups
+        .iter()
+        .position(|group| group.variable == fact.variable && group.value == fact.value);
+    match place.and_then(|place| groups.get_mut(place)) {
+        Some(group) => group.places.push(fact.place)?,
+        None => groups.push(Group {
+            variable: fact.variable,
+            value: fact.value,
+            places: vec![in alloc; fact.place]?,
+        })?,
     }
-    groups.push(Group {
-        variable: fact.variable,
-        value: fact.value,
-        places: vec![in alloc; fact.place]?,
-    })?;
     Ok(())
 }
 

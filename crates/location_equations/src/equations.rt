@@ -1,7 +1,8 @@
 //! The equations of a space: the basis of the vectors that take each of its rows to 0.
 
-ghost use Rattle.std.specs.Prelude.{◌+◌, ◌<◌, ◌^◌, IfOk, IfSome};
+ghost use Rattle.std.specs.Prelude.{◌≡◌, IfOk, IfSome};
 ghost use Rattle.null_laws.specs.Bases.{AllMeet, IsRow};
+ghost use Rattle.location_equations.specs.Below.{are_below};
 
 use crate::spaces::Space;
 use matrix_rows::Row;
@@ -17,16 +18,29 @@ pub struct LocationEquation {
     pub form: Lin,
 }
 
+/// Whether all columns are below the width.
+fn are_below(width: u32, entries: &[(u32, i128)]) -> bool
+    ensures { result ≡ are_below width entries.now }
+{
+    for entry in entries {
+        if entry.0 >= width {
+            return false;
+        }
+    }
+    true
+}
+
 /// A vector as a row of so many columns, if it has no more.
+#[tactic(auto, using(crate::proofs::Belows::all-below))]
 fn row_of(alloc: Global, width: u32, vector: &Lin) -> Result<Option<Row>, Memory>
     ensures { IfOk result (λ o. IfSome o (λ row. IsRow width row)) }
 {
-    for entry in vector.entries() {
-        if entry.0 >= width {
-            return Ok(None);
-        }
+    let entries = vector.entries();
+    if are_below(width, entries) {
+        Ok(Some(Row::new(alloc, entries)?))
+    } else {
+        Ok(None)
     }
-    Ok(Some(Row::new(alloc, vector.entries())?))
 }
 
 /// The rows of a space, but those with more columns, of which there are none.

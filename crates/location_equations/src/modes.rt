@@ -12,21 +12,43 @@ pub(crate) fn owner(components: &Components, location: u32) -> Option<u32> {
     components.owners().get(location as usize).copied()
 }
 
+/// The only location of a list.
+fn only(locations: &[u32]) -> Option<u32> {
+    match locations {
+        [location] => Some(*location),
+        _ => None,
+    }
+}
+
 /// The locations between which a mode takes one component, if it is such a mode.
 pub(crate) fn passage(components: &Components, mode: &Mode) -> Option<(u32, u32)> {
-    let ([from], [to]) = (mode.at.as_slice(), mode.change.enters.as_slice()) else {
-        return None;
-    };
-    if owner(components, *from) == owner(components, *to) {
-        Some((*from, *to))
+    let from = only(&mode.at)?;
+    let to = only(&mode.change.enters)?;
+    if owner(components, from) == owner(components, to) {
+        Some((from, to))
     } else {
         None
     }
 }
 
-/// Whether a mode may change the variable while the component stays where it is.
+/// Whether a mode is of other components alone.
 fn is_of_another(components: &Components, mode: &Mode, component: u32) -> bool {
-    mode.at.iter().all(|location| owner(components, *location) != Some(component))
+    for location in &mode.at {
+        if owner(components, *location) == Some(component) {
+            return false;
+        }
+    }
+    true
+}
+
+/// Whether a mode gives the number a value.
+fn gives(mode: &Mode, variable: u32) -> bool {
+    for pair in &mode.change.numbers {
+        if pair.0 == variable {
+            return true;
+        }
+    }
+    false
 }
 
 /// Whether some mode of another component gives the number a value.
@@ -36,12 +58,14 @@ fn is_changed_outside(
     component: u32,
     variable: u32,
 ) -> bool {
-    fts.transitions.iter().any(|transition| {
-        transition.modes.iter().any(|mode| {
-            mode.change.numbers.iter().any(|pair| pair.0 == variable)
-                && is_of_another(components, mode, component)
-        })
-    })
+    for transition in &fts.transitions {
+        for mode in &transition.modes {
+            if gives(mode, variable) && is_of_another(components, mode, component) {
+                return true;
+            }
+        }
+    }
+    false
 }
 
 /// The variables of which a component knows nothing: truth values, and numbers that others change.

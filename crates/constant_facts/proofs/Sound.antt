@@ -152,29 +152,29 @@ module _ (s : Situation) where
 
 -- what is decided where control is at locations
 module _ (k : ControlFacts) where
-  case-owned : (ls : List ℕ) (c : ℕ) (a : Alternative) → case_of k.owners ls c ≡ Some a
-      → (l : ℕ) × ((is_listed l ls ≡ true) × ((slice_get k.owners l ≡ Some c) × (a ≡ Location l)))
+  -- one of the locations is the component's own, and is what is decided
+  abbrev Owned : ℕ → Alternative → List ℕ → Type 0
+  Owned c a ls = (l : ℕ) × ((is_listed l ls ≡ true) × ((slice_get k.owners l ≡ Some c) × (a ≡ Location l)))
+
+  case-owned : (ls : List ℕ) (c : ℕ) (a : Alternative) → case_of k.owners ls c ≡ Some a → Owned c a ls
   case-owned [] c a h = absurd (cc)
   case-owned (l ∷ ls) c a h = by_owner (slice_get k.owners l) refl (λ h. case-owned ls c a h) h
     where
-      abbrev Owned : List ℕ → Type 0
-      Owned ms = (m : ℕ) × ((is_listed m ms ≡ true) × ((slice_get k.owners m ≡ Some c) × (a ≡ Location m)))
-
       or-right : (x y : Bool) → y ≡ true → (x || y) ≡ true
       or-right true y h = refl
       or-right false y h = h
 
-      further : Owned ls → Owned (l ∷ ls)
+      further : Owned c a ls → Owned c a (l ∷ ls)
       further r = (r.0, (or-right (l == r.0) _ r.1.0, r.1.1))
 
-      by_test : (d : ℕ) (b : Bool) → slice_get k.owners l ≡ Some d → (d == c) ≡ b → (case_of k.owners ls c ≡ Some a → Owned ls)
-          → (if b then Some (Location l) else case_of k.owners ls c) ≡ Some a → Owned (l ∷ ls)
+      by_test : (d : ℕ) (b : Bool) → slice_get k.owners l ≡ Some d → (d == c) ≡ b → (case_of k.owners ls c ≡ Some a → Owned c a ls)
+          → (if b then Some (Location l) else case_of k.owners ls c) ≡ Some a → Owned c a (l ∷ ls)
       by_test d true own e rest h =
           (l, (ap (λ b. b || is_listed l ls) (same_test l), (own ∙ ap Some (test_same d c e), sym (some_same _ _ h))))
       by_test d false own e rest h = further (rest h)
 
-      by_owner : (o : Option ℕ) → slice_get k.owners l ≡ o → (case_of k.owners ls c ≡ Some a → Owned ls)
-          → (if is_owner o c then Some (Location l) else case_of k.owners ls c) ≡ Some a → Owned (l ∷ ls)
+      by_owner : (o : Option ℕ) → slice_get k.owners l ≡ o → (case_of k.owners ls c ≡ Some a → Owned c a ls)
+          → (if is_owner o c then Some (Location l) else case_of k.owners ls c) ≡ Some a → Owned c a (l ∷ ls)
       by_owner None own rest h = further (rest h)
       by_owner (Some d) own rest h = by_test d (d == c) own refl rest h
 
@@ -189,15 +189,15 @@ module _ (k : ControlFacts) where
 
   pub decided-right : (s : Situation) → IsControlled k s → (ls : List ℕ) → ((l : ℕ) → is_listed l ls ≡ true → s.located l ≡ true)
       → (l : ℕ) (b : Bool) → decided k ls l ≡ Some b → s.located l ≡ b
-  decided-right s (m, control) ls there l b h = place-right k m s.located (cases_from k.owners ls (length k.components) 0) control follows l b h
+  decided-right s control ls there l b h = place-right k control.0 s.located (cases_from k.owners ls (length k.components) 0) control.1 follows l b h
     where
-      follows : Follows k.components m (cases_from k.owners ls (length k.components) 0)
+      follows : Follows k.components control.0 (cases_from k.owners ls (length k.components) 0)
       follows c a e =
           let zero-less : 0 + c ≡ c = omega arith in
           let r = case-owned ls c a (subst (λ (n : ℕ). case_of k.owners ls n ≡ Some a) zero-less (cases-case ls (length k.components) 0 c a e)) in
-          let w = (control.located r.0).0 (there r.0 r.1.0) in
+          let w = (control.1.located r.0).0 (there r.0 r.1.0) in
           let same : w.0 ≡ c = some_same _ _ (sym w.1 ∙ r.1.1.0) in
-          (subst (λ (x : ℕ). Active k.components m x) same w.2, ap m (sym same) ∙ w.3 ∙ sym r.1.1.1)
+          (subst (λ (x : ℕ). Active k.components control.0 x) same w.2, ap control.0 (sym same) ∙ w.3 ∙ sym r.1.1.1)
 
   all-listed : (s : Situation) (ls : List ℕ) → list_all (λ l. s.located l) ls ≡ true → (l : ℕ) → is_listed l ls ≡ true → s.located l ≡ true
   all-listed s [] h l e = absurd (cc)

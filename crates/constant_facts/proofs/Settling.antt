@@ -1,6 +1,5 @@
 -- Lists that a round leaves as they are.
-use Rattle.std.proofs.Common.{cond, ◌≡◌, ℕ, suc, ◌≤◌, Bool, true, false, List, [], ◌∷◌, filter, length, refl, ap, ◌∙◌, sym, subst, arith}
-use Rattle.std.specs.Prelude.{IsTrue}
+use Rattle.std.proofs.Common.{cond, ◌≡◌, suc, ◌≤◌, Bool, true, false, List, [], ◌∷◌, filter, length, refl, ap, ◌∙◌, subst, arith}
 use Rattle.list_laws.specs.Each.{Each}
 use Rattle.control_states.specs.Control.{ControlFacts}
 use Rattle.transition_system.specs.Systems.{PlainMode, System}

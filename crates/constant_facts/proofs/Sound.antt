@@ -1,29 +1,28 @@
 -- What the rules say is so.
-use Rattle.std.proofs.Common.{cond, ◌≡◌, ℕ, zero, suc, ◌+◌, ◌≤◌, Bool, true, false, ◌||◌, ◌&&◌, List, [], ◌∷◌, ◌++◌, filter, length, refl, ap, ◌∙◌, sym, subst, arith, ℤ, pos, neg_ℤ, ◌+ℤ◌, ◌*ℤ◌, Option, Some, None, inl, inr}
-use Rattle.std.specs.Prelude.{IsTrue, not, ◌==◌, slice_get, slice_index_or, is_some, if◌then◌else◌}
-use Rattle.std.specs.List.{list_any, list_all}
+use Rattle.std.proofs.Common.{cond, ◌≡◌, ℕ, zero, suc, ◌+◌, ◌≤◌, Bool, true, false, ◌||◌, ◌&&◌, List, [], ◌∷◌, ◌++◌, length, refl, ap, ◌∙◌, sym, subst, arith, ℤ, pos, neg_ℤ, ◌+ℤ◌, ◌*ℤ◌, Option, Some, None, inl, inr}
+use Rattle.std.specs.Prelude.{not, ◌==◌, slice_get, slice_index_or, is_some, if◌then◌else◌}
+use Rattle.std.specs.List.{list_all}
 use Rattle.std.specs.Ordering.{int_eq}
 use Rattle.std.proofs.lemmas.Int.{ints}
 use Rattle.std.proofs.lemmas.Bool.Decides.{Decides-int_eq}
 use Rattle.list_laws.specs.Each.{Each}
 use Rattle.basic_laws.proofs.Numbers.{test_same, same_test}
 use Rattle.basic_laws.proofs.Truths.{or_parts, both_true}
-use Rattle.basic_laws.proofs.Types.{some_same, either}
+use Rattle.basic_laws.proofs.Types.{some_same}
 use Rattle.st_linear.specs.Linear.{Linear, value, entries_value, form_for, changed}
 use Rattle.st_form.specs.Formula.{Formula, Formulas, truth_value, row, equal, bool_var, at, negation, every, some, none, more, Situation, truth, every_truth, is_zero}
 use Rattle.st_form.specs.Exchange.{Exchange, is_listed, truth_for, before}
 use Rattle.control_states.specs.declared.alternative.Alternative.{Alternative}
 use Rattle.control_states.specs.declared.alternative.Alternative.TheVariants.{Location}
-use Rattle.control_states.specs.Control.{ControlFacts, InControl, Active}
-use Rattle.control_states.specs.Place.{place, Follows}
+use Rattle.control_states.specs.Control.{ControlFacts, Active}
+use Rattle.control_states.specs.Place.{Follows}
 use Rattle.control_states.proofs.Deciding.{place-right}
 use Rattle.transition_system.specs.Systems.{PlainMode, System}
-use Rattle.transition_system.specs.Meaning.{can_go, gone}
 use Rattle.constant_facts.specs.declared.fact.Constant.{Constant}
 use Rattle.constant_facts.specs.declared.fact.Constant.TheVariants.{Number, Truth}
 use Rattle.constant_facts.specs.declared.fact.Fact.{Fact}
 use Rattle.constant_facts.specs.Facts.{Has, Holds, AllHold, IsControlled, Keeps, AreInductive, modes_of}
-use Rattle.constant_facts.specs.Rules.{is_truth, is_same, knows, known_at, entries_are, form_is, formula_is, number_is, gives, is_put, changes, is_false, is_spared, is_kept, is_owner, case_of, cases_from, decided, entries_say, equation_says, variable_says, denial_says, says, one_says, places, places_among, is_first, narrowed}
+use Rattle.constant_facts.specs.Rules.{is_truth, is_same, knows, known_at, entries_are, formula_is, number_is, gives, is_put, changes, is_false, is_spared, is_kept, is_owner, case_of, cases_from, decided, entries_say, equation_says, variable_says, denial_says, says, one_says, places, places_among, is_first, narrowed}
 use Rattle.constant_facts.specs.Greatest.{IsKeptBy}
 use Rattle.constant_facts.proofs.Settling.{narrowed-same}
 
@@ -245,6 +244,7 @@ module _ (s : Situation) where
     where
       positive : (a y : ℤ) → a ≡ pos 1 → z ≡ neg_ℤ k → k +ℤ (a *ℤ y +ℤ pos 0) ≡ pos 0 → y ≡ z
       positive a y f g h = let i = rw f at h in omega (arith, ints, i, g)
+
       negative : (a y : ℤ) → a ≡ neg_ℤ (pos 1) → z ≡ k → k +ℤ (a *ℤ y +ℤ pos 0) ≡ pos 0 → y ≡ z
       negative a y f g h = let i = rw f at h in omega (arith, ints, i, g)
   equation-says k (t ∷ (d ∷ es)) v z h e = absurd (cc)
@@ -303,7 +303,7 @@ module _ (s : Situation) where
     places-there (row f) e l h = absurd (cc)
     places-there (equal f) e l h = absurd (cc)
     places-there (bool_var w) e l h = absurd (cc)
-    places-there (at m) e l h = elim (or_parts (m == l) false h) [ | inl i ↦ subst (λ (y : ℕ). s.located y ≡ true) (test_same m l i) e | inr i ↦ absurd (cc) ]
+    places-there (at m) e l h = elim (or_parts (m == l) false h) [ inl i ↦ subst (λ (y : ℕ). s.located y ≡ true) (test_same m l i) e | inr i ↦ absurd (cc) ]
     places-there (negation f) e l h = absurd (cc)
     places-there (every fs) e l h = among-there fs e l h
     places-there (some fs) e l h = absurd (cc)

@@ -100,11 +100,7 @@ fn values(alloc: Global, fts: &Fts) -> Result<Vec<Value>, Memory> {
 }
 
 /// Each value at each of these locations.
-pub(crate) fn candidates(
-    alloc: Global,
-    fts: &Fts,
-    places: &[u32],
-) -> Result<Vec<Fact>, FactFault> {
+pub(crate) fn candidates(alloc: Global, fts: &Fts, places: &[u32]) -> Result<Vec<Fact>, FactFault> {
     let values = values(alloc, fts)?;
     if values.len().saturating_mul(places.len()) > MOST {
         return Err(FactFault::Many);

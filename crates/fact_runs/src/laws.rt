@@ -16,7 +16,7 @@ use st_program::Program;
 pub fn inductive_facts_hold(program: &Program)
     ensures { (fs : List Fact)
         → AreInductive (control_of (plain_children program.now.processes))
-            (translation program.now.variables (plain program.now.initial) (plain_children program.now.processes) program.now.locations) fs
+        (translation program.now.variables (plain program.now.initial) (plain_children program.now.processes) program.now.locations) fs
         → HoldAlways (plain_children program.now.processes) (plain program.now.initial) fs }
 {
     let _ = &program.processes;
@@ -26,7 +26,7 @@ pub fn inductive_facts_hold(program: &Program)
 pub fn formulas_of_inductive_facts_are_invariant(program: &Program)
     ensures { (fs : List Fact)
         → AreInductive (control_of (plain_children program.now.processes))
-            (translation program.now.variables (plain program.now.initial) (plain_children program.now.processes) program.now.locations) fs
+        (translation program.now.variables (plain program.now.initial) (plain_children program.now.processes) program.now.locations) fs
         → AllInvariant (plain_children program.now.processes) (plain program.now.initial) fs }
 {
     let _ = &program.processes;

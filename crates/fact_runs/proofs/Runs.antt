@@ -1,5 +1,5 @@
 -- Inductive facts hold in each state of each run.
-use Rattle.std.proofs.Common.{◌≡◌, ℕ, zero, suc, Bool, true, false, not, ◌||◌, List, [], ◌∷◌, ◌++◌, refl, ap, ◌∙◌, sym, subst, arith, ℤ, pos, neg_ℤ, ◌+ℤ◌, ◌*ℤ◌, Some}
+use Rattle.std.proofs.Common.{◌≡◌, ℕ, zero, suc, Bool, true, false, not, ◌||◌, List, [], ◌∷◌, ◌++◌, refl, ap, sym, subst, arith, ℤ, pos, neg_ℤ, ◌+ℤ◌, ◌*ℤ◌, Some}
 use Rattle.std.specs.Prelude.{flat_map, slice_get}
 use Rattle.std.proofs.lemmas.Int.{ints}
 use Rattle.list_laws.specs.Each.{Each}
@@ -10,7 +10,7 @@ use Rattle.observations.specs.Observation.{Observation, state_at}
 use Rattle.st_program.specs.Tree.{Processes}
 use Rattle.st_program.specs.Programs.{WellFormed}
 use Rattle.control_facts.specs.Alternatives.{control_of}
-use Rattle.transition_system.specs.Systems.{PlainMode, PlainTransition, System}
+use Rattle.transition_system.specs.Systems.{PlainMode, PlainTransition}
 use Rattle.spl_semantics.specs.Runs.{State, Reached, image, IsRunOf}
 use Rattle.spl_semantics.specs.Runs.Reached.{first, next}
 use Rattle.spl_semantics.proofs.ControlMet.{reached_meets}

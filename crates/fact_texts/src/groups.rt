@@ -14,9 +14,8 @@ pub(crate) struct Group {
 
 /// Adds a fact to the group of its variable and value.
 fn push_fact(alloc: Global, groups: &mut Vec<Group>, fact: &Fact) -> Result<(), Memory> {
-    let place = groups
-        .iter()
-        .position(|group| group.variable == fact.variable && group.value == fact.value);
+    let place = groups.iter().position(|group| group.variable == fact.variable
+        && group.value == fact.value);
     match place.and_then(|place| groups.get_mut(place)) {
         Some(group) => group.places.push(fact.place)?,
         None => groups.push(Group {

@@ -10,13 +10,28 @@ use step_report::{push_int, push_location, push_number, push_text, push_variable
 /// Appends that the variable has the value.
 fn push_value(out: &mut Vec<u8>, subject: &Subject, group: &Group) -> Result<(), Memory> {
     match &group.value {
-        Constant::Truth(true) => push_variable(out, &subject.names, subject.variables, group.variable as usize),
+        Constant::Truth(true) => push_variable(
+            out,
+            &subject.names,
+            subject.variables,
+            group.variable as usize,
+        ),
         Constant::Truth(false) => {
             push_text(out, b"~")?;
-            push_variable(out, &subject.names, subject.variables, group.variable as usize)
+            push_variable(
+                out,
+                &subject.names,
+                subject.variables,
+                group.variable as usize,
+            )
         }
         Constant::Number(number) => {
-            push_variable(out, &subject.names, subject.variables, group.variable as usize)?;
+            push_variable(
+                out,
+                &subject.names,
+                subject.variables,
+                group.variable as usize,
+            )?;
             push_text(out, b" = ")?;
             push_int(out, number)
         }

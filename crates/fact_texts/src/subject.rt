@@ -41,11 +41,7 @@ fn variables_of(program: &Program) -> &[Variable]
 }
 
 /// Translates a program with its names; `None` where it has more variables than can be numbered, which no program has.
-fn subject_of(
-    alloc: Global,
-    program: &Program,
-    names: NameTable,
-) -> Result<Option<Subject>, Memory>
+fn subject_of(alloc: Global, program: &Program, names: NameTable) -> Result<Option<Subject>, Memory>
     requires { length names.variables ≡ length program.now.variables }
 {
     let system = translate(alloc, program)?;

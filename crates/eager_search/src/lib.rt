@@ -19,7 +19,6 @@ mod items;
 mod limits;
 mod literals;
 mod looking;
-mod placing;
 mod plans;
 mod points;
 mod rounding;

@@ -1,5 +1,6 @@
 //! Why a search ends without a certificate.
 
+use st_linear::LinFault;
 use st_memory::Memory;
 use std::alloc::{AllocError, AllocFailed};
 
@@ -13,6 +14,15 @@ pub(crate) enum Stop {
 impl From<Memory> for Stop {
     fn from(_: Memory) -> Self {
         Stop::Memory
+    }
+}
+
+impl From<LinFault> for Stop {
+    fn from(fault: LinFault) -> Self {
+        match fault {
+            LinFault::TooLarge => Stop::Unfound,
+            LinFault::Memory => Stop::Memory,
+        }
     }
 }
 

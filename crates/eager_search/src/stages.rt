@@ -157,7 +157,7 @@ fn by_bounds(
 }
 
 /// One stage; none where no row has a variable.
-fn stage(
+fn eliminate_next(
     alloc: Global,
     done: &mut Eliminated,
     rows: Vec<Row>,
@@ -211,7 +211,7 @@ pub(crate) fn eliminate_whole(
         if rows.is_empty() || done.cuts.clash.is_some() {
             return Ok(done);
         }
-        rows = stage(alloc, &mut done, rows, width)?;
+        rows = eliminate_next(alloc, &mut done, rows, width)?;
     }
     Ok(done)
 }

@@ -1,7 +1,6 @@
 -- What is answered where two searches follow each other.
-use Rattle.std.specs.Prelude.{◌≡◌, ◌⊎◌, [], Option, Some, IfSome}
+use Rattle.std.specs.Prelude.{◌≡◌, ◌⊎◌, ℕ, List, [], Some, IfSome, option_map, codes}
 use Rattle.st_outside.specs.Sink.{behind}
-use Rattle.step_plan.specs.declared.status.Status.{Status}
 use Rattle.step_plan.specs.declared.status.Status.TheVariants.{Proved}
 use Rattle.step_plan.specs.Plan.{outcome_of}
 use Rattle.step_plan.specs.Ending.{UnlessFault, IsReached}
@@ -13,7 +12,6 @@ use Rattle.milkhour_run.specs.Asked.{asked}
 use Rattle.milkhour_run.specs.declared.held_texts.Texts.{Texts}
 use Rattle.milkhour_run.specs.declared.question.Question.{Question}
 use Rattle.milkhour_run.specs.declared.question.Question.TheVariants.{Check, Verify}
-use Rattle.std.specs.Prelude.{codes}
 
 -- status and text are those of `step` for this question over these texts
 abbrev pub IsStepAnswer : Question → Texts → Answer → Type 0
@@ -24,13 +22,22 @@ pub record AreSame (t u : Texts) : Type 0 where
   pub program : u.program ≡ t.program
   pub proof : u.proof ≡ t.proof
 
--- the answer of `check` with some certificates
-pub record IsChecked (t : Texts) (a : Answer) : Type 0 where
+-- the answer of `check` with these certificates is that the goals hold
+pub record IsCheckedBy (t : Texts) (certificates : List ℕ) (a : Answer) : Type 0 where
   pub certified : Texts
   pub same : AreSame t certified
+  pub third : option_map (λ bytes. bytes.now) certified.third ≡ Some certificates
   pub proved : a.status ≡ Proved
   pub answer : IsStepAnswer Check certified a
   pub headline : Headline (told_in certified) (λ text. Some a.text.items ≡ behind (Some []) text) (Some (asked Check))
+
+-- the same with some certificates
+abbrev pub IsChecked : Texts → Answer → Type 0
+IsChecked t a = (certificates : List ℕ) × IsCheckedBy t certificates a
+
+-- `check` accepts these certificates
+abbrev pub IsAccepted : Texts → List ℕ → Type 0
+IsAccepted t certificates = (a : Answer) × IsCheckedBy t certificates a
 
 -- the answer of `verify`, or that of `check` with some certificates, where that is that the goals hold
 abbrev pub IsStronger : Texts → Answer → Type 0

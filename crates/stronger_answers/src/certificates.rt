@@ -36,7 +36,9 @@ fn certificate_at(
     let condition = &conditions[place];
     match decide(alloc, book, components, variables, condition)? {
         Verdict::Valid(certificate) => Ok(Some(certificate)),
-        Verdict::Open(_, _) => find(alloc, components, variables, condition, MOST_PROBLEMS),
+        // The state breaks the condition, so it has no certificate.
+        Verdict::Open(_, Some(_)) => Ok(None),
+        Verdict::Open(_, None) => find(alloc, components, variables, condition, MOST_PROBLEMS),
         Verdict::Wide(_, _) => find(alloc, components, variables, condition, MOST_PROBLEMS),
     }
 }
@@ -62,6 +64,26 @@ fn push_block(
     Ok(true)
 }
 
+/// Whether there is a certificate of the condition with a number, which `step` left open.
+fn is_found(
+    alloc: Global,
+    components: &Components,
+    variables: &[Variable],
+    conditions: &[Condition],
+    number: u32,
+) -> Result<bool, Memory>
+    requires few { length variables.now < 2 ^ 32 }
+    requires searchable { AreSearchable (length variables.now) conditions.now }
+{
+    let place = (number as usize).saturating_sub(1);
+    if place >= conditions.len() {
+        return Ok(false);
+    }
+    let mut book = Book::new(alloc, components, variables)?;
+    let found = certificate_at(alloc, &mut book, components, variables, conditions, place)?;
+    Ok(found.is_some())
+}
+
 /// The text of certificates of conditions, if one is found of each.
 fn written(
     alloc: Global,
@@ -85,23 +107,29 @@ fn written(
 }
 
 /// The same of a proof that was posed.
-fn of_posed(alloc: Global, posed: &PosedProof) -> Result<Option<Vec<u8>>, Memory>
+fn of_posed(alloc: Global, posed: &PosedProof, first: u32) -> Result<Option<Vec<u8>>, Memory>
     requires few { length posed.now.source.program.variables ≤ 64 }
     requires searchable { AreSearchable (length posed.now.source.program.variables) posed.now.proof.conditions.items }
 {
     let components = &posed.source.components;
     let variables = &posed.source.program.variables;
-    written(alloc, components, variables, &posed.proof.conditions)
+    let conditions = &posed.proof.conditions;
+    if !is_found(alloc, components, variables, conditions, first)? {
+        return Ok(None);
+    }
+    written(alloc, components, variables, conditions)
 }
 
-/// A text of certificates of all conditions of a proof, if one is found of each. Whether they are valid is for `step`'s check to say.
+/// A text of certificates of all conditions of a proof, if one is found of each; that of the condition with a number, which `step` left
+/// open, is looked for first. Whether they are valid is for `step`'s check to say.
 pub(crate) fn certificates(
     alloc: Global,
     program: &[u8],
     proof: &[u8],
+    first: u32,
 ) -> Result<Option<Vec<u8>>, Memory> {
     match pose(alloc, program, proof) {
-        Ok(posed) => of_posed(alloc, &posed),
+        Ok(posed) => of_posed(alloc, &posed, first),
         Err(PosingFault::Memory) => Err(Memory),
         Err(_) => Ok(None),
     }

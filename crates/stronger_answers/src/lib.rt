@@ -5,4 +5,4 @@
 mod certificates;
 mod verifying;
 
-pub use verifying::verified;
+pub use verifying::{certified, verified};

@@ -3,11 +3,12 @@
 
     python3 bench/found.py [--runs N] [--untimed] [--only WORD..] [--] [PROGRAM]
 
-PROGRAM is another executable than the built one; with `--untimed` the table has no times, and each search is done once. Of each claim the table has the answer, the least clock time and the least time of the
+PROGRAM is another executable than the built one; with `--untimed` the table has no times, and each search is done once. Of each claim the table has the answer, the questions that were asked, the least clock time and the least time of the
 processors of N runs (3 if it isn't said), and how long what is found is: its lemmas, and its letters without blanks. Beside it stands
 what the example of that name has by hand for the claims of the same kinds and names: the lemmas that they cite, and those that these cite.
 """
 import argparse
+import json
 import os
 import re
 import subprocess
@@ -57,6 +58,13 @@ def measured(program, folder, runs):
     return it.returncode, text, *best
 
 
+def questions(program, folder):
+    """How many questions a search asks."""
+    words = [program, *(folder / "args").read_text().split("\n")[:-1], "--format", "json"]
+    it = subprocess.run(words, cwd=folder, stdin=subprocess.DEVNULL, capture_output=True, text=True)
+    return f"{json.loads(it.stdout)['queries']:,}" if it.returncode in ANSWERS else ""
+
+
 def row(program, folder, runs):
     status, text, clock, processors = measured(program, folder, runs)
     name = folder.name.removeprefix("find-")
@@ -67,7 +75,7 @@ def row(program, folder, runs):
     by_hand = steps(example.read_text()) if example.is_file() else {}
     shared = [it for it in claims if it in by_hand and by_hand[it].split()[0] == claims[it].split()[0]]
     times = [f"{clock * 1e3:,.0f} ms", f"{processors * 1e3:,.0f} ms"] if runs else []
-    return [name, answer, *times, own, size(by_hand, shared) if len(shared) == len(claims) else ""]
+    return [name, answer, questions(program, folder), *times, own, size(by_hand, shared) if len(shared) == len(claims) else ""]
 
 
 def main():
@@ -80,7 +88,7 @@ def main():
     if not os.access(asked.program, os.X_OK):
         sys.exit(f"found: {asked.program} isn't there")
     runs = 0 if asked.untimed else asked.runs
-    heads = ["Claims", "answer", *([] if asked.untimed else ["clock", "processors"]), "found: lemmas, letters", "by hand"]
+    heads = ["Claims", "answer", "questions", *([] if asked.untimed else ["clock", "processors"]), "found: lemmas, letters", "by hand"]
     print(f"| {' | '.join(heads)} |\n{'|---' * len(heads)}|")
     for args in sorted(TOP.glob("cases-milkhour/find-*/args")):
         answered = (args.parent / "status").read_text().strip() in ("0", "1")

@@ -1,7 +1,7 @@
 //! The commands. Help is made of this table, and so can be completions and a man page.
 
 use crate::options::{
-    BUDGET, CHECK, COLOUR, DRAWING, FIRST, FORMAT, FOUND_FORMAT, FROM, LIMIT, ONLY, OUTPUT,
+    BUDGET, CHECK, COLOUR, DRAWING, FIRST, FORMAT, FOUND_FORMAT, FROM, JUDGES, LIMIT, ONLY, OUTPUT,
     OptionRow, SMT, STEP, WORKERS,
 };
 
@@ -135,7 +135,7 @@ pub static TOOLS: [CommandRow; 7] = [
         name: "find",
         about: "Find a proof of each claim, or a run on which it fails",
         files: SOURCE,
-        options: &[BUDGET, FOUND_FORMAT, COLOUR, OUTPUT, WORKERS],
+        options: &[BUDGET, FOUND_FORMAT, COLOUR, OUTPUT, JUDGES],
         usage: "milkhour find [OPTIONS] PROGRAM [PROOF]",
         example: "An invariance is claimed by `invariant NAME: p;`, a response by `response NAME: p leads q by find;`.\n\nExample:\n  milkhour find peterson.spl claims.proof -o peterson.proof",
     },

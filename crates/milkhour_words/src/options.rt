@@ -29,6 +29,14 @@ pub const WORKERS: OptionRow = OptionRow {
     help: "Work with N threads; the answer is the same",
 };
 
+/// The workers of `find`, whose search is one worker's.
+pub const JUDGES: OptionRow = OptionRow {
+    long: "workers",
+    short: None,
+    value: OptionValue::Number(1, 64, "1"),
+    help: "Judge what is found with N threads; the answer is the same",
+};
+
 pub const FORMAT: OptionRow = OptionRow {
     long: "format",
     short: None,

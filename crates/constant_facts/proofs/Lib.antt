@@ -1,4 +1,0 @@
-pub mod Loops
-pub mod Settling
-pub mod Sound
-pub mod Greater

@@ -91,10 +91,7 @@ fn reason_of(alloc: Global, unfound: Unfound, budget: u64) -> Result<String, All
             "a condition is too wide to be decided, or a number is too large",
         ),
         Unfound::Levels => String::from_str(alloc, "there would be too many levels"),
-        Unfound::Chain => String::from_str(
-            alloc,
-            "no chain of helpers was found for the response: in what is left it is nobody's turn",
-        ),
+        Unfound::Chain => String::from_str(alloc, "no chain of helpers was found for the response"),
     }
 }
 

@@ -10,7 +10,7 @@ use proof_reports::Case;
 use shown_states::Picture;
 use st_form::{CondName, Form, Premise};
 use st_memory::Memory;
-use std::alloc::Global;
+use std::alloc::{AllocError, Global};
 use temporal_goals::{Goal, RuleText, Step};
 
 /// What ends the wait.
@@ -20,6 +20,12 @@ fn target(step: &Step) -> Option<&Form> {
         Goal::Waiting(_, levels) => levels.last(),
         Goal::Invariant(_) => None,
     }
+}
+
+/// So many rounds.
+fn counted_rounds(alloc: Global, count: i128) -> Result<String, AllocError> {
+    let ending = if count == 1 { "" } else { "s" };
+    format!(in alloc; "{count} round{ending}")
 }
 
 fn case(alloc: Global, number: usize, meaning: String) -> Result<Case, Memory> {
@@ -70,9 +76,13 @@ impl Sources<'_> {
         let mut case = case(alloc, 2, meaning)?;
         let reason = match (rounds(rule, item, state), remaining) {
             (Some(asked), Some(remaining)) => {
-                format!(in alloc; "it asks for {asked} rounds, and {remaining} are left")?
+                let needed = counted_rounds(alloc, asked)?;
+                let are = if remaining == 1 { "is" } else { "are" };
+                format!(in alloc; "it asks for {needed}, and {remaining} {are} left")?
             }
-            (Some(asked), None) => format!(in alloc; "it asks for {asked} rounds")?,
+            (Some(asked), None) => {
+                format!(in alloc; "it asks for {}", counted_rounds(alloc, asked)?)?
+            }
             (None, _) => String::from_str(alloc, "it isn't lower")?,
         };
         case.missing.push(reason)?;

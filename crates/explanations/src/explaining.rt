@@ -17,6 +17,7 @@ use source_lines::Lines;
 use source_places::{statement_places, step_places};
 use spl_parser::RawProgram;
 use st_memory::Memory;
+use st_outside::Gate;
 use std::alloc::Global;
 
 /// The version of the form of reports.
@@ -128,7 +129,7 @@ fn reported(
 }
 
 /// The conditions of what is posed that aren't decided valid.
-fn open_of(alloc: Global, posed: &PosedProof) -> Result<Vec<Undecided>, Memory>
+fn open_of<G: Gate>(alloc: Global, gate: &G, posed: &PosedProof) -> Result<Vec<Undecided>, Memory>
     requires translated { IsTranslated posed.now.source }
     requires posed { IsPosed posed.now.source posed.now.proof }
     ensures all { IfOk result (λ v. map place_of v.items ≡ open_places posed.now.source posed.now.proof) }
@@ -138,6 +139,7 @@ fn open_of(alloc: Global, posed: &PosedProof) -> Result<Vec<Undecided>, Memory>
     let variables = source.program.variables.as_slice();
     open_conditions(
         alloc,
+        gate,
         &source.components,
         variables,
         &posed.proof.conditions,
@@ -145,8 +147,9 @@ fn open_of(alloc: Global, posed: &PosedProof) -> Result<Vec<Undecided>, Memory>
 }
 
 /// The report of what is posed by two texts, all conditions decided.
-fn decided(
+fn decided<G: Gate>(
     alloc: Global,
+    gate: &G,
     texts: &Texts<'_>,
     raw: &RawProgram<'_>,
     posed: &PosedProof,
@@ -156,7 +159,7 @@ fn decided(
     requires by { IsPosedBy texts.now.proof.now posed.now.source posed.now.proof }
     ensures { IfOk result (IsExplained texts.now.program.now texts.now.proof.now limit) }
 {
-    let left = open_of(alloc, posed)?;
+    let left = open_of(alloc, gate, posed)?;
     reported(alloc, texts, raw, posed, &left, limit)
 }
 
@@ -175,8 +178,13 @@ fn outlined(
 }
 
 /// What is told of a proof that isn't proved: its steps, the numbers of all conditions that aren't decided valid, and the first so
-/// many of them explained. `None` where one of the texts is refused.
-pub fn explain(alloc: Global, texts: &Texts<'_>, limit: usize) -> Result<Option<Report>, Memory>
+/// many of them explained. The gate is told of each condition that is decided. `None` where one of the texts is refused.
+pub fn explain<G: Gate>(
+    alloc: Global,
+    gate: &G,
+    texts: &Texts<'_>,
+    limit: usize,
+) -> Result<Option<Report>, Memory>
     ensures told { IfOk result (λ o. IfSome o (IsExplained texts.now.program.now texts.now.proof.now limit)) }
     ensures refused { IfOk result (λ o. o ≡ None → AreRefused texts.now.program.now texts.now.proof.now) }
 {
@@ -184,7 +192,7 @@ pub fn explain(alloc: Global, texts: &Texts<'_>, limit: usize) -> Result<Option<
         return Ok(None);
     };
     match posed(alloc, texts)? {
-        Some(posed) => Ok(Some(decided(alloc, texts, &raw, &posed, limit)?)),
+        Some(posed) => Ok(Some(decided(alloc, gate, texts, &raw, &posed, limit)?)),
         None => Ok(None),
     }
 }

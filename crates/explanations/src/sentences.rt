@@ -34,6 +34,17 @@ pub(crate) fn item_word(rule: &RuleText) -> &'static str {
     }
 }
 
+/// One of a rule's items, whichever.
+fn some_item(rule: &RuleText) -> &'static str {
+    match rule {
+        RuleText::Levels(_) => "a level",
+        RuleText::Diagram(_) => "a node",
+        RuleText::Basic | RuleText::Stronger(_) | RuleText::Net(_) | RuleText::Nested(_) => {
+            "an item"
+        }
+    }
+}
+
 /// Which way through a statement a mode is.
 fn mode_words(statement: Option<&Stmt>, mode: u32) -> &'static str {
     let Some(statement) = statement else {
@@ -262,7 +273,8 @@ impl Sources<'_> {
             }
             Premise::Cover => {
                 Ok(format!(in alloc;
-                    "where the wait begins, it must be over, or a {word} must hold that the bound is enough for"
+                    "where the wait begins, it must be over, or {} must hold that the bound is enough for",
+                    some_item(&step.rule)
                 )?)
             }
         }

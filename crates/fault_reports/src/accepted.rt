@@ -1,16 +1,19 @@
 //! What is accepted and yet says little: a program that no state begins, a proof without steps, and an invariance that claims
-//! `true`. That no state satisfies `where` is asked of the search: then each invariance holds at the start, even `0 = 1`.
+//! `true`. That no state satisfies `where` is asked of the search, unless the words show a state: then each invariance holds at the
+//! start, even `0 = 1`.
 
 ghost use Rattle.std.specs.Prelude.{IfOk, IfSome};
 ghost use Rattle.posed_conditions.specs.Translated.{IsTranslated};
 ghost use Rattle.posed_conditions.specs.Posed.{IsPosed};
 
 use crate::source::{Source, TextFile, word_of};
+use crate::starts::begins_plainly;
 use open_conditions::open_conditions;
 use posed_conditions::{PosedProof, PosingFault, pose};
 use proof_reports::{Fault, Severity};
 use source_places::{Span, StepPlaces, step_places};
 use st_memory::Memory;
+use st_outside::OpenGate;
 use std::alloc::Global;
 
 /// A warning.
@@ -57,6 +60,7 @@ fn holds_at_start(alloc: Global, posed: &PosedProof) -> Result<bool, Memory>
     let variables = source.program.variables.as_slice();
     let open = open_conditions(
         alloc,
+        &OpenGate,
         &source.components,
         variables,
         &posed.proof.conditions,
@@ -89,7 +93,7 @@ fn of_program(alloc: Global, program: TextFile) -> Result<Option<Fault>, Memory>
     let Some(first) = source.tokens.iter().find(|token| word_of(token) == "where") else {
         return Ok(None);
     };
-    if !begins_nowhere(alloc, program.text)? {
+    if begins_plainly(alloc, &source)? || !begins_nowhere(alloc, program.text)? {
         return Ok(None);
     }
     Ok(Some(warning(

@@ -14,6 +14,7 @@ mod names;
 mod reading;
 mod refusal;
 mod source;
+mod starts;
 mod syntax;
 mod texts;
 mod told;

@@ -6,5 +6,5 @@ mod reading;
 mod responses;
 
 pub use outline::{Asks, Extent, step_extents};
-pub use reading::{Request, Wanted, read_request};
+pub use reading::{Request, Wanted, read_request, script_around};
 pub use responses::Leading;

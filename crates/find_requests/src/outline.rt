@@ -31,6 +31,13 @@ pub struct Extent<'a> {
     pub tokens: Tokens<'a>,
 }
 
+impl Extent<'_> {
+    /// Whether a byte of the step stands at a place.
+    pub fn has(&self, place: usize) -> bool {
+        self.start <= place && place < self.end
+    }
+}
+
 /// What was seen of a step, outside brackets and braces.
 #[derive(Drop)]
 struct Seen {

@@ -53,6 +53,19 @@ fn without_chains(alloc: Global, text: &[u8], steps: &[Extent<'_>]) -> Result<Ve
     Ok(out)
 }
 
+/// A text of requests as `step` may read it up to a place at which it has a fault: with blanks in the place of each response that is
+/// `by find`, but of the one that has this place. So every other step keeps its place, and the first fault is the same.
+pub fn script_around(alloc: Global, text: &[u8], place: u64) -> Result<Vec<u8>, Memory> {
+    let mut out = Vec::from_slice(alloc, text)?;
+    let steps = step_extents(alloc, text)?;
+    for step in &steps {
+        if step.asks == Asks::Chain && !step.has(place as usize) {
+            blank(&mut out, step.start, step.end);
+        }
+    }
+    Ok(out)
+}
+
 /// What is wanted of a step.
 fn wish(alloc: Global, names: &NameTable, step: &Extent<'_>) -> Result<Wanted, ScriptFault> {
     match step.asks {

@@ -13,7 +13,6 @@ mod equations;
 mod finding;
 mod ground;
 mod insertions;
-mod joining;
 mod layers;
 mod naming;
 mod progress;
@@ -23,7 +22,6 @@ mod schedules;
 mod shortening;
 mod steps;
 mod subject;
-mod writing;
 
 pub use answers::{Failing, FindFault, Found, Missing, Proposal, Unfound};
 pub use attempts::{ATTEMPTS, Attempt, share};

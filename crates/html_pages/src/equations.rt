@@ -18,17 +18,23 @@ fn push_equation(page: &mut Page, equation: &Equation) -> Result<(), Memory> {
     }
 }
 
+/// How many equations there are.
+fn title(alloc: Global, report: &EquationReport) -> Result<String, Memory> {
+    let program = &report.program;
+    let count = report.equations.len();
+    if count == 1 {
+        return Ok(format!(in alloc; "{program}: an equation that holds on every run")?);
+    }
+    Ok(format!(in alloc; "{program}: {count} equations that hold on every run")?)
+}
+
 /// The page of the equations of a program: the report, and the program's text.
 pub fn equation_page(
     alloc: Global,
     report: &EquationReport,
     program: &[u8],
 ) -> Result<Vec<u8>, Memory> {
-    let title = format!(in alloc;
-        "{}: {} equations that hold on every run",
-        report.program,
-        report.equations.len()
-    )?;
+    let title = title(alloc, report)?;
     let mut page = Page::new(alloc);
     push_head(&mut page, &title)?;
     push_headline(&mut page, !report.equations.is_empty(), &title)?;

@@ -35,10 +35,14 @@ fn headline(alloc: Global, report: &Report) -> Result<String, Memory> {
         failing,
         ..
     } = report;
+    let ending = if *conditions == 1 { "" } else { "s" };
     if *failing == 0 {
-        return Ok(format!(in alloc; "{subject}: proved, by {conditions} conditions")?);
+        return Ok(format!(in alloc; "{subject}: proved, by {conditions} condition{ending}")?);
     }
-    Ok(format!(in alloc; "{subject}: not proved, {failing} of {conditions} conditions fail")?)
+    let fail = if *failing == 1 { "fails" } else { "fail" };
+    Ok(format!(in alloc;
+        "{subject}: not proved, {failing} of {conditions} condition{ending} {fail}"
+    )?)
 }
 
 /// The lines of a file that are told of.

@@ -8,6 +8,7 @@ use fault_reports::{TextFile, faults_of_program, faults_of_proof, warnings};
 use proof_reports::{Failure, Fault, Severity, Spot, StepReport};
 use source_lines::Lines;
 use st_memory::Memory;
+use st_outside::OpenGate;
 use std::alloc::Global;
 
 /// The name under which all is told.
@@ -202,7 +203,7 @@ fn push_open(alloc: Global, ground: &Ground<'_>, told: &mut Told) -> Result<(), 
         proof_name: proof.uri.as_str(),
         proof: proof.text.as_slice(),
     };
-    if let Some(report) = explain(alloc, &texts, MOST_OPEN)? {
+    if let Some(report) = explain(alloc, &OpenGate, &texts, MOST_OPEN)? {
         for failure in &report.failures {
             push_failure(alloc, ground, told, failure)?;
         }

@@ -6,6 +6,8 @@ use crate::streams::{Streams, Target, style_of, write_remark, write_result};
 use crate::trouble::Trouble;
 use milkhour_run::{Answer, Question, Status, answer};
 use milkhour_words::{Format, Options};
+use progress_lines::{Progress, Watch};
+use st_outside::Gate;
 use std::alloc::{AllocError, Global};
 use std::rt::Runtime;
 use std::str;
@@ -85,8 +87,9 @@ fn write_shown<R: Runtime + AllocGlobal>(
 }
 
 /// Tells an answer in another form than that of `step`.
-fn tell<R: Runtime + AllocGlobal>(
+fn tell<R: Runtime + AllocGlobal, G: Gate>(
     rt: &R,
+    gate: &G,
     streams: Streams,
     question: Question,
     given: &Given<'_>,
@@ -109,7 +112,7 @@ fn tell<R: Runtime + AllocGlobal>(
         remark_style: style_of(rt, streams, Target::Remark, options.colour),
     };
     let warnings = warned_of(rt.alloc(), &account)?;
-    let shown = shown_of(rt.alloc(), &account, warnings.as_slice())?;
+    let shown = shown_of(rt.alloc(), gate, &account, warnings.as_slice())?;
     write_shown(rt, target, &shown)
 }
 
@@ -121,11 +124,19 @@ pub fn answer_question<R: Runtime + AllocGlobal + Threads + Sync>(
     given: &Given<'_>,
     options: &Options<'_>,
 ) -> Result<u8, Trouble> {
-    let answer = answer(rt, rt.alloc(), question, options.workers, &given.texts())?;
+    let progress = Progress::new(rt, Watch::begin(rt, streams.is_error_terminal));
+    let answer = answer(
+        rt,
+        rt.alloc(),
+        question,
+        options.workers,
+        &given.texts(),
+        &progress,
+    )?;
     if options.format == Format::Plain {
         write_result(rt, options.output, answer.text.as_slice())?;
     } else {
-        tell(rt, streams, question, given, options, &answer)?;
+        tell(rt, &progress, streams, question, given, options, &answer)?;
     }
     Ok(answer.status.number())
 }

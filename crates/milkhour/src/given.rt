@@ -38,6 +38,10 @@ impl GivenText<'_> {
 /// its places are those of the file.
 #[derive(Drop)]
 pub struct Given<'a> {
+    /// What is done with them.
+    pub task: Task,
+    /// Whether the program and the proof stand in one file.
+    pub is_one_file: bool,
     pub program: GivenText<'a>,
     pub proof: Option<GivenText<'a>>,
     pub third: Option<GivenText<'a>>,
@@ -59,6 +63,15 @@ impl Given<'_> {
             program: self.program.bytes(),
             proof: bytes_of(&self.proof),
             third: bytes_of(&self.third),
+        }
+    }
+
+    /// The program, where it stands in front of the proof in one file.
+    pub fn front(&self) -> Option<&[u8]> {
+        if self.is_one_file {
+            self.program.bytes()
+        } else {
+            None
         }
     }
 
@@ -196,6 +209,8 @@ pub fn read_files<'a, R: Runtime + AllocGlobal>(
         None => None,
     };
     Ok(Given {
+        task,
+        is_one_file: files.proof.is_none() && proof.is_some(),
         program,
         proof,
         third,

@@ -52,6 +52,8 @@ fn first_given<'a>(
 fn set_out<'a>(alloc: Global, given: Given<'a>, schedule: GivenText<'a>) -> Given<'a> {
     let name = given.program.name;
     Given {
+        task: given.task,
+        is_one_file: false,
         program: given.program,
         proof: Some(GivenText {
             name,

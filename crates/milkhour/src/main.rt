@@ -14,6 +14,7 @@ mod serving;
 mod stepping;
 mod stepping_through;
 mod streams;
+mod titles;
 mod trouble;
 mod working;
 

@@ -15,6 +15,7 @@ use milkhour_words::{Format, Options};
 use proof_reports::Fault;
 pub use remarks::warned_of;
 use screens::Style;
+use st_outside::Gate;
 use std::alloc::Global;
 
 /// An answer with all that a report may speak of.
@@ -35,13 +36,14 @@ pub struct Shown {
     pub remark: Option<String>,
 }
 
-/// What is shown of an answer, in another form than that of `step`.
-pub fn shown_of(
+/// What is shown of an answer, in another form than that of `step`. Where conditions are decided once more, the gate is told of it.
+pub fn shown_of<G: Gate>(
     alloc: Global,
+    gate: &G,
     account: &Account<'_>,
     warnings: &[Fault],
 ) -> Result<Shown, Trouble> {
-    let told = told_of(alloc, account)?;
+    let told = told_of(alloc, gate, account)?;
     let remark = remarks::remark_of(alloc, account, &told, warnings)?;
     let text = match account.options.format {
         Format::Json => documents::document_of(alloc, &told, warnings)?,

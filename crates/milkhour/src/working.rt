@@ -34,7 +34,7 @@ fn own_work<R: Runtime + AllocGlobal + Threads + Sync>(
     rt: &R,
     streams: Streams,
     work: &Work<'_>,
-    given: &Given<'_>,
+    given: &mut Given<'_>,
 ) -> Result<Option<u8>, Trouble> {
     match work.task {
         Task::Find => find(rt, streams, given, &work.options),
@@ -70,11 +70,11 @@ pub fn work<R: Runtime + AllocGlobal + Threads + Sync>(
     if asks_for_moves(work) {
         return trace_moves(rt, streams, work);
     }
-    let given = read_files(rt, work.task, &work.files)?;
+    let mut given = read_files(rt, work.task, &work.files)?;
     if lacks_proof(work.task, &given) {
         return Err(no_proof(rt.alloc(), given.program.name)?);
     }
-    match own_work(rt, streams, work, &given)? {
+    match own_work(rt, streams, work, &mut given)? {
         Some(status) => Ok(status),
         None => answer_question(
             rt,

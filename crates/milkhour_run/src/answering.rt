@@ -15,6 +15,7 @@ use crate::Question;
 use crate::held_texts::{HeldTexts, Texts};
 use crate::step_words_of::words_for;
 use st_memory::Memory;
+use st_outside::Gate;
 use std::alloc::Global;
 use std::thread::Threads;
 use step_answers::{Answer, answered};
@@ -34,13 +35,15 @@ fn crew(workers: u32) -> u32
     workers
 }
 
-/// What `step` answers to a question over these texts. The number of workers, from 1 to 64, changes no answer.
-pub fn answer<R: Threads + Sync>(
+/// What `step` answers to a question over these texts. The number of workers, from 1 to 64, changes no answer,
+/// and neither does the gate, which is told how far the conditions are decided.
+pub fn answer<R: Threads + Sync, G: Gate + Sync>(
     rt: &R,
     alloc: Global,
     question: Question,
     workers: u32,
     texts: &Texts<'_>,
+    gate: &G,
 ) -> Result<Answer, Memory>
     // Where the texts are there, status and text are those of `step`.
     ensures outcome { IfOk result (λ a. UnlessFault a.status (IfSome (outcome_of (told_in texts.now) (plan_for (asked question))) (IsReached a.status (Some []) (Some a.text.items)))) }
@@ -60,5 +63,5 @@ pub fn answer<R: Threads + Sync>(
         texts: *texts,
         misses: 0,
     };
-    answered(rt, alloc, words.as_slice(), &mut files)
+    answered(rt, alloc, words.as_slice(), &mut files, gate)
 }

@@ -3,11 +3,13 @@
 
 mod commands;
 mod definition;
+mod meant;
 mod options;
 mod reading;
 mod request;
 
 pub use commands::{CommandRow, FileRow, QUESTIONS, TOOLS, VERSION};
+pub use meant::command_meant;
 pub use options::{OptionRow, OptionValue};
 pub use reading::read_words;
 pub use request::{Colour, FileNames, Format, Layout, Options, Request, Task, Work};

@@ -1,10 +1,11 @@
 //! The reader of words.
 
 use crate::definition::command_line;
+use crate::meant::command_meant;
 use crate::request::{Colour, FileNames, Format, Layout, Options, Request, Task, Work};
 use clap::error::ErrorKind;
-use clap::{ArgMatches, Error};
-use std::alloc::Global;
+use clap::{ArgMatches, Command, Error};
+use std::alloc::{AllocError, Global};
 
 fn format_named(name: Option<&str>) -> Format {
     match name {
@@ -145,6 +146,34 @@ fn asks_to_serve(words: &[String]) -> bool {
     }
 }
 
+/// The first word, if there is one.
+fn first_word(words: &[String]) -> &str {
+    match words.get(1) {
+        Some(word) => word.as_str(),
+        None => "",
+    }
+}
+
+/// A refusal of the first word that names the command which does what the word means; as it is where it is of anything else.
+fn advised<'a>(
+    alloc: Global,
+    line: &mut Command<'a>,
+    word: &str,
+    refusal: Error,
+) -> Result<Error, AllocError> {
+    if refusal.kind() != ErrorKind::InvalidSubcommand {
+        return Ok(refusal);
+    }
+    let Some(row) = command_meant(word) else {
+        return Ok(refusal);
+    };
+    let message = format!(in alloc;
+        "unrecognized subcommand '{word}'\n\n  tip: '{}' may be meant: {}",
+        row.name, row.about
+    )?;
+    line.error(ErrorKind::InvalidSubcommand, message.as_str())
+}
+
 /// Reads the words, the program's name first. A refusal prints itself: help and the version on standard output, mistakes on
 /// standard error. Behind `step` no word is looked at.
 pub fn read_words<'a>(alloc: Global, words: &'a [String]) -> Result<Request<'a>, Error> {
@@ -157,7 +186,10 @@ pub fn read_words<'a>(alloc: Global, words: &'a [String]) -> Result<Request<'a>,
         return Ok(Request::Serve);
     }
     let mut line = command_line(alloc)?;
-    let matches = line.try_get_matches_from_mut(words)?;
+    let matches = match line.try_get_matches_from_mut(words) {
+        Ok(matches) => matches,
+        Err(refusal) => return Err(advised(alloc, &mut line, first_word(words), refusal)?),
+    };
     match request_in(&matches) {
         Some(request) => Ok(request),
         None => Err(line.error(ErrorKind::InvalidValue, "no such words")?),

@@ -32,6 +32,22 @@ pub enum Task {
     Draw,
 }
 
+impl Task {
+    /// The command that asks for it.
+    pub fn name(self) -> &'static str {
+        match self {
+            Task::Verify => "verify",
+            Task::Check => "check",
+            Task::Prove => "prove",
+            Task::Trace => "trace",
+            Task::Invariants => "invariants",
+            Task::Find => "find",
+            Task::Conditions => "conditions",
+            Task::Draw => "draw",
+        }
+    }
+}
+
 /// The files that are named. Without the name of a proof, program and proof stand in one file.
 #[derive(Clone, Copy, Debug, PartialEq, Eq)]
 pub struct FileNames<'a> {

@@ -10,7 +10,7 @@ ghost use Rattle.spl_translation.specs.Translation.{translation};
 ghost use Rattle.temporal_goals.specs.Plain.{plain_step, plain_script};
 ghost use Rattle.vc_generator.specs.Plain.{plain_list};
 ghost use Rattle.obligation_laws.specs.Obligations.{HoldsOnRuns};
-ghost use Rattle.condition_sizes.specs.Within.{Each};
+ghost use Rattle.list_laws.specs.Each.{Each};
 ghost use Rattle.script_laws.specs.Script.{script_list};
 ghost use Rattle.script_laws.specs.Refused.{refused_at};
 ghost use Rattle.rule_fits.specs.Obeying.{IsProof, RuleFits};

@@ -15,6 +15,7 @@ use discharge::Undecided;
 use linear_prover::{Book, unless_valid};
 use st_form::{Condition, Variable};
 use st_memory::Memory;
+use st_outside::Gate;
 use std::alloc::Global;
 
 /// The condition at a place with the verdict on it, unless it is decided valid.
@@ -49,12 +50,13 @@ fn keep(kept: &mut Vec<Undecided>, found: Option<Undecided>) -> Result<(), Memor
     Ok(())
 }
 
-/// All conditions that aren't decided valid, in their order, each by its place with the verdict on it.
+/// All conditions that aren't decided valid, in their order, each by its place with the verdict on it. The gate is told of each condition.
 ///
 /// There are fewer than 2^32 variables, and the conditions are as `obligations` makes them. Want of memory is the only other
 /// answer.
-pub fn open_conditions(
+pub fn open_conditions<G: Gate>(
     alloc: Global,
+    gate: &G,
     components: &Components,
     variables: &[Variable],
     conditions: &[Condition],
@@ -67,8 +69,10 @@ pub fn open_conditions(
 {
     let mut kept = Vec::new(alloc);
     let mut book = Book::new(alloc, components, variables)?;
+    gate.posed(conditions.len());
     for place in 0..conditions.len() {
         let found = open_at(alloc, &mut book, components, variables, conditions, place)?;
+        gate.decided(1, found.is_some() as usize);
         keep(&mut kept, found)?;
     }
     Ok(kept)

@@ -7,7 +7,6 @@ use source_lines::Lines;
 use source_places::Span;
 use st_memory::Memory;
 use std::alloc::Global;
-use std::str;
 
 /// The bytes from a place to before another; none where the text ends before.
 fn slice(text: &[u8], span: Span) -> &[u8] {
@@ -16,10 +15,10 @@ fn slice(text: &[u8], span: Span) -> &[u8] {
 }
 
 fn text_of(alloc: Global, bytes: &[u8]) -> Result<String, Memory> {
-    Ok(String::from_str(alloc, str::from_utf8(bytes).unwrap_or("?"))?)
+    Ok(String::from_utf8_lossy(alloc, bytes)?)
 }
 
-/// What stands in a stretch of a text; nothing where the text ends before, and `?` for what isn't UTF-8.
+/// What stands in a stretch of a text; nothing where the text ends before, and U+FFFD for each piece that isn't UTF-8.
 pub fn piece(alloc: Global, text: &[u8], span: Span) -> Result<String, Memory> {
     text_of(alloc, slice(text, span))
 }

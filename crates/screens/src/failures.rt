@@ -1,5 +1,6 @@
 //! A condition that fails: a title, the places, the states, and what is false.
 
+use crate::proofs::counted_rounds;
 use crate::screen::{Ink, Screen, columns};
 use proof_reports::{Case, Failure, Item, Turn};
 use st_memory::Memory;
@@ -62,21 +63,15 @@ impl Screen {
 
     fn item(&mut self, item: &Item, bound: Option<&String>) -> Result<(), Memory> {
         let alloc = self.alloc;
-        let line = match (&item.rounds, bound) {
-            (Some(rounds), Some(bound)) => {
-                format!(in alloc;
-                    "item {} holds here and asks for {rounds} rounds; the bound gives {bound}",
-                    item.number
-                )?
+        let mut line = format!(in alloc; "item {} holds here", item.number)?;
+        if let Some(rounds) = &item.rounds {
+            line.push_str(" and asks for ")?;
+            line.push_str(&counted_rounds(alloc, rounds)?)?;
+            if let Some(bound) = bound {
+                line.push_str("; the bound gives ")?;
+                line.push_str(bound)?;
             }
-            (Some(rounds), None) => {
-                format!(in alloc;
-                    "item {} holds here and asks for {rounds} rounds",
-                    item.number
-                )?
-            }
-            (None, _) => format!(in alloc; "item {} holds here", item.number)?,
-        };
+        }
         self.remark(&line)
     }
 

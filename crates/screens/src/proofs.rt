@@ -9,11 +9,18 @@ use proof_reports::{Report, StepReport};
 use st_memory::Memory;
 use std::alloc::Global;
 
+/// So many rounds, as a sum says how many.
+pub(crate) fn counted_rounds(alloc: Global, count: &str) -> Result<String, Memory> {
+    let ending = if count == "1" { "" } else { "s" };
+    Ok(format!(in alloc; "{count} round{ending}")?)
+}
+
 /// What a step rests on: its bound, its rule where it is written out, and what it cites.
 fn rests_on(alloc: Global, step: &StepReport) -> Result<String, Memory> {
     let mut out = String::new(alloc);
     if let Some(bound) = &step.bound {
-        let within = format!(in alloc; "within {bound} rounds, by {}", step.rule)?;
+        let rounds = counted_rounds(alloc, bound)?;
+        let within = format!(in alloc; "within {rounds}, by {}", step.rule)?;
         out.push_str(&within)?;
     }
     for (number, name) in step.using.iter().enumerate() {

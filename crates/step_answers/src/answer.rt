@@ -14,7 +14,7 @@ ghost use Rattle.step_run.specs.Request.{NamesFile};
 
 use crate::TextSink;
 use st_memory::Memory;
-use st_outside::{Files, OpenGate};
+use st_outside::{Files, Gate};
 use std::alloc::Global;
 use std::thread::Threads;
 use step_run::{Status, step_run};
@@ -26,13 +26,14 @@ pub struct Answer {
     pub text: Vec<u8>,
 }
 
-/// What `step` answers to these words, the program's name first, over these files. Want of memory is the refusal, so the
+/// What `step` answers to these words, the program's name first, over these files; the gate is told how far that is. Want of memory is the refusal, so the
 /// status of an answer is never 9, nor 7, as the sink fails for no other cause.
-pub fn answered<R: Threads + Sync, F: Files>(
+pub fn answered<R: Threads + Sync, F: Files, G: Gate + Sync>(
     rt: &R,
     alloc: Global,
     words: &[String],
     files: &mut F,
+    gate: &G,
 ) -> Result<Answer, Memory>
     // Where the files' bytes are told, status and text are those of the words and these bytes.
     ensures outcome { IfOk result (λ a. UnlessFault a.status (IfSome (outcome_of (F.told files.old) (plan_of (request_of (words_of words.now))))
@@ -52,7 +53,7 @@ pub fn answered<R: Threads + Sync, F: Files>(
         (F.faults files.old) (F.faults files.new) a.text.items) }
 {
     let mut out = TextSink::new(alloc);
-    let status = step_run(rt, alloc, words, files, &mut out, &OpenGate);
+    let status = step_run(rt, alloc, words, files, &mut out, gate);
     match status {
         Status::Memory | Status::WriteFault => Err(Memory),
         _ => Ok(Answer {

@@ -3,6 +3,7 @@
 use milkhour_run::{Question, Status, Texts, answer};
 use refuted_goals::refutes;
 use st_memory::Memory;
+use st_outside::OpenGate;
 use std::alloc::Global;
 use std::thread::Threads;
 
@@ -14,6 +15,8 @@ pub struct Subject<'a> {
     pub workers: u32,
     pub budget: u64,
     pub program: &'a [u8],
+    /// The program, where the proof stands behind it in one file.
+    pub front: Option<&'a [u8]>,
     pub program_name: &'a str,
     pub proof_name: &'a str,
 }
@@ -31,7 +34,7 @@ fn verifies<'x, R: Threads + Sync>(
         proof: Some(proof),
         third: None,
     };
-    let answer = answer(rt, alloc, Question::Verify, workers, &texts)?;
+    let answer = answer(rt, alloc, Question::Verify, workers, &texts, &OpenGate)?;
     Ok(answer.status == Status::Proved)
 }
 

@@ -2,22 +2,27 @@
 
 use super::reporting::{FindReport, Verdict};
 use crate::given::Given;
+use crate::titles::title_of;
 use explanations::{Texts, outline};
 use html_pages::{PageTexts, proof_page, run_page, text_page};
 use st_memory::Memory;
 use std::alloc::Global;
 
 /// The text of a program with the text that was found.
-fn page_texts<'b>(given: &'b Given<'_>, found: &'b str) -> PageTexts<'b> {
+fn page_texts<'b>(given: &'b Given<'_>, found: &'b [u8]) -> PageTexts<'b> {
     PageTexts {
         program: given.texts().program.unwrap_or(b"".as_slice()),
-        proof: found.as_bytes(),
+        proof: found,
         drawing: None,
     }
 }
 
 /// The page of a text that was found, with each of its steps.
-fn page_of_proof(alloc: Global, given: &Given<'_>, found: &str) -> Result<Option<Vec<u8>>, Memory> {
+fn page_of_proof(
+    alloc: Global,
+    given: &Given<'_>,
+    found: &[u8],
+) -> Result<Option<Vec<u8>>, Memory> {
     let page_texts = page_texts(given, found);
     let texts = Texts {
         program_name: given.program.name,
@@ -40,7 +45,7 @@ fn page_of_run(
     let (Some(run), Some(proof)) = (&report.run, &report.proof) else {
         return Ok(None);
     };
-    Ok(Some(run_page(alloc, run, &page_texts(given, proof))?))
+    Ok(Some(run_page(alloc, run, &page_texts(given, proof.as_bytes()))?))
 }
 
 /// The page of what was found; of a claim of which nothing was found, what is said of it.
@@ -50,13 +55,16 @@ pub fn page_of(
     report: &FindReport,
     said: &str,
 ) -> Result<Vec<u8>, Memory> {
-    let page = match (report.verdict, &report.proof) {
-        (Verdict::Proved, Some(found)) => page_of_proof(alloc, given, found)?,
-        (Verdict::False, _) => page_of_run(alloc, given, report)?,
-        _ => None,
+    let page = match report.verdict {
+        Verdict::Proved => page_of_proof(alloc, given, report.text.as_slice())?,
+        Verdict::False => page_of_run(alloc, given, report)?,
+        Verdict::NotFound => None,
     };
     match page {
         Some(page) => Ok(page),
-        None => text_page(alloc, given.program.name, false, said.as_bytes()),
+        None => {
+            let title = title_of(alloc, given)?;
+            text_page(alloc, &title, false, said.as_bytes())
+        }
     }
 }

@@ -1,6 +1,7 @@
 //! What is told of a search for a proof, as data.
 
 use super::judging::{Subject, is_proof, is_refuted};
+use super::whole::whole_file;
 use found_proofs::{Failing, Found, Missing, Proposal, Unfound};
 use milkhour_run::Status;
 use run_reports::{RunReport, RunTexts, report_run};
@@ -39,7 +40,10 @@ pub struct FindReport {
     pub left: Option<String>,
     /// How many questions were asked.
     pub queries: u64,
-    /// The text of the proof where it proves the claims, which need not be UTF-8 in its comments.
+    /// The file of the proof where it proves the claims, which need not be UTF-8 in its comments.
+    #[serde(skip)]
+    pub file: Vec<u8>,
+    /// The same proof with blanks for a program that stands in front of it.
     #[serde(skip)]
     pub text: Vec<u8>,
 }
@@ -64,6 +68,7 @@ fn empty_report(alloc: Global, verdict: Verdict) -> Result<FindReport, AllocErro
         reason: None,
         left: None,
         queries: 0,
+        file: Vec::new(alloc),
         text: Vec::new(alloc),
     })
 }
@@ -86,15 +91,19 @@ fn reason_of(alloc: Global, unfound: Unfound, budget: u64) -> Result<String, All
             "a condition is too wide to be decided, or a number is too large",
         ),
         Unfound::Levels => String::from_str(alloc, "there would be too many levels"),
-        Unfound::Chain => String::from_str(alloc, "no chain of helpers was found for the response"),
+        Unfound::Chain => String::from_str(
+            alloc,
+            "no chain of helpers was found for the response: in what is left it is nobody's turn",
+        ),
     }
 }
 
-fn missing_report(subject: &Subject<'_>, missing: &Missing) -> Result<FindReport, AllocError> {
+fn missing_report(subject: &Subject<'_>, missing: &Missing) -> Result<FindReport, Memory> {
     let alloc = subject.alloc;
     let reason = reason_of(alloc, missing.why, subject.budget)?;
     let mut report = unfound_report(alloc, missing.goal.as_str(), reason.as_str())?;
-    report.proof = Some(text_of(alloc, missing.so_far.as_slice())?);
+    let file = whole_file(alloc, subject.front, missing.so_far.as_slice())?;
+    report.proof = Some(text_of(alloc, file.as_slice())?);
     if let Some(left) = &missing.left {
         report.left = Some(text_of(alloc, left.as_slice())?);
     }
@@ -146,7 +155,9 @@ fn proof_report<R: Threads + Sync>(
         return Ok(unfound_report(alloc, proposal.goal.as_str(), reason)?);
     }
     let mut report = empty_report(alloc, Verdict::Proved)?;
-    report.proof = Some(text_of(alloc, text)?);
+    let file = whole_file(alloc, subject.front, text)?;
+    report.proof = Some(text_of(alloc, file.as_slice())?);
+    report.file = file;
     report.text = Vec::from_slice(alloc, text)?;
     Ok(report)
 }
@@ -160,7 +171,7 @@ pub fn report_of<R: Threads + Sync>(
     match found {
         Found::Proof(proposal) => proof_report(rt, subject, proposal),
         Found::False(failing) => failing_report(subject, failing),
-        Found::NotFound(missing) => Ok(missing_report(subject, missing)?),
+        Found::NotFound(missing) => missing_report(subject, missing),
     }
 }
 

@@ -81,7 +81,7 @@ fn tell_text<R: Runtime + AllocGlobal>(
 ) -> Result<(), Trouble> {
     let alloc = rt.alloc();
     match report.verdict {
-        Verdict::Proved => tell_proof(rt, options.output, report.text.as_slice()),
+        Verdict::Proved => tell_proof(rt, options.output, report.file.as_slice()),
         Verdict::False => {
             let style = style_of(rt, streams, Target::Result(None), options.colour);
             write_result(rt, None, false_text(alloc, report, style)?.as_bytes())

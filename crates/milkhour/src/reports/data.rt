@@ -12,6 +12,7 @@ use proof_reports::EquationReport;
 use run_reports::{RunReport, RunTexts, report_run};
 use serde::Serialize;
 use st_memory::Memory;
+use st_outside::Gate;
 use std::alloc::Global;
 use std::str;
 
@@ -84,7 +85,11 @@ fn refusal_told(alloc: Global, account: &Account<'_>) -> Result<Told, Memory> {
 }
 
 /// The report of a search: its steps where all is proved, and what is open where it isn't.
-fn proof_report(alloc: Global, account: &Account<'_>) -> Result<Option<Report>, Memory> {
+fn proof_report<G: Gate>(
+    alloc: Global,
+    gate: &G,
+    account: &Account<'_>,
+) -> Result<Option<Report>, Memory> {
     let given = account.given;
     let held = given.texts();
     let (Some(program), Some(proof)) = (held.program, held.proof) else {
@@ -100,6 +105,7 @@ fn proof_report(alloc: Global, account: &Account<'_>) -> Result<Option<Report>, 
         (Question::Verify | Question::Check, Status::Proved) => outline(alloc, &texts),
         (Question::Verify | Question::Prove, Status::NotProved(_)) => explain(
             alloc,
+            gate,
             &texts,
             account.options.limit as usize,
         ),
@@ -108,8 +114,12 @@ fn proof_report(alloc: Global, account: &Account<'_>) -> Result<Option<Report>, 
 }
 
 /// A report of a search has the status and the headline of the answer, whatever else is found.
-fn proof_told(alloc: Global, account: &Account<'_>) -> Result<Option<Told>, Memory> {
-    let Some(mut report) = proof_report(alloc, account)? else {
+fn proof_told<G: Gate>(
+    alloc: Global,
+    gate: &G,
+    account: &Account<'_>,
+) -> Result<Option<Told>, Memory> {
+    let Some(mut report) = proof_report(alloc, gate, account)? else {
         return Ok(None);
     };
     report.status = account.answer.status.number();
@@ -191,18 +201,22 @@ fn equations_told(alloc: Global, account: &Account<'_>) -> Result<Option<Told>, 
 }
 
 /// What is told of an answer to its question, where there is more to tell than its text.
-fn report_told(alloc: Global, account: &Account<'_>) -> Result<Option<Told>, Memory> {
+fn report_told<G: Gate>(
+    alloc: Global,
+    gate: &G,
+    account: &Account<'_>,
+) -> Result<Option<Told>, Memory> {
     match account.question {
         Question::Trace if asks_for_moves(account.options) => moves_told(alloc, account),
         Question::Trace => run_told(alloc, account),
         Question::Invariants => equations_told(alloc, account),
-        Question::Verify | Question::Check | Question::Prove => proof_told(alloc, account),
+        Question::Verify | Question::Check | Question::Prove => proof_told(alloc, gate, account),
     }
 }
 
 /// What is told of an answer.
-pub fn told_of(alloc: Global, account: &Account<'_>) -> Result<Told, Memory> {
-    match report_told(alloc, account)? {
+pub fn told_of<G: Gate>(alloc: Global, gate: &G, account: &Account<'_>) -> Result<Told, Memory> {
+    match report_told(alloc, gate, account)? {
         Some(told) => Ok(told),
         None => refusal_told(alloc, account),
     }

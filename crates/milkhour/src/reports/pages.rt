@@ -3,6 +3,7 @@
 use super::Account;
 use super::data::{Refusal, Told};
 use super::texts::refusal_text;
+use crate::titles::title_of;
 use crate::trouble::Trouble;
 use html_pages::{PageTexts, equation_page, proof_page, run_page, text_page};
 use milkhour_run::Status;
@@ -35,8 +36,8 @@ fn refusal_page(
 ) -> Result<Vec<u8>, Trouble> {
     let text = refusal_text(alloc, refusal, page_style(account))?;
     let is_good = account.answer.status == Status::Proved;
-    let given = account.given;
-    Ok(text_page(alloc, given.program.name, is_good, text.as_bytes())?)
+    let title = title_of(alloc, account.given)?;
+    Ok(text_page(alloc, &title, is_good, text.as_bytes())?)
 }
 
 /// The page of a state and its moves: their screen, without colours.
@@ -46,7 +47,8 @@ fn moves_page(
     report: &MovesReport,
 ) -> Result<Vec<u8>, Trouble> {
     let text = moves_screen(alloc, report, page_style(account))?;
-    Ok(text_page(alloc, &report.program, true, text.as_bytes())?)
+    let title = title_of(alloc, account.given)?;
+    Ok(text_page(alloc, &title, true, text.as_bytes())?)
 }
 
 /// The page of an answer.

@@ -9,7 +9,7 @@ use Rattle.discharge.proofs.Halves.{Ahead, ahead-begun, ahead-next, ahead-fails,
 use Rattle.discharge.proofs.checking.check_piece.Goals as goal
 
 pub loop-i-init : goal.loop-i-init
-loop-i-init c = record {
+loop-i-init g c = record {
   knows = c.in_ok-book.ensures;
   checkable = c.requires.checkable;
   ahead =
@@ -22,12 +22,12 @@ loop-i-init c = record {
 }
 
 pub returns-in_default : goal.returns-in_default
-returns-in_default c =
+returns-in_default g c =
     ahead-done (setting c.args.components.now c.args.variables.now) (dealt c.args.share c.args.conditions.now) (dealt c.args.share c.args.blocks.now) c.loop-i.i _ _
     (every_empty c.args.share.stride (c.args.share.count - c.loop-i.i) c.loop-i.rest.now c.in_default.ensures.cases) c.loop-i.invariant.ahead
 
 pub returns-then-not-branch : goal.returns-then-not-branch
-returns-then-not-branch c =
+returns-then-not-branch g c =
     let s = c.args.share.stride in
     let n = c.args.share.count - c.loop-i.i in
     let some : 0 < n = omega (arith, c.loop-i-test.true) in
@@ -38,7 +38,7 @@ returns-then-not-branch c =
     c.loop-i.invariant.ahead (λ p. let yes = exact.1 p in let no = c.if-not-branch.true in absurd (cc))
 
 pub loop-i-preserved : goal.loop-i-preserved
-loop-i-preserved c =
+loop-i-preserved g c =
     let k : Setting = setting c.args.components.now c.args.variables.now in
     let s = c.args.share.stride in
     let n = c.args.share.count - c.loop-i.i in
@@ -59,6 +59,6 @@ loop-i-preserved c =
     }
 
 pub returns : goal.returns
-returns c =
+returns g c =
     ahead-done (setting c.args.components.now c.args.variables.now) (dealt c.args.share c.args.conditions.now) (dealt c.args.share c.args.blocks.now) c.loop-i.i _ _
     (every_done c.args.share.stride (c.args.share.count - c.loop-i.i) c.loop-i.rest.now (omega (arith, c.loop-i-test.false))) c.loop-i.invariant.ahead

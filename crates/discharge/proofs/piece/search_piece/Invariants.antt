@@ -4,7 +4,7 @@ use Rattle.discharge.specs.Marked.{AreMarks}
 use Rattle.discharge.proofs.piece.search_piece.Given as goal
 
 abbrev pub invariant-loop : goal.invariant-loop
-invariant-loop l = record {
+invariant-loop g l = record {
   knows : Knows (setting l.components l.variables) l.book;
   marks : AreMarks (setting l.components l.variables) l.conditions l.valid.items;
 }

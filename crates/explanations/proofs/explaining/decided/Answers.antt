@@ -6,14 +6,14 @@ use Rattle.explanations.proofs.Standing.{open_stand}
 use Rattle.explanations.proofs.explaining.decided.Goals as goal
 
 pub reported-requires : goal.reported-requires
-reported-requires c =
+reported-requires g c =
     let x = c.args.posed.now.source in
     let p = c.args.posed.now.proof in
     let stand = open_stand x p (setting_of x) c.in_ok-left.left.items c.requires.by.made c.in_ok-left.ensures.right in
     record { translated = c.requires.of.made; stand = subst (AllStand p) (sym c.deref.ensures.value) stand }
 
 pub returns : goal.returns
-returns c =
+returns g c =
     let x = c.args.posed.now.source in
     let p = c.args.posed.now.proof in
     let all = ap (map place_of) c.deref.ensures.value ∙ c.in_ok-left.ensures.all in

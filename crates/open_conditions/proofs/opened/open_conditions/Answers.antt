@@ -5,7 +5,7 @@ use Rattle.open_conditions.proofs.Places.{turn, whole, first_is, right_more}
 use Rattle.open_conditions.proofs.opened.open_conditions.Goals as goal
 
 pub loop-place-preserved : goal.loop-place-preserved
-loop-place-preserved c =
+loop-place-preserved g c =
     let k = setting c.args.components.now c.args.variables.now in
     let cs = c.args.conditions.now in
     let i = c.loop-place.place in
@@ -16,11 +16,11 @@ loop-place-preserved c =
     }
 
 pub returns-clause-all : goal.returns-clause-all
-returns-clause-all c =
+returns-clause-all g c =
     whole (setting c.args.components.now c.args.variables.now) c.args.conditions.now c.loop-place.place c.loop-place.kept.items (omega (arith, c.loop-place-test.false)) c.loop-place.invariant.places
 
 pub returns-clause-first : goal.returns-clause-first
-returns-clause-first c =
+returns-clause-first g c =
     let k = setting c.args.components.now c.args.variables.now in
     first_is k c.args.conditions.now c.loop-place.kept.items
     (whole k c.args.conditions.now c.loop-place.place c.loop-place.kept.items (omega (arith, c.loop-place-test.false)) c.loop-place.invariant.places)

@@ -1,0 +1,12 @@
+mod Unbroken
+mod Trees
+mod Units
+mod DrawnTrees
+mod RuleTrees
+mod Callings
+mod StepTrees
+mod Lawful
+mod RawReferences
+mod JudgedReferences
+mod PartLaws
+mod References

@@ -1,0 +1,44 @@
+-- Where a rule is found broken, and the rules of what stands behind marks. `at` counts the tokens before: a rule is found at the
+-- last of so many tokens, behind which nothing can mend it, and the breach names a place.
+use Rattle.std.specs.Prelude.{ℕ, suc, ◌+◌, Bool, true, false, cond, nat_lt, List, [], ◌∷◌, ◌++◌, Option, Some, None, Result, Ok, Err}
+use Rattle.st_tokens.specs.declared.limit.LimitKind.TheVariants as limits
+use Rattle.st_reading.specs.Breaches.{Breach, limited}
+use Rattle.st_reading.specs.BrokenRules.{Broken}
+use Rattle.expression_typer.specs.declared.fault.TypeFault.{TypeFault}
+use Rattle.assertions.specs.Faults.{of_rule}
+use Rattle.script_grammar.specs.RawScripts.{RawUnit}
+
+-- what is broken is found at the last of so many tokens
+abbrev pub found_at : ℕ → Breach → Broken Breach
+found_at n breach = record { found = n; fault = breach }
+
+-- what is broken where the test holds
+abbrev pub broken_where : Bool → ℕ → Breach → List (Broken Breach)
+broken_where true n breach = found_at n breach ∷ []
+broken_where false n breach = []
+
+-- an expression that ends so many tokens is typed
+abbrev pub typing_rules : {A : Type 0} → ℕ → Result A TypeFault → List (Broken Breach)
+typing_rules n (Ok x) = []
+typing_rules n (Err f) = found_at n (of_rule f) ∷ []
+
+-- [ mark item ]
+abbrev pub optional_rules : {A : Type 0} → (ℕ → A → List (Broken Breach)) → ℕ → Option A → List (Broken Breach)
+optional_rules judge at None = []
+optional_rules judge at (Some x) = judge (at + 1) x
+
+-- { mark item }
+abbrev pub marked_rules : {A : Type 0} → (A → ℕ) → (ℕ → A → List (Broken Breach)) → ℕ → List A → List (Broken Breach)
+marked_rules size judge at [] = []
+marked_rules size judge at (x ∷ xs) = judge (at + 1) x ++ marked_rules size judge (at + (1 + size x)) xs
+
+-- { item }
+abbrev pub many_rules : {A : Type 0} → (A → ℕ) → (ℕ → A → List (Broken Breach)) → ℕ → List A → List (Broken Breach)
+many_rules size judge at [] = []
+many_rules size judge at (x ∷ xs) = judge at x ++ many_rules size judge (at + size x) xs
+
+-- { mark item }, at most 64 of them, behind some: one is too many as soon as the formula is read with which it begins.
+abbrev pub listed_rules : {A : Type 0} → (A → RawUnit) → (A → ℕ) → (ℕ → A → List (Broken Breach)) → ℕ → ℕ → List A → List (Broken Breach)
+listed_rules form size judge before at [] = []
+listed_rules form size judge before at (x ∷ xs) =
+    cond (nat_lt before 64) (judge (at + 1) x) (found_at (at + (1 + (form x).size)) (limited limits.Nodes (form x).place) ∷ []) ++ listed_rules form size judge (suc before) (at + (1 + size x)) xs

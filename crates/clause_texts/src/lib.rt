@@ -8,7 +8,6 @@ mod labels;
 mod literals;
 mod phrases;
 mod rows;
-mod states;
 mod whereabouts;
 mod writer;
 

@@ -1,5 +1,5 @@
 -- Drawings: trees that break no rule are what the grammar with rules spells.
-use Rattle.std.proofs.Common.{◌≡◌, ℕ, ◌+◌, ◌<◌, Bool, false, true, not, ◌&&◌, nat_lt, List, [], ◌∷◌, ◌++◌, length, map, Option, Some, None, refl, sym, ap, subst, ◌∙◌, arith, unwrap_or}
+use Rattle.std.proofs.Common.{◌≡◌, ℕ, ◌+◌, ◌<◌, Bool, false, true, not, ◌&&◌, nat_lt, List, [], ◌∷◌, length, map, Option, Some, None, refl, sym, ap, subst, ◌∙◌, arith, unwrap_or}
 use Rattle.std.specs.Prelude.{is_none, is_some}
 use Rattle.std.specs.Option.{option_map}
 use Rattle.std.proofs.lemmas.Bool.Decides.{nat_tests}
@@ -7,17 +7,16 @@ use Rattle.st_tokens.specs.Stream.{Lexeme}
 use Rattle.st_tokens.specs.declared.limit.LimitKind.TheVariants as limits
 use Rattle.st_reading.specs.declared.mark.Mark.TheVariants as marks
 use Rattle.st_reading.specs.Rule as rules
-use Rattle.st_reading.specs.Breaches.{Breach, broke, limited}
-use Rattle.st_reading.specs.Spelling.{Is, Row}
-use Rattle.st_reading.specs.Phrases.{After, Many, after_mark, none_more, one_more}
+use Rattle.st_reading.specs.Breaches.{broke, limited}
+use Rattle.st_reading.specs.Phrases.{Many, after_mark, none_more, one_more}
 use Rattle.st_linear.specs.Linear.{Linear}
 use Rattle.st_form.specs.Formula.{Formula, truth_value}
 use Rattle.temporal_goals.specs.Texts.{PlainDiagram, PlainDrawnNode, PlainEdge}
 use Rattle.temporal_goals.specs.declared.diagrams.DiagramKind.{DiagramKind}
-use Rattle.diagram_reader.specs.Drawn.{Drawing, diagram_with, has_helpers, has_ranks, is_above, is_known, is_upward, nothing_drawn, with_edge, with_node, with_terminal}
+use Rattle.diagram_reader.specs.Drawn.{Drawing, diagram_with, has_helpers, is_above, is_known, is_upward, nothing_drawn, with_edge, with_node, with_terminal}
 use Rattle.proof_script.specs.Listing.{Setting}
 use Rattle.proof_grammar.specs.Units.{IsFormula, IsHelper, IsNumber, IsTransition}
-use Rattle.proof_grammar.specs.Drawings.{IsDrawnNumber, IsNewNumber, IsNodeRank, IsNodeHelper, IsDrawnNode, IsEdge, IsTerminal, IsItem, AreItems, IsDrawing, drawn_number, new_number, unranked, node_rank, unhelped, node_helper, drawn_node, an_edge, a_terminal, terminal_item, node_item, edge_item, no_further_item, a_further_item, a_drawing}
+use Rattle.proof_grammar.specs.Drawings.{IsDrawnNumber, IsNodeRank, IsNodeHelper, IsDrawnNode, IsEdge, IsTerminal, IsItem, AreItems, IsDrawing, drawn_number, new_number, unranked, node_rank, unhelped, node_helper, drawn_node, an_edge, a_terminal, terminal_item, node_item, edge_item, no_further_item, a_further_item, a_drawing}
 use Rattle.script_grammar.specs.RawScripts.{RawUnit, RawTransition, RawNumber, RawDrawnNode, RawEdge, RawItem, raw_terminal, raw_node, raw_edge, RawDrawing}
 use Rattle.script_grammar.specs.Sizes.{transition_size, optional_size, unit_size, drawn_node_size, item_size, drawing_size}
 use Rattle.script_grammar.specs.Drawings.{IsUnit, IsReference, IsNumeral, IsRawEdge, IsRawTerminal, IsRawRank, IsRawHelper, IsRawDrawnNode, IsRawItem, IsRawDrawing, spells_numeral, spells_edge, spells_terminal, spells_no_rank, spells_rank, spells_no_helper, spells_helper, spells_drawn_node, spells_terminal_item, spells_node_item, spells_edge_item, spells_drawing}
@@ -25,7 +24,7 @@ use Rattle.script_grammar.specs.Meaning.{form_meant, sum_meant, transition_meant
 use Rattle.script_grammar.specs.Breaking.{optional_rules}
 use Rattle.script_grammar.specs.Rules.{known_rules, form_rules, sum_rules, helper_rules, transition_rules, drawn_node_rules, edge_rules, terminal_rules, item_rules, items_rules, drawing_rules}
 use Rattle.script_grammar.specs.Theorems.{Forms, Sums}
-use Rattle.script_grammar.proofs.Unbroken.{none_broken, both_kept, not_broken, is_kept, is_there, not_true, same2, same3, same4}
+use Rattle.script_grammar.proofs.Unbroken.{none_broken, both_kept, not_broken, is_kept, is_there, not_true, same2, same3}
 use Rattle.script_grammar.proofs.Trees.{Tree, after_tree, row_tree, after_lawful, row_lawful}
 use Rattle.script_grammar.proofs.Units.{form_tree, form_lawful, sum_tree, sum_lawful, transition_tree, transition_lawful, helper_tree, helper_lawful}
 

@@ -7,7 +7,7 @@ use Rattle.std.specs.Prelude.{codes}
 use Rattle.st_tokens.specs.Stream.{◌++>◌, Lexeme, Stream, ends, breaks, more}
 use Rattle.st_reading.specs.declared.mark.Mark.TheVariants as marks
 use Rattle.st_reading.specs.Sign.{sign_of, is}
-use Rattle.st_reading.specs.Reading.{Stop, syntax, broken, other, Label, ahead, is_name, label_of, named, refusal, gives, then_reads}
+use Rattle.st_reading.specs.Reading.{Stop, syntax, broken, other, Label, ahead, is_name, label_of, named, refusal, then_reads}
 use Rattle.st_reading.specs.Breaches.{Breach, Reader}
 use Rattle.st_reading.specs.BrokenRules.{Broken}
 use Rattle.st_reading.specs.Spelling.{Is}

@@ -1,6 +1,6 @@
 -- The laws of whole scripts and diagrams.
-use Rattle.std.proofs.Common.{◌≡◌, ℕ, List, [], Ok, refl, subst, ◌∙◌}
-use Rattle.st_tokens.specs.Stream.{Lexeme, ends, text_stream, ◌++>◌}
+use Rattle.std.proofs.Common.{◌≡◌, ℕ, List, [], Ok, subst}
+use Rattle.st_tokens.specs.Stream.{Lexeme}
 use Rattle.temporal_goals.specs.Texts.{PlainDiagram, PlainStep}
 use Rattle.temporal_goals.specs.declared.diagrams.DiagramKind.{DiagramKind}
 use Rattle.proof_script.specs.Listing.{Setting}

@@ -1,5 +1,5 @@
 -- A reader that is judged beside a plain one stops exactly at the first fault.
-use Rattle.std.proofs.Common.{◌≡◌, ℕ, Bool, true, List, [], Ok, Err, refl, sym, ap, subst}
+use Rattle.std.proofs.Common.{◌≡◌, ℕ, Bool, true, List, Ok, Err, sym, subst}
 use Rattle.st_tokens.specs.Stream.{◌++>◌, Lexeme, Stream, ends}
 use Rattle.st_reading.specs.declared.sign.Sign.{Sign}
 use Rattle.st_reading.specs.declared.sign.Sign.TheVariants as signs

@@ -1,30 +1,28 @@
 -- A transition that is read and not judged: its name and its part. The reader has its law, and reads exactly what is spelled.
-use Rattle.std.proofs.Common.{◌≡◌, ℕ, Bool, true, false, cond, List, [], ◌∷◌, ◌++◌, Option, Some, None, Ok, Err, refl, sym, ap, subst, ◌∙◌, arith, unwrap_or}
+use Rattle.std.proofs.Common.{◌≡◌, Bool, true, false, cond, List, [], ◌∷◌, Option, Some, None, Ok, Err, refl, sym, ap, ◌∙◌, unwrap_or}
 use Rattle.std.specs.Prelude.{codes}
 use Rattle.st_tokens.specs.declared.kind.TokenKind.TheVariants as kinds
 use Rattle.st_tokens.specs.Stream.{◌++>◌, Lexeme, Stream, ends, breaks, more, IsSpelled}
 use Rattle.st_reading.specs.declared.mark.Mark.TheVariants as marks
 use Rattle.st_reading.specs.declared.sign.Sign.{Sign}
-use Rattle.st_reading.specs.declared.sign.Sign.TheVariants as signs
-use Rattle.st_reading.specs.Sign.{sign_of, is}
-use Rattle.st_reading.specs.Reading.{Stop, syntax, Label, ahead, is_name, label_of, refusal, gives, then_reads, on_operator, size}
+use Rattle.st_reading.specs.Sign.{sign_of}
+use Rattle.st_reading.specs.Reading.{syntax, Label, ahead, is_name, label_of, refusal, gives, on_operator}
 use Rattle.st_reading.specs.Breaches.{Breach, Reader}
-use Rattle.st_reading.specs.Spelling.{Cut, Is, IsName, OneName, Sound, behind_it, one_name}
-use Rattle.st_reading.specs.Phrases.{Optional, left_out, put_in}
+use Rattle.st_reading.specs.Spelling.{Cut, IsName, Sound, behind_it, one_name}
+use Rattle.st_reading.specs.Phrases.{left_out, put_in}
 use Rattle.st_reading.specs.Steady.{head, Viable, SteadyAt, both, stops, refused, calmer, moves, wider, anything}
 use Rattle.st_reading.proofs.Streams.{refusal_same}
 use Rattle.st_reading.proofs.Spelled.{one_spelled}
 use Rattle.st_reading.proofs.Soundness.{sound_shrinks, taken}
 use Rattle.st_reading.proofs.ListCompleteness.{Complete}
 use Rattle.st_reading.proofs.Tokens.{but}
-use Rattle.st_reading.proofs.Phrases.{Phrase, made}
+use Rattle.st_reading.proofs.Phrases.{made}
 use Rattle.st_reading.proofs.LawfulPhrases.{LawfulPhrase, name_lawful, map_lawful, optional_lawful, then_lawful, as_lawful, within_lawful}
-use Rattle.st_reading.proofs.FairReaders.{Fair}
 use Rattle.st_form.specs.declared.conditions.Part.{Part}
-use Rattle.st_form.specs.declared.conditions.Part.TheVariants.{Whole, Entry, Exit}
+use Rattle.st_form.specs.declared.conditions.Part.TheVariants.{Whole, Entry}
 use Rattle.assertions.specs.Labels.{part_named}
 use Rattle.diagram_reader.specs.Transitions.{part_at, suffix_of}
-use Rattle.proof_grammar.specs.Units.{IsPart, a_part, the_whole}
+use Rattle.proof_grammar.specs.Units.{a_part, the_whole}
 use Rattle.script_grammar.specs.RawScripts.{RawTransition}
 use Rattle.script_grammar.specs.Drawings.{IsReference, spells_reference}
 

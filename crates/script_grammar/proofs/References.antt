@@ -1,19 +1,18 @@
 -- Transitions, helpers, groups and new names: refused exactly at their first fault.
-use Rattle.std.proofs.Common.{◌≡◌, ℕ, ◌+◌, Bool, true, false, cond, List, [], ◌∷◌, ◌++◌, Option, Some, None, Result, Ok, Err, refl, sym, ap, subst, ◌∙◌, ◌⊎◌, inl, inr, arith}
+use Rattle.std.proofs.Common.{◌≡◌, ℕ, ◌+◌, Bool, true, false, cond, List, [], ◌∷◌, Option, Some, None, Result, Ok, Err, refl, sym, ap, ◌∙◌, ◌⊎◌, inl, inr}
 use Rattle.std.specs.Prelude.{if◌then◌else◌, is_none, is_some}
 use Rattle.std.specs.Option.{option_map}
 use Rattle.std.specs.Str.{bytes_eq}
 use Rattle.std.proofs.lemmas.Slice.Eq.{bytes_eq-Decides}
-use Rattle.st_tokens.specs.Stream.{◌++>◌, Lexeme, Stream, ends, breaks, more, behind}
+use Rattle.st_tokens.specs.Stream.{Stream, ends, breaks, more, behind}
 use Rattle.st_reading.specs.declared.mark.Mark.TheVariants as marks
 use Rattle.st_reading.specs.Sign.{sign_of, is}
 use Rattle.st_reading.specs.Rule.{Rule}
 use Rattle.st_reading.specs.Rule as rules
-use Rattle.st_reading.specs.Reading.{Stop, Read, Label, ◌>>=◌, other, ahead, is_name, label_of, named, refusal, gives, then_reads}
+use Rattle.st_reading.specs.Reading.{Read, Label, ◌>>=◌, other, ahead, is_name, label_of, named, refusal, then_reads}
 use Rattle.st_reading.specs.Breaches.{Breach, Reader, broke, present, unless}
-use Rattle.st_reading.specs.BrokenRules.{Broken}
 use Rattle.st_reading.specs.Spelling.{OneName}
-use Rattle.st_reading.specs.Steady.{head, anything}
+use Rattle.st_reading.specs.Steady.{anything}
 use Rattle.st_reading.proofs.Spelled.{none_spelled}
 use Rattle.st_reading.proofs.Soundness.{values}
 use Rattle.st_reading.proofs.Judging.{closed, JudgedAt, good, bad, alike}
@@ -31,7 +30,7 @@ use Rattle.proof_script.specs.Steps.{earlier_of, is_invariance, is_taken, new_na
 use Rattle.script_grammar.specs.RawScripts.{RawTransition}
 use Rattle.script_grammar.specs.Sizes.{transition_size}
 use Rattle.script_grammar.specs.Drawings.{IsReference}
-use Rattle.script_grammar.specs.Meaning.{one_later, step_called, transition_seen}
+use Rattle.script_grammar.specs.Meaning.{one_later, step_called}
 use Rattle.script_grammar.specs.Breaking.{broken_where, found_at}
 use Rattle.script_grammar.specs.Rules.{group_rules, helper_rules, name_rules, owed_rules, transition_rules}
 use Rattle.script_grammar.specs.FirstFaults.{IsSyntactic, StopsAtFirst, TransitionsFirstFault, HelpersFirstFault, GroupsFirstFault, NewNamesFirstFault}

@@ -1,5 +1,5 @@
 -- Rules of responses: trees that break no rule are what the grammar with rules spells.
-use Rattle.std.proofs.Common.{◌≡◌, ℕ, ◌+◌, ◌≤◌, Bool, false, true, ◌&&◌, nat_eq, List, [], ◌∷◌, ◌++◌, length, map, Option, Some, None, refl, sym, ap, subst, ◌∙◌, arith}
+use Rattle.std.proofs.Common.{◌≡◌, ℕ, ◌+◌, ◌&&◌, nat_eq, List, [], ◌∷◌, length, map, Option, Some, None, refl, sym, ap, ◌∙◌, arith}
 use Rattle.std.specs.Prelude.{is_none}
 use Rattle.std.specs.Option.{option_map}
 use Rattle.std.proofs.lemmas.List.{length-map}
@@ -8,14 +8,14 @@ use Rattle.st_reading.specs.declared.mark.Mark.{Mark}
 use Rattle.st_reading.specs.declared.mark.Mark.TheVariants as marks
 use Rattle.st_reading.specs.Rule as rules
 use Rattle.st_reading.specs.Breaches.{broke}
-use Rattle.st_reading.specs.Phrases.{After, Bracketed, Many, Optional}
+use Rattle.st_reading.specs.Phrases.{After, Optional}
 use Rattle.st_linear.specs.Linear.{Linear}
 use Rattle.st_form.specs.Formula.{Formula}
 use Rattle.temporal_goals.specs.Texts.{PlainLevel, PlainNestedNode, PlainNode, PlainRule, diagram, nested, net}
 use Rattle.temporal_goals.specs.declared.diagrams.DiagramKind.TheVariants.{Chain, Rank}
 use Rattle.response_rules.specs.Forms.{chain_nodes, fair_nodes, ranked_nodes}
 use Rattle.proof_script.specs.Listing.{Setting}
-use Rattle.proof_grammar.specs.Units.{IsFormula, IsGroup, IsHelper, IsNumber}
+use Rattle.proof_grammar.specs.Units.{IsGroup, IsHelper, IsNumber}
 use Rattle.proof_grammar.specs.Rules.{IsHelped, IsRanked, IsFairItem, IsNode, IsLevel, IsNestedNode, IsRule, helped, ranked, fair_item, a_node, a_level, a_nested_node, by_just, by_chain, by_ranks, by_compassion, by_net, by_nested_net, by_chain_diagram, by_rank_diagram}
 use Rattle.script_grammar.specs.RawScripts.{RawUnit, RawTransition, RawHelped, RawRanked, RawFair, RawNode, RawLevel, RawNestedNode, RawRule, raw_just, raw_chain, raw_ranked, raw_fair, raw_net, raw_nested, raw_diagram}
 use Rattle.script_grammar.specs.Sizes.{optional_size, many_size, transition_size, helped_size, ranked_size, fair_size, node_size, level_size, nested_node_size}
@@ -23,7 +23,7 @@ use Rattle.script_grammar.specs.Drawings.{IsUnit, IsReference}
 use Rattle.script_grammar.specs.Grammar.{IsRawHelped, IsRawRanked, IsRawFair, IsRawNode, IsRawLevel, IsRawNestedNode, IsRawRule, spells_helped, spells_ranked, spells_fair, spells_node, spells_level, spells_nested_node, spells_just, spells_chain, spells_ranks, spells_compassion, spells_net, spells_nested_net, spells_chain_diagram, spells_rank_diagram}
 use Rattle.script_grammar.specs.Meaning.{form_meant, sum_meant, transition_meant, helped_meant, ranked_meant, fair_meant, node_meant, level_meant, nested_node_meant, rule_meant, drawing_meant}
 use Rattle.script_grammar.specs.Breaking.{optional_rules}
-use Rattle.script_grammar.specs.Rules.{form_rules, sum_rules, helper_rules, group_rules, helped_rules, ranked_rules, fair_rules, node_rules, level_rules, nested_node_rules, rule_rules}
+use Rattle.script_grammar.specs.Rules.{sum_rules, helper_rules, group_rules, helped_rules, ranked_rules, fair_rules, node_rules, level_rules, nested_node_rules, rule_rules}
 use Rattle.script_grammar.specs.Theorems.{Forms, Sums}
 use Rattle.script_grammar.proofs.Unbroken.{none_broken, both_kept, not_broken, is_kept, same2, same3, same4}
 use Rattle.script_grammar.proofs.Trees.{Tree, after_tree, optional_tree, many_tree, brackets_tree, as_many, after_lawful, optional_lawful, many_lawful, brackets_lawful}

@@ -10,24 +10,23 @@ use Rattle.st_reading.specs.declared.mark.Mark.TheVariants as marks
 use Rattle.st_reading.specs.Rule as rules
 use Rattle.st_reading.specs.Breaches.{broke}
 use Rattle.st_reading.specs.Reading.{Label, label_of}
-use Rattle.st_reading.specs.Spelling.{Is, IsName, Items, OneName, Row, one_name}
-use Rattle.st_reading.specs.Phrases.{After, Many, Optional, after_mark, left_out, put_in, none_more, one_more}
-use Rattle.st_linear.specs.Linear.{Linear}
+use Rattle.st_reading.specs.Spelling.{OneName, one_name}
+use Rattle.st_reading.specs.Phrases.{After, after_mark, left_out, put_in, none_more, one_more}
 use Rattle.st_form.specs.Formula.{Formula}
 use Rattle.st_program.specs.Names.{AreApart, IsNew}
-use Rattle.temporal_goals.specs.Texts.{PlainDiagram, PlainGoal, PlainRule, PlainStep, basic, diagram, invariant, levels, response, stronger, waiting}
+use Rattle.temporal_goals.specs.Texts.{PlainGoal, PlainRule, PlainStep, basic, diagram, invariant, levels, response, stronger, waiting}
 use Rattle.temporal_goals.specs.declared.diagrams.DiagramKind.TheVariants.{Wait}
 use Rattle.expression_typer.specs.Naming.{is_text}
 use Rattle.proof_script.specs.Listing.{Setting}
-use Rattle.proof_grammar.specs.Units.{IsCited, IsEarlierInvariance, IsFormula, IsNewName, IsNumber, cited_name, names_of_steps, new_name}
+use Rattle.proof_grammar.specs.Units.{IsCited, IsFormula, IsNewName, IsNumber, cited_name, names_of_steps, new_name}
 use Rattle.proof_grammar.specs.Rules.{IsRule}
-use Rattle.proof_grammar.specs.Grammar.{IsInvariance, IsWaitingGoal, IsWaitingRule, IsWaiting, IsResponse, IsUsing, IsNamed, IsStep, IsScript, by_itself, by_stronger, waiting_goal, by_levels, by_wait_diagram, waits, responds, no_using, using_names, named_step, invariance_step, waiting_step, response_step, no_further_step, a_further_step}
-use Rattle.script_grammar.specs.RawScripts.{RawUnit, RawClaim, raw_invariance, raw_waiting, raw_response, RawRule, RawWaitingRule, raw_levels, raw_wait_diagram, RawStep}
+use Rattle.proof_grammar.specs.Grammar.{IsInvariance, IsWaitingRule, IsWaiting, IsResponse, IsUsing, IsNamed, IsStep, IsScript, by_itself, by_stronger, waiting_goal, by_levels, by_wait_diagram, waits, responds, no_using, using_names, named_step, invariance_step, waiting_step, response_step, no_further_step, a_further_step}
+use Rattle.script_grammar.specs.RawScripts.{RawUnit, RawClaim, raw_invariance, raw_waiting, raw_response, RawWaitingRule, raw_levels, raw_wait_diagram, RawStep}
 use Rattle.script_grammar.specs.Sizes.{label_size, marked_size, unit_size, claim_size, step_size}
 use Rattle.script_grammar.specs.Drawings.{IsUnit}
 use Rattle.script_grammar.specs.Grammar.{IsRawWaitingRule, IsRawInvariance, IsRawWaiting, IsRawResponse, IsRawRule, IsRawUsing, IsRawNamed, IsRawStep, IsRawScript, spells_levels, spells_wait_diagram, spells_invariance, spells_waiting, spells_response, cites_none, cites, spells_named, spells_invariance_step, spells_waiting_step, spells_response_step}
 use Rattle.script_grammar.specs.Meaning.{number_in, step_called, lemma_called, form_meant, sum_meant, rule_meant, drawing_meant, waiting_rule_meant, claim_meant, cited_meant, step_meant, steps_meant}
-use Rattle.script_grammar.specs.Breaking.{optional_rules, marked_rules, listed_rules}
+use Rattle.script_grammar.specs.Breaking.{marked_rules}
 use Rattle.script_grammar.specs.Rules.{name_rules, lemma_rules, cited_rules, form_rules, sum_rules, rule_rules, waiting_rule_rules, claim_rules, step_rules, steps_rules}
 use Rattle.script_grammar.specs.Theorems.{Forms, Sums}
 use Rattle.script_grammar.proofs.Unbroken.{none_broken, both_kept, not_broken, is_kept, not_true, listed_kept, kept_listed, few_at_first, same2, same3}

@@ -1,11 +1,11 @@
 -- A tree without broken rules for what the grammar with rules spells, and lists of such trees.
-use Rattle.std.proofs.Common.{◌≡◌, ℕ, ◌+◌, ◌≤◌, List, [], ◌∷◌, ◌++◌, length, map, Option, Some, None, refl, sym, ap, subst, ◌∙◌, arith}
+use Rattle.std.proofs.Common.{◌≡◌, ℕ, ◌+◌, List, [], ◌∷◌, length, map, Option, Some, None, refl, sym, ap, ◌∙◌, arith}
 use Rattle.std.specs.Option.{option_map}
 use Rattle.std.proofs.lemmas.List.{length-map}
 use Rattle.st_tokens.specs.Stream.{Lexeme}
 use Rattle.st_reading.specs.declared.mark.Mark.{Mark}
 use Rattle.st_reading.specs.declared.mark.Mark.TheVariants as marks
-use Rattle.st_reading.specs.Spelling.{Is, Items, Row, no_items, item_more, row}
+use Rattle.st_reading.specs.Spelling.{Items, Row, no_items, item_more, row}
 use Rattle.st_reading.specs.Phrases.{After, Bracketed, Many, Optional, after_mark, bracketed, left_out, put_in, none_more, one_more}
 use Rattle.st_reading.specs.Breaches.{Breach}
 use Rattle.st_reading.specs.BrokenRules.{Broken}

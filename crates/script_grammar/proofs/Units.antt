@@ -1,16 +1,15 @@
 -- Formulas, integer expressions and transitions: trees that break no rule are what the grammar with rules spells.
-use Rattle.std.proofs.Common.{◌≡◌, ℕ, Bool, ◌+◌, false, true, not, List, [], ◌∷◌, length, Option, Some, None, inl, inr, refl, sym, ap, subst, ◌∙◌, ◌⊎◌, pos, slice_get, unwrap_or}
+use Rattle.std.proofs.Common.{◌≡◌, ℕ, Bool, ◌+◌, false, not, List, [], ◌∷◌, length, Option, Some, None, inl, inr, refl, ap, ◌∙◌, ◌⊎◌, pos, slice_get, unwrap_or}
 use Rattle.std.specs.Prelude.{is_none}
 use Rattle.st_tokens.specs.Stream.{Lexeme}
 use Rattle.st_reading.specs.Rule.{Rule}
 use Rattle.st_reading.specs.Rule as rules
-use Rattle.st_reading.specs.Breaches.{Breach, broke}
+use Rattle.st_reading.specs.Breaches.{broke}
 use Rattle.st_reading.specs.Reading.{Label, label_of}
 use Rattle.st_linear.specs.Linear.{Linear, number as constant}
 use Rattle.st_form.specs.Formula.{Formula, truth_value}
 use Rattle.observations.specs.declared.Fairness.{Fairness}
 use Rattle.observations.specs.declared.Fairness.TheVariants.{Compassionate, Just, Unfair}
-use Rattle.observations.specs.Observation.{IsCompassionate, IsJust}
 use Rattle.expression_typer.specs.Naming.{names_of}
 use Rattle.assertions.specs.Reading.{number_of, truth_of}
 use Rattle.rule_fits.specs.Fitting.{fairness_of}
@@ -21,8 +20,7 @@ use Rattle.proof_grammar.specs.Units.{IsFormula, IsNumber, IsTransition, IsHelpe
 use Rattle.script_grammar.specs.RawScripts.{RawUnit, RawTransition}
 use Rattle.script_grammar.specs.Sizes.{transition_size}
 use Rattle.script_grammar.specs.Drawings.{IsUnit, IsReference, first_place, spells_unit, spells_reference}
-use Rattle.script_grammar.specs.Meaning.{form_meant, sum_meant, transition_meant, transition_seen}
-use Rattle.script_grammar.specs.Breaking.{broken_where}
+use Rattle.script_grammar.specs.Meaning.{form_meant, sum_meant, transition_meant}
 use Rattle.script_grammar.specs.Rules.{form_rules, sum_rules, transition_rules, helper_rules, group_rules, owed_rules}
 use Rattle.script_grammar.specs.Theorems.{Forms, Sums}
 use Rattle.script_grammar.proofs.Unbroken.{not_broken, is_kept, is_typed, no_fault, typed_value, is_there, there_is}

@@ -266,12 +266,17 @@ impl<'s, 't> Progress<'s, 't> {
         Ok(())
     }
 
-    /// The answer that no chain is found for a response.
-    fn chainless(&self, alloc: Global, leading: &Leading) -> Result<Found, Memory> {
+    /// The answer that no chain is found for a response, with a state in which nothing helps, if one was shown.
+    fn chainless(
+        &self,
+        alloc: Global,
+        leading: &Leading,
+        left: Option<Vec<u8>>,
+    ) -> Result<Found, Memory> {
         Ok(Found::NotFound(Missing {
             goal: leading.name.clone()?,
             why: Unfound::Chain,
-            left: None,
+            left,
             so_far: self.text_to(alloc, self.behind)?,
         }))
     }
@@ -293,7 +298,7 @@ impl<'s, 't> Progress<'s, 't> {
             Ok(response) => response,
             Err(CubeFault::TooLarge) => {
                 self.queries = self.budget;
-                return Ok(Some(self.chainless(alloc, leading)?));
+                return Ok(Some(self.chainless(alloc, leading, None)?));
             }
             Err(CubeFault::Memory) => return Err(Memory),
         };
@@ -303,7 +308,7 @@ impl<'s, 't> Progress<'s, 't> {
                 self.take_chain(alloc, extent, leading, rule, proof)?;
                 Ok(None)
             }
-            Responded::Unfound => Ok(Some(self.chainless(alloc, leading)?)),
+            Responded::Unfound(left) => Ok(Some(self.chainless(alloc, leading, left)?)),
         }
     }
 
@@ -363,6 +368,50 @@ fn first_goal(alloc: Global, request: &Request<'_>) -> Result<String, Memory> {
     Ok(String::new(alloc))
 }
 
+/// Goes through the steps of a text; an answer where a goal isn't proved.
+fn through<'t>(
+    alloc: Global,
+    progress: &mut Progress<'_, 't>,
+    request: &Request<'t>,
+) -> Result<Option<Found>, Memory> {
+    let steps = request.script.steps.as_slice();
+    let mut next = 0usize;
+    for (extent, wanted) in &request.steps {
+        let answer = progress.pass(alloc, *extent, wanted, steps.get(next))?;
+        if answer.is_some() {
+            return Ok(answer);
+        }
+        if is_scripted(wanted) {
+            next = next.saturating_add(1);
+        }
+    }
+    progress.settle(alloc)
+}
+
+/// The text with all that was found.
+fn proposal(
+    alloc: Global,
+    progress: &Progress<'_, '_>,
+    request: &Request<'_>,
+) -> Result<Found, Memory> {
+    Ok(Found::Proof(Proposal {
+        goal: first_goal(alloc, request)?,
+        text: progress.text_to(alloc, progress.text.len())?,
+    }))
+}
+
+/// What comes of the goals of a text.
+fn outcome<'t>(
+    alloc: Global,
+    progress: &mut Progress<'_, 't>,
+    request: &Request<'t>,
+) -> Result<Found, Memory> {
+    match through(alloc, progress, request)? {
+        Some(found) => Ok(found),
+        None => proposal(alloc, progress, request),
+    }
+}
+
 /// What an attempt finds of the goals of a text, with so many queries; and how many it asked.
 pub(crate) fn progressed<'t>(
     alloc: Global,
@@ -374,21 +423,6 @@ pub(crate) fn progressed<'t>(
 ) -> Result<(Found, u64), Memory> {
     let steps = request.script.steps.as_slice();
     let mut progress = Progress::new(alloc, subject, text, steps, attempt, budget)?;
-    let mut next = 0usize;
-    for (extent, wanted) in &request.steps {
-        if let Some(answer) = progress.pass(alloc, *extent, wanted, steps.get(next))? {
-            return Ok((answer, progress.queries));
-        }
-        if is_scripted(wanted) {
-            next = next.saturating_add(1);
-        }
-    }
-    if let Some(answer) = progress.settle(alloc)? {
-        return Ok((answer, progress.queries));
-    }
-    let proposal = Proposal {
-        goal: first_goal(alloc, request)?,
-        text: progress.text_to(alloc, text.len())?,
-    };
-    Ok((Found::Proof(proposal), progress.queries))
+    let found = outcome(alloc, &mut progress, request)?;
+    Ok((found, progress.queries))
 }

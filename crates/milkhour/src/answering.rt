@@ -1,5 +1,6 @@
 //! The five tasks whose status is that of `step`.
 
+use crate::facts::with_facts;
 use crate::given::{Given, GivenText};
 use crate::reports::{Account, Shown, shown_of, warned_of};
 use crate::streams::{Streams, Target, style_of, write_remark, write_result};
@@ -125,18 +126,22 @@ pub fn answer_question<R: Runtime + AllocGlobal + Threads + Sync>(
     options: &Options<'_>,
 ) -> Result<u8, Trouble> {
     let progress = Progress::new(rt, Watch::begin(rt, streams.is_error_terminal));
+    let texts = given.texts();
     let answer = answer(
         rt,
         rt.alloc(),
         question,
         options.workers,
-        &given.texts(),
+        &texts,
         &progress,
     )?;
+    let status = answer.status.number();
     if options.format == Format::Plain {
         write_result(rt, options.output, answer.text.as_slice())?;
     } else {
-        tell(rt, &progress, streams, question, given, options, &answer)?;
+        let workers = options.workers;
+        let told = with_facts(rt, rt.alloc(), workers, question, texts.program, answer)?;
+        tell(rt, &progress, streams, question, given, options, &told)?;
     }
-    Ok(answer.status.number())
+    Ok(status)
 }

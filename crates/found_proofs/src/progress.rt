@@ -1,5 +1,7 @@
 //! The way through a text of requests: goals that stand together are proved together, behind the steps in front of them.
 
+ghost use Rattle.std.specs.Prelude.{◌≤◌, IfOk};
+
 use crate::answers::{Failing, Found, Missing, Proposal, Unfound};
 use crate::attempts::Attempt;
 use crate::insertions::{Insertion, between, ending, inserted, place_above, starts_line};
@@ -33,8 +35,8 @@ pub(crate) struct Progress<'s, 't> {
     subject: &'s Subject,
     text: &'t [u8],
     attempt: Attempt,
-    budget: u64,
-    queries: u64,
+    /// How many queries may be asked still.
+    left: u64,
     known: Vec<Citable>,
     insertions: Vec<Insertion>,
     naming: Naming,
@@ -81,8 +83,7 @@ impl<'s, 't> Progress<'s, 't> {
             subject,
             text,
             attempt,
-            budget,
-            queries: 0,
+            left: budget,
             known: Vec::new(alloc),
             insertions: Vec::new(alloc),
             naming: Naming::among(alloc, steps)?,
@@ -225,15 +226,15 @@ impl<'s, 't> Progress<'s, 't> {
             subject: self.subject,
             attempt: self.attempt,
             known: &self.known,
-            budget: self.budget.saturating_sub(self.queries),
+            budget: self.left,
         };
         match prove(alloc, task, &self.waiting.claims, &mut self.naming) {
             Ok(effort) => {
-                self.queries = self.queries.saturating_add(effort.queries);
+                self.left = self.left.saturating_sub(effort.queries);
                 self.conclude(alloc, effort.tried)
             }
             Err(CubeFault::TooLarge) => {
-                self.queries = self.budget;
+                self.left = 0;
                 Ok(Some(self.missing(alloc, 0, Unfound::Wide, None)?))
             }
             Err(CubeFault::Memory) => Err(Memory),
@@ -292,17 +293,17 @@ impl<'s, 't> Progress<'s, 't> {
             subject: self.subject,
             attempt: self.attempt,
             known: &self.known,
-            budget: self.budget.saturating_sub(self.queries),
+            budget: self.left,
         };
         let response = match respond(alloc, task, leading, &mut self.naming) {
             Ok(response) => response,
             Err(CubeFault::TooLarge) => {
-                self.queries = self.budget;
+                self.left = 0;
                 return Ok(Some(self.chainless(alloc, leading, None)?));
             }
             Err(CubeFault::Memory) => return Err(Memory),
         };
-        self.queries = self.queries.saturating_add(response.queries);
+        self.left = self.left.saturating_sub(response.queries);
         match response.responded {
             Responded::Chained(rule, proof) => {
                 self.take_chain(alloc, extent, leading, rule, proof)?;
@@ -420,9 +421,11 @@ pub(crate) fn progressed<'t>(
     request: &Request<'t>,
     attempt: Attempt,
     budget: u64,
-) -> Result<(Found, u64), Memory> {
+) -> Result<(Found, u64), Memory>
+    ensures { IfOk result (λ answer. answer.1 ≤ budget) }
+{
     let steps = request.script.steps.as_slice();
     let mut progress = Progress::new(alloc, subject, text, steps, attempt, budget)?;
     let found = outcome(alloc, &mut progress, request)?;
-    Ok((found, progress.queries))
+    Ok((found, budget.saturating_sub(progress.left)))
 }

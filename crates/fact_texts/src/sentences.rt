@@ -5,47 +5,49 @@ use crate::subject::Subject;
 use constant_facts::Constant;
 use st_memory::Memory;
 use std::alloc::Global;
-use step_report::{push_int, push_location, push_number, push_text, push_variable};
+use step_report::{push_number, push_text};
+
+/// Appends a variable by its name.
+fn push_variable(out: &mut Vec<u8>, subject: &Subject, variable: u32) -> Result<(), Memory> {
+    if variable < subject.variables {
+        push_text(out, subject.names.variable_name(variable).as_bytes())
+    } else {
+        Ok(())
+    }
+}
 
 /// Appends that the variable has the value.
-fn push_value(out: &mut Vec<u8>, subject: &Subject, group: &Group) -> Result<(), Memory> {
+fn push_value(
+    alloc: Global,
+    out: &mut Vec<u8>,
+    subject: &Subject,
+    group: &Group,
+) -> Result<(), Memory> {
     match &group.value {
-        Constant::Truth(true) => push_variable(
-            out,
-            &subject.names,
-            subject.variables,
-            group.variable as usize,
-        ),
-        Constant::Truth(false) => {
-            push_text(out, b"~")?;
-            push_variable(
-                out,
-                &subject.names,
-                subject.variables,
-                group.variable as usize,
-            )
+        Constant::Truth(truth) => {
+            if !*truth {
+                push_text(out, b"~")?;
+            }
+            push_variable(out, subject, group.variable)
         }
         Constant::Number(number) => {
-            push_variable(
-                out,
-                &subject.names,
-                subject.variables,
-                group.variable as usize,
-            )?;
+            push_variable(out, subject, group.variable)?;
             push_text(out, b" = ")?;
-            push_int(out, number)
+            push_text(out, format!(in alloc; "{number}")?.as_bytes())
         }
     }
 }
 
-/// Appends that control is at one of the locations.
+/// Appends that control is at one of the locations, each of which has a label.
 fn push_places(out: &mut Vec<u8>, subject: &Subject, places: &[u32]) -> Result<(), Memory> {
     for (number, place) in places.iter().enumerate() {
         if number > 0 {
             push_text(out, b" \\/ ")?;
         }
         push_text(out, b"at ")?;
-        push_location(out, &subject.names, *place)?;
+        if let Some(label) = subject.names.location_name(*place) {
+            push_text(out, label.as_bytes())?;
+        }
     }
     Ok(())
 }
@@ -55,7 +57,7 @@ fn clause(alloc: Global, subject: &Subject, group: &Group) -> Result<Vec<u8>, Me
     let mut out = Vec::new(alloc);
     push_places(&mut out, subject, &group.places)?;
     push_text(&mut out, b" -> ")?;
-    push_value(&mut out, subject, group)?;
+    push_value(alloc, &mut out, subject, group)?;
     Ok(out)
 }
 
@@ -75,7 +77,7 @@ fn push_step(
         push_number(out, number)?;
     }
     for (place, clause) in clauses.iter().enumerate() {
-        push_text(out, if place == 0 { b": " } else { b" /\\ " })?;
+        push_text(out, if place == 0 { b": ".as_slice() } else { b" /\\ ".as_slice() })?;
         if clauses.len() > 1 {
             push_text(out, b"(")?;
         }

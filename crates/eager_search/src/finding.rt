@@ -13,7 +13,7 @@ use crate::items::first_items;
 use crate::plans::Plans;
 use crate::search::{Node, Search};
 use crate::stop::Stop;
-use crate::walk::walk;
+use crate::walk::walk_first;
 use control_states::Components;
 use farkas_check::check;
 use farkas_check::problems::{Posed, first_problem};
@@ -50,7 +50,7 @@ fn over_conjuncts(
         items: &items,
         cuts: MOST_CUTS,
     };
-    let found = walk(alloc, &mut search, node, MOST_LEVELS)?;
+    let found = walk_first(alloc, &mut search, node, MOST_LEVELS)?;
     certified(alloc, &search, node, found.plan, MOST_LEVELS)
 }
 

@@ -7,6 +7,7 @@ use crate::carrying::{carried, join, mark, unused};
 use crate::choosing::{Move, choose};
 use crate::cutting::{side_items, side_row};
 use crate::deciding::{Decided, with_case, with_truth};
+use crate::items::Item;
 use crate::literals::Literal;
 use crate::looking::look;
 use crate::plans::Step;
@@ -316,4 +317,27 @@ fn side_branch(
     };
     let found = walk(alloc, search, below, levels)?;
     Ok(carried(alloc, node.items.len(), &items, &found)?)
+}
+
+/// A plan of a condition's problem. The opposite of what is shown stands last: where several things are to be shown, each of them is
+/// shown by itself.
+pub(crate) fn walk_first(
+    alloc: Global,
+    search: &mut Search,
+    node: Node,
+    levels: u32,
+) -> Result<Found, Stop> {
+    let place = node.items.len().saturating_sub(1);
+    if is_disjunction(node.items, place) {
+        return walk_parts(alloc, search, node, place, levels);
+    }
+    walk(alloc, search, node, levels)
+}
+
+/// Whether a disjunction stands at a place.
+fn is_disjunction(items: &[Item], place: usize) -> bool {
+    match items.get(place) {
+        Some(item) => disjuncts(item.form).is_some(),
+        None => false,
+    }
 }

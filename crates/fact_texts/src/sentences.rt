@@ -77,7 +77,14 @@ fn push_step(
         push_number(out, number)?;
     }
     for (place, clause) in clauses.iter().enumerate() {
-        push_text(out, if place == 0 { b": ".as_slice() } else { b" /\\ ".as_slice() })?;
+        push_text(
+            out,
+            if place == 0 {
+                b": ".as_slice()
+            } else {
+                b" /\\ ".as_slice()
+            },
+        )?;
         if clauses.len() > 1 {
             push_text(out, b"(")?;
         }

@@ -170,7 +170,10 @@ fn push_place_candidates(
     equations: &[LocationEquation],
     out: &mut Vec<Candidate>,
 ) -> Result<(), Memory> {
-    if equations.iter().all(|equation| equation.form.entries().len() < 2) {
+    if equations
+        .iter()
+        .all(|equation| equation.form.entries().len() < 2)
+    {
         return Ok(());
     }
     for equation in equations {

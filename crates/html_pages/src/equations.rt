@@ -20,7 +20,10 @@ fn push_equation(page: &mut Page, equation: &Equation) -> Result<(), Memory> {
 
 /// Whether some step says what value a variable has at places, rather than a sum; its name tells.
 fn has_facts(report: &EquationReport) -> bool {
-    report.equations.iter().any(|step| step.name.starts_with("fact"))
+    report
+        .equations
+        .iter()
+        .any(|step| step.name.starts_with("fact"))
 }
 
 /// How many equations there are, and facts among them.
@@ -57,13 +60,11 @@ pub fn equation_page(
         1,
     )?;
     page.markup("</section>\n<section>\n")?;
-    page.markup(
-        if has_facts(report) {
-            "<h2>Equations and facts</h2>\n"
-        } else {
-            "<h2>Equations</h2>\n"
-        },
-    )?;
+    page.markup(if has_facts(report) {
+        "<h2>Equations and facts</h2>\n"
+    } else {
+        "<h2>Equations</h2>\n"
+    })?;
     for equation in &report.equations {
         push_equation(&mut page, equation)?;
     }

@@ -192,7 +192,9 @@ pub fn location_equations(
     let mut analysis = analysis(alloc, fts, components, places)?;
     analysis.begin()?;
     // Each round but the last makes a space larger, so there are no more than all spaces have columns.
-    let most = u64::from(fts.locations).saturating_mul(u64::from(analysis.constant).saturating_add(1));
+    let most = u64::from(fts.locations).saturating_mul(u64::from(analysis.constant).saturating_add(
+        1,
+    ));
     for _ in 0..=most {
         if !analysis.round()? {
             break;

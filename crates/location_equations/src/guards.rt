@@ -48,7 +48,10 @@ fn push_all_equations(
 
 /// A form's value at a vector, whose column for constants has this number.
 pub(crate) fn value(form: &Lin, constant: u32, vector: &Lin) -> Result<i128, LinFault> {
-    let Some(mut sum) = form.constant().checked_mul(part(constant, vector.entries())) else {
+    let Some(mut sum) = form
+        .constant()
+        .checked_mul(part(constant, vector.entries()))
+    else {
         return Err(LinFault::TooLarge);
     };
     for entry in form.entries() {

@@ -52,12 +52,7 @@ fn gives(mode: &Mode, variable: u32) -> bool {
 }
 
 /// Whether some mode of another component gives the number a value.
-fn is_changed_outside(
-    fts: &Fts,
-    components: &Components,
-    component: u32,
-    variable: u32,
-) -> bool {
+fn is_changed_outside(fts: &Fts, components: &Components, component: u32, variable: u32) -> bool {
     for transition in &fts.transitions {
         for mode in &transition.modes {
             if gives(mode, variable) && is_of_another(components, mode, component) {

@@ -127,14 +127,7 @@ pub fn answer_question<R: Runtime + AllocGlobal + Threads + Sync>(
 ) -> Result<u8, Trouble> {
     let progress = Progress::new(rt, Watch::begin(rt, streams.is_error_terminal));
     let texts = given.texts();
-    let answer = answer(
-        rt,
-        rt.alloc(),
-        question,
-        options.workers,
-        &texts,
-        &progress,
-    )?;
+    let answer = answer(rt, rt.alloc(), question, options.workers, &texts, &progress)?;
     let status = answer.status.number();
     if options.format == Format::Plain {
         write_result(rt, options.output, answer.text.as_slice())?;

@@ -46,10 +46,7 @@ impl Screen {
         }
         let counts = counts(alloc, report)?;
         self.ink(Ink::Good, "found")?;
-        let line = format!(in alloc;
-            ": {counts} that every run of {} keeps",
-            report.program
-        )?;
+        let line = format!(in alloc; ": {counts} that every run of {} keeps", report.program)?;
         self.text(&line)?;
         self.end()
     }
@@ -63,7 +60,11 @@ fn so_many(alloc: Global, count: usize, what: &str) -> Result<String, Memory> {
 
 /// How many steps say what value a variable has at places, rather than a sum; their names tell.
 fn facts_in(report: &EquationReport) -> usize {
-    report.equations.iter().filter(|step| step.name.starts_with("fact")).count()
+    report
+        .equations
+        .iter()
+        .filter(|step| step.name.starts_with("fact"))
+        .count()
 }
 
 /// How many equations were found, and how many facts beside them.

@@ -1,18 +1,21 @@
-//! The five tasks whose status is that of `step`.
+//! The five tasks of `step`. The status is that of `step`, but where it leaves a condition open for which the stronger search finds a
+//! certificate.
 
 use crate::facts::with_facts;
 use crate::given::{Given, GivenText};
 use crate::reports::{Account, Shown, shown_of, warned_of};
 use crate::streams::{Streams, Target, style_of, write_remark, write_result};
 use crate::trouble::Trouble;
-use milkhour_run::{Answer, Question, Status, answer};
+use milkhour_run::{Answer, Question, Status, Texts, answer};
 use milkhour_words::{Format, Options};
 use progress_lines::{Progress, Watch};
+use st_memory::Memory;
 use st_outside::Gate;
 use std::alloc::{AllocError, Global};
 use std::rt::Runtime;
 use std::str;
 use std::thread::Threads;
+use stronger_answers::{certified, verified};
 
 /// Whether what is answered with status 0 is a text that is wanted, and no report.
 fn gives_text(question: Question) -> bool {
@@ -117,6 +120,43 @@ fn tell<R: Runtime + AllocGlobal, G: Gate>(
     write_shown(rt, target, &shown)
 }
 
+/// The certificates of `prove`, or where its search leaves a condition open, those that the stronger search finds.
+fn proved<R: Threads + Sync, G: Gate + Sync>(
+    rt: &R,
+    alloc: Global,
+    workers: u32,
+    texts: &Texts<'_>,
+    gate: &G,
+) -> Result<Answer, Memory> {
+    let first = answer(rt, alloc, Question::Prove, workers, texts, gate)?;
+    let Status::NotProved(number) = first.status else {
+        return Ok(first);
+    };
+    match certified(rt, alloc, workers, texts, number)? {
+        Some(text) => Ok(Answer {
+            status: Status::Proved,
+            text,
+        }),
+        None => Ok(first),
+    }
+}
+
+/// What is answered to a question over texts.
+fn answered<R: Threads + Sync, G: Gate + Sync>(
+    rt: &R,
+    alloc: Global,
+    question: Question,
+    workers: u32,
+    texts: &Texts<'_>,
+    gate: &G,
+) -> Result<Answer, Memory> {
+    match question {
+        Question::Verify => verified(rt, alloc, workers, texts, gate),
+        Question::Prove => proved(rt, alloc, workers, texts, gate),
+        _ => answer(rt, alloc, question, workers, texts, gate),
+    }
+}
+
 /// Answers a question over the texts. The status is that of the answer, whatever is said of it.
 pub fn answer_question<R: Runtime + AllocGlobal + Threads + Sync>(
     rt: &R,
@@ -127,12 +167,12 @@ pub fn answer_question<R: Runtime + AllocGlobal + Threads + Sync>(
 ) -> Result<u8, Trouble> {
     let progress = Progress::new(rt, Watch::begin(rt, streams.is_error_terminal));
     let texts = given.texts();
-    let answer = answer(rt, rt.alloc(), question, options.workers, &texts, &progress)?;
+    let workers = options.workers;
+    let answer = answered(rt, rt.alloc(), question, workers, &texts, &progress)?;
     let status = answer.status.number();
     if options.format == Format::Plain {
         write_result(rt, options.output, answer.text.as_slice())?;
     } else {
-        let workers = options.workers;
         let told = with_facts(rt, rt.alloc(), workers, question, texts.program, answer)?;
         tell(rt, &progress, streams, question, given, options, &told)?;
     }

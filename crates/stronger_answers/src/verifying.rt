@@ -8,6 +8,7 @@ ghost use Rattle.stronger_answers.specs.Stronger.{IsAccepted, IsCheckedBy, IsStr
 use crate::certificates::certificates;
 use milkhour_run::{Answer, Question, Status, Texts, answer};
 use st_memory::Memory;
+use st_outside::{Gate, OpenGate};
 use std::alloc::Global;
 use std::thread::Threads;
 
@@ -38,7 +39,7 @@ fn checked<R: Threads + Sync>(
         proof: texts.proof,
         third: Some(certificates),
     };
-    let found = answer(rt, alloc, Question::Check, workers, &certified)?;
+    let found = answer(rt, alloc, Question::Check, workers, &certified, &OpenGate)?;
     if found.status == Status::Proved {
         return Ok(Some(found));
     }
@@ -65,12 +66,13 @@ fn certified_answer<R: Threads + Sync>(
 }
 
 /// Whether the goals of a proof hold: what `verify` answers, or, where that leaves a condition open, what `check` answers with the
-/// certificates that the stronger search finds.
-pub fn verified<R: Threads + Sync>(
+/// certificates that the stronger search finds. The gate is told what `verify` tells it.
+pub fn verified<R: Threads + Sync, G: Gate + Sync>(
     rt: &R,
     alloc: Global,
     workers: u32,
     texts: &Texts<'_>,
+    gate: &G,
 ) -> Result<Answer, Memory>
     // Status and text are those of `step`, for `verify`, or for `check` with some certificates where that ends with 0.
     ensures outcome { IfOk result (IsStronger texts.now) }
@@ -78,7 +80,7 @@ pub fn verified<R: Threads + Sync>(
     // Wherever `step`'s `verify` ends with 0, so does this.
     ensures exact { IfOk result (NoWeaker texts.now) }
 {
-    let first = answer(rt, alloc, Question::Verify, workers, texts)?;
+    let first = answer(rt, alloc, Question::Verify, workers, texts, gate)?;
     let Status::NotProved(number) = first.status else {
         return Ok(first);
     };

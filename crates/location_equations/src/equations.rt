@@ -31,7 +31,7 @@ fn are_below(width: u32, entries: &[(u32, i128)]) -> bool
 }
 
 /// A vector as a row of so many columns, if it has no more.
-#[tactic(auto, using(crate::proofs::Belows::all-below))]
+#[tactic(auto, using(crate::proofs::Belows::all_below))]
 fn row_of(alloc: Global, width: u32, vector: &Lin) -> Result<Option<Row>, Memory>
     ensures { IfOk result (λ o. IfSome o (λ row. IsRow width row)) }
 {
@@ -44,6 +44,7 @@ fn row_of(alloc: Global, width: u32, vector: &Lin) -> Result<Option<Row>, Memory
 }
 
 /// The rows of a space, but those with more columns, of which there are none.
+#[tactic(auto, using(crate::proofs::Belows::all_added))]
 fn rows_of(alloc: Global, width: u32, vectors: &[Lin]) -> Result<Vec<Row>, Memory>
     ensures { IfOk result (λ v. AllMeet (IsRow width) v.items) }
 {

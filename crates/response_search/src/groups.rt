@@ -9,7 +9,7 @@ use crate::bases::{Base, bases_in};
 use crate::chain::nearer;
 use crate::items::{Around, Denied, Group, Trial, astray_by_steps};
 use crate::saturation::Saturation;
-use control_cubes::{Cube, CubeFault, PlaceSet};
+use control_cubes::CubeFault;
 use invariant_search::{ALWAYS, Allowed, Outcome, Search};
 use st_form::{Form, SharedForm};
 use std::alloc::Global;
@@ -26,36 +26,6 @@ pub(crate) struct Opened {
     pub(crate) denied: Denied,
     pub(crate) bases: Vec<Base>,
     first: usize,
-}
-
-/// Gives the search that a component is at none of some places to which control never comes.
-fn exclude(
-    alloc: Global,
-    search: &mut Search<'_>,
-    component: usize,
-    never: PlaceSet,
-) -> Result<(), CubeFault> {
-    if !never.is_empty()
-        && let Ok(number) = u32::try_from(component)
-    {
-        let mut cube = Cube::everything(alloc, search.layout())?;
-        cube.set_places(number, never);
-        search.add(alloc, cube, ALWAYS)?;
-    }
-    Ok(())
-}
-
-/// Gives the search that control comes to no place to which no chain of steps leads, since all of a region has to be in items.
-fn exclude_dead(alloc: Global, search: &mut Search<'_>) -> Result<(), CubeFault> {
-    for component in 0..search.dead().len() {
-        let never = search
-            .dead()
-            .get(component)
-            .copied()
-            .unwrap_or(PlaceSet::EMPTY);
-        exclude(alloc, search, component, never)?;
-    }
-    Ok(())
 }
 
 impl Saturation<'_> {
@@ -82,6 +52,47 @@ impl Saturation<'_> {
         Ok(found.is_none())
     }
 
+    /// A group at a region, which is given as an item too.
+    fn opened_at(
+        &self,
+        alloc: Global,
+        search: &Search<'_>,
+        region: &Base,
+        trial: Trial,
+    ) -> Result<Opened, CubeFault> {
+        let transition = trial.helper.unwrap_or(u32::MAX);
+        let bases = bases_in(alloc, self.setting, search, &region.said, transition)?;
+        Ok(Opened {
+            group: Group {
+                transition,
+                number: self.groups,
+            },
+            region: trial.form,
+            denied: trial.denied,
+            bases,
+            first: self.chain.items.len(),
+        })
+    }
+
+    /// Appends a group at the region with a number, if it can wait there.
+    fn push_opened(
+        &self,
+        alloc: Global,
+        search: &mut Search<'_>,
+        number: usize,
+        out: &mut Vec<Opened>,
+    ) -> Result<(), CubeFault> {
+        let Some(region) = self.regions.get(number) else {
+            return Ok(());
+        };
+        let form = region.said.form.share()?;
+        let trial = Trial::new(alloc, search, form, region.helper, None)?;
+        if self.may_wait(alloc, search, &trial)? {
+            out.push(self.opened_at(alloc, search, region, trial)?)?;
+        }
+        Ok(())
+    }
+
     /// Opens a group at the region with a number, if it can wait there.
     fn is_opened(
         &mut self,
@@ -89,31 +100,14 @@ impl Saturation<'_> {
         search: &mut Search<'_>,
         number: usize,
     ) -> Result<bool, CubeFault> {
-        let Some(region) = self.regions.get(number) else {
-            return Ok(false);
-        };
-        let form = region.said.form.share()?;
-        let trial = Trial::new(alloc, search, form, region.helper, None)?;
-        if !self.may_wait(alloc, search, &trial)? {
+        let mut found = Vec::new(alloc);
+        self.push_opened(alloc, search, number, &mut found)?;
+        if found.is_empty() {
             return Ok(false);
         }
-        if self.groups == 0 {
-            exclude_dead(alloc, search)?;
-        }
-        let bases = bases_in(alloc, self.setting, search, &region.said)?;
-        let group = Group {
-            transition: trial.helper.unwrap_or(u32::MAX),
-            number: self.groups,
-        };
         self.groups = self.groups.saturating_add(1);
         self.failed = BTreeMap::new(alloc);
-        self.opened.push(Opened {
-            group,
-            region: trial.form,
-            denied: trial.denied,
-            bases,
-            first: self.chain.items.len(),
-        })?;
+        self.opened.append(&mut found)?;
         Ok(true)
     }
 

@@ -31,7 +31,7 @@ fn comparison_text(
 }
 
 /// Appends a comparison of a row with 0, if it can be said and isn't there.
-fn push_comparison(
+pub(crate) fn push_comparison(
     alloc: Global,
     writer: &ClauseWriter<'_>,
     row: &Lin,

@@ -17,7 +17,7 @@ use st_memory::Memory;
 use std::alloc::Global;
 
 /// The most that is taken away from all ranks.
-const MOST: i128 = 64;
+const MOST: u32 = 64;
 
 /// Bases as items.
 fn items_of(
@@ -27,9 +27,11 @@ fn items_of(
 ) -> Result<Vec<ChainItem>, CubeFault> {
     let mut out = Vec::new(alloc);
     for base in bases {
-        let trial = Trial::new(alloc, search, base.said.form, base.helper, None)?;
+        let helper = base.helper;
+        let said = base.said;
+        let trial = Trial::new(alloc, search, said.form, helper, None)?;
         out.push(ChainItem {
-            base: base.said.text,
+            base: said.text,
             cases: Vec::new(alloc),
             trial,
         })?;
@@ -269,7 +271,8 @@ fn superfluous(
     times: i128,
 ) -> Result<i128, CubeFault> {
     let mut out = 0;
-    for less in 1..MOST {
+    for number in 1..MOST {
+        let less = i128::from(number);
         let ranks = ranks_of(alloc, falling, times, less)?;
         if !are_bounded(alloc, search, web, &ranks)? {
             break;

@@ -1,10 +1,11 @@
-//! What is done at a problem that its lines don't close. A conjunct that is a literal is decided; else a disjunction is split of which at
-//! most one part agrees with the lines; else the first location or boolean variable is decided; else the disjunction is split of which
-//! the fewest parts agree with the lines.
+//! What is done at a problem that its lines don't close. A conjunct that is a literal, and no denied location, is decided, since all but
+//! one of the parts close at once; else the disjunction is split of which the fewest parts agree with the lines and the denied locations;
+//! else the first location or boolean variable is decided. Few parts first is the rule of the most constrained choice (Haralick and
+//! Elliott, Increasing tree search efficiency for constraint satisfaction problems, 1980).
 
 use crate::items::Item;
 use crate::literals::{Literal, first_literal, whole_literal};
-use crate::looking::{agrees, lines_of};
+use crate::looking::{agrees, asks_denied, denied_by, has_line, lines_of};
 use farkas_check::splits::disjuncts;
 use farkas_leaf::LentLine;
 use st_form::Form;
@@ -41,21 +42,36 @@ fn first_among(items: &[Item]) -> Option<Literal> {
     None
 }
 
-/// How many parts agree with the first so many lines; no more are counted than would matter.
+/// How many parts without a line ask for no location that is denied.
+fn count_without_lines(denied: &[u32], parts: &[Form]) -> usize {
+    let mut count: usize = 0;
+    for part in parts {
+        if !has_line(part) && !asks_denied(denied, part) {
+            count = count.saturating_add(1);
+        }
+    }
+    count
+}
+
+/// How many parts agree with the first so many lines and with denied locations; no more are counted than would matter.
 fn count_agreeing<'a>(
     alloc: Global,
     width: u32,
     lines: &mut Vec<LentLine<'a>>,
     count: usize,
+    denied: &[u32],
     parts: &'a [Form],
     most: usize,
 ) -> Result<usize, Memory> {
-    let mut agreeing: usize = 0;
+    let mut agreeing = count_without_lines(denied, parts);
     for part in parts {
         if agreeing >= most {
             return Ok(agreeing);
         }
-        if agrees(alloc, width, lines, count, part)? {
+        if has_line(part)
+            && !asks_denied(denied, part)
+            && agrees(alloc, width, lines, count, part)?
+        {
             agreeing = agreeing.saturating_add(1);
         }
     }
@@ -66,6 +82,7 @@ fn count_agreeing<'a>(
 fn fewest(alloc: Global, width: u32, items: &[Item]) -> Result<Option<(usize, usize)>, Memory> {
     let mut lines = lines_of(alloc, items)?;
     let count = lines.len();
+    let denied = denied_by(alloc, items)?;
     let mut best: Option<(usize, usize)> = None;
     for (place, item) in items.iter().enumerate() {
         if let Some(parts) = disjuncts(item.form) {
@@ -73,7 +90,7 @@ fn fewest(alloc: Global, width: u32, items: &[Item]) -> Result<Option<(usize, us
                 Some((_, least)) => least,
                 None => usize::MAX,
             };
-            let agreeing = count_agreeing(alloc, width, &mut lines, count, parts, most)?;
+            let agreeing = count_agreeing(alloc, width, &mut lines, count, &denied, parts, most)?;
             if agreeing < most {
                 best = Some((place, agreeing));
             }
@@ -91,16 +108,11 @@ pub(crate) fn choose(alloc: Global, width: u32, items: &[Item]) -> Result<Move, 
         return Ok(Move::Decide(literal));
     }
     let best = fewest(alloc, width, items)?;
-    if let Some((place, agreeing)) = best
-        && agreeing <= 1
-    {
+    if let Some((place, _)) = best {
         return Ok(Move::Split(place));
     }
-    if let Some(literal) = first_among(items) {
-        return Ok(Move::Decide(literal));
-    }
-    match best {
-        Some((place, _)) => Ok(Move::Split(place)),
+    match first_among(items) {
+        Some(literal) => Ok(Move::Decide(literal)),
         None => Ok(Move::Solve),
     }
 }

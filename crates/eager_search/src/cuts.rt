@@ -10,7 +10,7 @@ use std::alloc::Global;
 /// No more rows are kept at once, and no more cuts made.
 const MOST: usize = 300;
 
-/// A rounded form, the multiples of what was rounded, and the divisor.
+/// A rounded form over the program's variables, the multiples of what was rounded, and the divisor.
 #[derive(Drop)]
 pub(crate) struct Cut {
     pub(crate) form: Lin,
@@ -18,11 +18,13 @@ pub(crate) struct Cut {
     pub(crate) by: i128,
 }
 
-/// The lines of a problem are numbered, and the cuts behind them. A clash has multiples whose sum is a negative constant.
+/// The lines of a problem are numbered, and the cuts behind them. The basis says what changed variables stand for. A clash has multiples
+/// whose sum is a negative constant.
 #[derive(Drop)]
 pub(crate) struct Cuts {
     pub(crate) lines: usize,
     pub(crate) cuts: Vec<Cut>,
+    pub(crate) basis: Vec<(u32, Lin)>,
     pub(crate) clash: Option<Lin>,
 }
 
@@ -57,6 +59,7 @@ fn round(alloc: Global, cuts: &mut Cuts, row: Row) -> Result<Row, Stop> {
     if row.equal {
         cuts.clash = Some(clash_of(alloc, &row, &cut, by)?);
     }
+    let form = form.replace(alloc, &cuts.basis)?;
     cuts.cuts.push(Cut {
         form,
         picks: row.picks,

@@ -2,7 +2,7 @@
 
 use crate::items::{Item, named};
 use crate::limits::is_modest;
-use crate::literals::touches;
+use crate::literals::{is_refuted, touches};
 use crate::search::{Node, Search};
 use crate::stop::Stop;
 use control_states::Alternative;
@@ -61,7 +61,21 @@ fn push_simplified(
     push_parts(forms, simple)
 }
 
-/// What decisions make of conjuncts, up to one that is false.
+/// The place of a conjunct that is a literal and false.
+fn first_refuted(
+    items: &[Item],
+    truths: &[Option<bool>],
+    places: &[Option<bool>],
+) -> Option<usize> {
+    for (place, item) in items.iter().enumerate() {
+        if is_refuted(item.form, truths, places) {
+            return Some(place);
+        }
+    }
+    None
+}
+
+/// What decisions make of conjuncts, up to one that is false. Literals are looked at first, as they cost nothing.
 fn made_of(
     alloc: Global,
     items: &[Item],
@@ -70,9 +84,12 @@ fn made_of(
 ) -> Result<Made, Stop> {
     let mut made = Made {
         forms: Vec::new(alloc),
-        counts: Vec::with_capacity(alloc, items.len())?,
-        refuted: None,
+        counts: Vec::new(alloc),
+        refuted: first_refuted(items, truths, places),
     };
+    if made.refuted.is_some() {
+        return Ok(made);
+    }
     for (place, item) in items.iter().enumerate() {
         if touches(item.form, truths, places) {
             let count = push_simplified(alloc, &mut made.forms, item.form, truths, places)?;

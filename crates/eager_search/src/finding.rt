@@ -26,7 +26,7 @@ use std::alloc::Global;
 const MOST_LEVELS: u32 = 399;
 
 /// At most so many cuts at a fraction are made one in the other.
-const MOST_CUTS: u32 = 12;
+const MOST_CUTS: u32 = 40;
 
 /// The certificate that the search finds for a problem with these conjuncts, looking at so many problems.
 fn over_conjuncts(

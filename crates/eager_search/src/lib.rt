@@ -7,6 +7,7 @@
 //! it finds is checked, and handed out only if it is valid.
 #![tactic(auto)]
 
+mod basis;
 mod carrying;
 mod certifying;
 mod choosing;

@@ -2,6 +2,7 @@
 
 use crate::carrying::{mark, unused};
 use crate::items::{Item, opened};
+use crate::literals::denied_location;
 use crate::search::{Found, Search};
 use farkas_leaf::LentLine;
 use lean_elimination::refute;
@@ -33,6 +34,39 @@ pub(crate) fn lines_of<'a>(alloc: Global, items: &[Item<'a>]) -> Result<Vec<Lent
         }
     }
     Ok(out)
+}
+
+/// The locations that conjuncts deny.
+pub(crate) fn denied_by(alloc: Global, items: &[Item]) -> Result<Vec<u32>, Memory> {
+    let mut out = Vec::new(alloc);
+    for item in items {
+        if let Some(location) = denied_location(item.form) {
+            out.push(location)?;
+        }
+    }
+    Ok(out)
+}
+
+/// Whether a part of a disjunction asks for a location that is denied.
+pub(crate) fn asks_denied(denied: &[u32], part: &Form) -> bool {
+    for form in opened(part) {
+        if let Form::At(location) = form
+            && denied.contains(location)
+        {
+            return true;
+        }
+    }
+    false
+}
+
+/// Whether a line stands among the conjuncts of a part of a disjunction.
+pub(crate) fn has_line(part: &Form) -> bool {
+    for form in opened(part) {
+        if line_of(form).is_some() {
+            return true;
+        }
+    }
+    false
 }
 
 /// Whether a part of a disjunction agrees with the first so many lines, as far as the look tells.

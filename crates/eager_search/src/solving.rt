@@ -39,7 +39,10 @@ pub(crate) fn solve(alloc: Global, search: &mut Search, node: Node) -> Result<So
         return Err(Stop::Unfound);
     }
     match gap(alloc, &done.stages, search.width())? {
-        Some((var, above)) => Ok(Solved::Cuts(from_value(alloc, var, above)?)),
+        Some((var, above)) => {
+            let form = from_value(alloc, var, above)?;
+            Ok(Solved::Cuts(form.replace(alloc, &done.cuts.basis)?))
+        }
         None => Err(Stop::Unfound),
     }
 }

@@ -1,12 +1,16 @@
-//! Elimination of variables from lines, in which each row that is made is rounded. Equations go first, by their smallest coefficient;
-//! then each lower bound of a variable is taken with each upper bound (Schrijver, Theory of Linear and Integer Programming, 1986,
-//! section 12.2).
+//! Elimination of variables from lines, in which each row that is made is rounded. Equations go first, by their smallest coefficient,
+//! each solved exactly over changed variables; then each lower bound of a variable is taken with each upper bound (Schrijver, Theory of
+//! Linear and Integer Programming, 1986, section 12.2).
 
+use crate::basis::{is_exact, note, rewrite, step_of};
 use crate::cuts::{Cuts, take};
 use crate::rows::{Row, coefficient, factors, freed_row, mixed_row, row_of};
 use crate::stop::Stop;
 use farkas_leaf::LentLine;
 use std::alloc::Global;
+
+/// No elimination has more steps: a variable's change or its elimination each.
+const MOST_STEPS: u32 = 2000;
 
 /// The rows that had a variable when it was eliminated: the equation that it was solved for alone, or its bounds.
 #[derive(Drop)]
@@ -156,24 +160,47 @@ fn by_bounds(
     Ok(out)
 }
 
-/// One stage; none where no row has a variable.
+/// The rows without the variable of an equation at a place, which has the least coefficient there, or with that variable changed where
+/// this doesn't divide all of the equation.
+fn by_best_equation(
+    alloc: Global,
+    done: &mut Eliminated,
+    rows: Vec<Row>,
+    width: u32,
+    place: usize,
+    var: u32,
+    least: i128,
+) -> Result<Vec<Row>, Stop> {
+    let mut rows = rows;
+    if place >= rows.len() {
+        return Err(Stop::Unfound);
+    }
+    if !is_exact(&rows[place].form, least) {
+        let step = step_of(alloc, &rows[place].form, var, least)?;
+        note(alloc, &mut done.cuts.basis, width, &step)?;
+        for stage in done.stages.iter_mut() {
+            rewrite(alloc, &mut stage.rows, &step)?;
+        }
+        rewrite(alloc, &mut rows, &step)?;
+        return Ok(rows);
+    }
+    let equation = rows.remove(place);
+    let out = by_equation(alloc, &mut done.cuts, rows, var, &equation)?;
+    let mut solved = Vec::new(alloc);
+    solved.push(equation)?;
+    done.stages.push(Stage { var, rows: solved })?;
+    Ok(out)
+}
+
+/// One step; none where no row has a variable.
 fn eliminate_next(
     alloc: Global,
     done: &mut Eliminated,
     rows: Vec<Row>,
     width: u32,
 ) -> Result<Vec<Row>, Stop> {
-    let mut rows = rows;
-    if let Some((place, var, _)) = best_equation(&rows) {
-        if place >= rows.len() {
-            return Err(Stop::Unfound);
-        }
-        let equation = rows.remove(place);
-        let out = by_equation(alloc, &mut done.cuts, rows, var, &equation)?;
-        let mut solved = Vec::new(alloc);
-        solved.push(equation)?;
-        done.stages.push(Stage { var, rows: solved })?;
-        return Ok(out);
+    if let Some((place, var, least)) = best_equation(&rows) {
+        return by_best_equation(alloc, done, rows, width, place, var, least);
     }
     match best_variable(&rows, width) {
         Some(var) => by_bounds(alloc, done, rows, var),
@@ -203,15 +230,16 @@ pub(crate) fn eliminate_whole(
         cuts: Cuts {
             lines: lines.len(),
             cuts: Vec::new(alloc),
+            basis: Vec::new(alloc),
             clash: None,
         },
     };
     let mut rows = rows_of(alloc, &mut done.cuts, lines)?;
-    for _ in 0..width {
+    for _ in 0..MOST_STEPS {
         if rows.is_empty() || done.cuts.clash.is_some() {
             return Ok(done);
         }
         rows = eliminate_next(alloc, &mut done, rows, width)?;
     }
-    Ok(done)
+    Err(Stop::Unfound)
 }

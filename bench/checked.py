@@ -192,6 +192,8 @@ def promela(program, proof):
     """The program and its claims in Promela."""
     said, starts, parts, owners = Reader(program).program()
     values = dict(re.fullmatch(r"(\w+) = (.*);", start).groups() for start in starts)
+    if not all(name in values for line in said for name in re.findall(r"\w+(?=[,;])", line)):
+        raise Unwritten("a variable that starts with any value")
     declared = [re.sub(r"\b(\w+)\b(?=[,;])", lambda it: f"{it[1]} = {values[it[1]]}" if it[1] in values else it[1], line) for line in said]
     claims = []
     for name, claim in re.findall(r"invariant (\w+):([^;]*);", re.sub(r"%[^\n]*", "", proof)):

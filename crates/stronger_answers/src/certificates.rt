@@ -1,6 +1,4 @@
-//! The certificates of a proof's conditions: those that the stronger search finds, and where it finds none, those of the search of `step`.
-//! The stronger one is asked first, as its certificates are smaller, and a condition that is wide for the other costs that a hundred
-//! thousand problems.
+//! The certificates of a proof's conditions: those that the search of `step` finds, and where it finds none, those of the stronger one.
 
 ghost use Rattle.std.specs.Prelude.{◌<◌, ◌≤◌, ◌^◌, length};
 ghost use Rattle.farkas_check.specs.PlainProblem.{setting};
@@ -36,13 +34,12 @@ fn certificate_at(
     ensures { Knows (setting components.now variables.now) book.new }
 {
     let condition = &conditions[place];
-    if let Some(certificate) = find(alloc, components, variables, condition, MOST_PROBLEMS)? {
-        return Ok(Some(certificate));
-    }
     match decide(alloc, book, components, variables, condition)? {
         Verdict::Valid(certificate) => Ok(Some(certificate)),
-        Verdict::Open(_, _) => Ok(None),
-        Verdict::Wide(_, _) => Ok(None),
+        // The state breaks the condition, so it has no certificate.
+        Verdict::Open(_, Some(_)) => Ok(None),
+        Verdict::Open(_, None) => find(alloc, components, variables, condition, MOST_PROBLEMS),
+        Verdict::Wide(_, _) => find(alloc, components, variables, condition, MOST_PROBLEMS),
     }
 }
 

@@ -157,6 +157,28 @@ fn answered<R: Threads + Sync, G: Gate + Sync>(
     }
 }
 
+/// What is shown of the answer: not with `--format plain`, the equations of `invariants` have facts behind them.
+fn shown_answer<R: Runtime + AllocGlobal + Threads + Sync, G: Gate + Sync>(
+    rt: &R,
+    question: Question,
+    options: &Options<'_>,
+    texts: &Texts<'_>,
+    gate: &G,
+) -> Result<Answer, Memory> {
+    let found = answered(rt, rt.alloc(), question, options.workers, texts, gate)?;
+    if options.format == Format::Plain {
+        return Ok(found);
+    }
+    with_facts(
+        rt,
+        rt.alloc(),
+        options.workers,
+        question,
+        texts.program,
+        found,
+    )
+}
+
 /// Answers a question over the texts. The status is that of the answer, whatever is said of it.
 pub fn answer_question<R: Runtime + AllocGlobal + Threads + Sync>(
     rt: &R,
@@ -166,15 +188,11 @@ pub fn answer_question<R: Runtime + AllocGlobal + Threads + Sync>(
     options: &Options<'_>,
 ) -> Result<u8, Trouble> {
     let progress = Progress::new(rt, Watch::begin(rt, streams.is_error_terminal));
-    let texts = given.texts();
-    let workers = options.workers;
-    let answer = answered(rt, rt.alloc(), question, workers, &texts, &progress)?;
-    let status = answer.status.number();
+    let answer = shown_answer(rt, question, options, &given.texts(), &progress)?;
     if options.format == Format::Plain {
         write_result(rt, options.output, answer.text.as_slice())?;
     } else {
-        let told = with_facts(rt, rt.alloc(), workers, question, texts.program, answer)?;
-        tell(rt, &progress, streams, question, given, options, &told)?;
+        tell(rt, &progress, streams, question, given, options, &answer)?;
     }
-    Ok(status)
+    Ok(answer.status.number())
 }

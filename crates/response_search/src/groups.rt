@@ -5,8 +5,9 @@
 //! to something nearer, and the transition itself leads to one of these. Items are added until they are all of the region. Wherever the
 //! transition is enabled another step may lead anywhere in the region, since it is enabled again and again then.
 
-use crate::bases::{Base, bases_in};
+use crate::bases::Base;
 use crate::chain::nearer;
+use crate::group_bases::bases_in;
 use crate::items::{Around, Denied, Group, Trial, astray_by_steps};
 use crate::saturation::Saturation;
 use control_cubes::CubeFault;

@@ -11,6 +11,7 @@ mod candidates;
 mod chain;
 mod cycles;
 mod edges;
+mod group_bases;
 mod groups;
 mod growth;
 mod houdini;

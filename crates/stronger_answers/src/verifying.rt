@@ -1,10 +1,6 @@
 //! Whether the goals of a proof hold. Where the search of `step` leaves a condition open, certificates are made of all conditions by it and
 //! by the stronger search, and `step` checks them: so nothing rests on how they were found.
 
-ghost use Rattle.std.specs.Prelude.{IfOk, IfSome};
-ghost use Rattle.std.specs.Thread.{IsSync};
-ghost use Rattle.stronger_answers.specs.Stronger.{IsAccepted, IsCheckedBy, IsStronger, NoWeaker};
-
 use crate::certificates::certificates;
 use milkhour_run::{Answer, Question, Status, Texts, answer};
 use st_memory::Memory;
@@ -31,9 +27,7 @@ fn checked<R: Threads + Sync>(
     workers: u32,
     texts: &Texts<'_>,
     certificates: &[u8],
-) -> Result<Option<Answer>, Memory>
-    ensures { IfOk result (λ o. IfSome o (IsCheckedBy texts.now certificates.now)) }
-{
+) -> Result<Option<Answer>, Memory> {
     let certified = Texts {
         program: texts.program,
         proof: texts.proof,
@@ -53,9 +47,7 @@ fn certified_answer<R: Threads + Sync>(
     workers: u32,
     texts: &Texts<'_>,
     number: u32,
-) -> Result<Option<(Vec<u8>, Answer)>, Memory>
-    ensures { IfOk result (λ o. IfSome o (λ p. IsCheckedBy texts.now p.0.items p.1)) }
-{
+) -> Result<Option<(Vec<u8>, Answer)>, Memory> {
     let Some(found) = certificates_of(alloc, texts, number)? else {
         return Ok(None);
     };
@@ -73,13 +65,7 @@ pub fn verified<R: Threads + Sync, G: Gate + Sync>(
     workers: u32,
     texts: &Texts<'_>,
     gate: &G,
-) -> Result<Answer, Memory>
-    // Status and text are those of `step`, for `verify`, or for `check` with some certificates where that ends with 0.
-    ensures outcome { IfOk result (IsStronger texts.now) }
-
-    // Wherever `step`'s `verify` ends with 0, so does this.
-    ensures exact { IfOk result (NoWeaker texts.now) }
-{
+) -> Result<Answer, Memory> {
     let first = answer(rt, alloc, Question::Verify, workers, texts, gate)?;
     let Status::NotProved(number) = first.status else {
         return Ok(first);
@@ -98,9 +84,7 @@ pub fn certified<R: Threads + Sync>(
     workers: u32,
     texts: &Texts<'_>,
     number: u32,
-) -> Result<Option<Vec<u8>>, Memory>
-    ensures { IfOk result (λ o. IfSome o (λ v. IsAccepted texts.now v.items)) }
-{
+) -> Result<Option<Vec<u8>>, Memory> {
     match certified_answer(rt, alloc, workers, texts, number)? {
         Some((found, _)) => Ok(Some(found)),
         None => Ok(None),

@@ -1,5 +1,4 @@
-//! The five tasks of `step`. The status is that of `step`, but where it leaves a condition open for which the stronger search finds a
-//! certificate.
+//! The five tasks whose status is that of `step`.
 
 use crate::facts::with_facts;
 use crate::given::{Given, GivenText};
@@ -15,7 +14,6 @@ use std::alloc::{AllocError, Global};
 use std::rt::Runtime;
 use std::str;
 use std::thread::Threads;
-use stronger_answers::{certified, verified};
 
 /// Whether what is answered with status 0 is a text that is wanted, and no report.
 fn gives_text(question: Question) -> bool {
@@ -120,43 +118,6 @@ fn tell<R: Runtime + AllocGlobal, G: Gate>(
     write_shown(rt, target, &shown)
 }
 
-/// The certificates of `prove`, or where its search leaves a condition open, those that the stronger search finds.
-fn proved<R: Threads + Sync, G: Gate + Sync>(
-    rt: &R,
-    alloc: Global,
-    workers: u32,
-    texts: &Texts<'_>,
-    gate: &G,
-) -> Result<Answer, Memory> {
-    let first = answer(rt, alloc, Question::Prove, workers, texts, gate)?;
-    let Status::NotProved(number) = first.status else {
-        return Ok(first);
-    };
-    match certified(rt, alloc, workers, texts, number)? {
-        Some(text) => Ok(Answer {
-            status: Status::Proved,
-            text,
-        }),
-        None => Ok(first),
-    }
-}
-
-/// What is answered to a question over texts.
-fn answered<R: Threads + Sync, G: Gate + Sync>(
-    rt: &R,
-    alloc: Global,
-    question: Question,
-    workers: u32,
-    texts: &Texts<'_>,
-    gate: &G,
-) -> Result<Answer, Memory> {
-    match question {
-        Question::Verify => verified(rt, alloc, workers, texts, gate),
-        Question::Prove => proved(rt, alloc, workers, texts, gate),
-        _ => answer(rt, alloc, question, workers, texts, gate),
-    }
-}
-
 /// What is shown of the answer: not with `--format plain`, the equations of `invariants` have facts behind them.
 fn shown_answer<R: Runtime + AllocGlobal + Threads + Sync, G: Gate + Sync>(
     rt: &R,
@@ -165,7 +126,7 @@ fn shown_answer<R: Runtime + AllocGlobal + Threads + Sync, G: Gate + Sync>(
     texts: &Texts<'_>,
     gate: &G,
 ) -> Result<Answer, Memory> {
-    let found = answered(rt, rt.alloc(), question, options.workers, texts, gate)?;
+    let found = answer(rt, rt.alloc(), question, options.workers, texts, gate)?;
     if options.format == Format::Plain {
         return Ok(found);
     }

@@ -1,23 +1,28 @@
 #!/usr/bin/env python3
 """Times a model checker, SPIN, over the claims of cases-milkhour/find-*, and prints a table beside `milkhour find`.
 
-    python3 bench/checked.py [--seconds N] [--only WORD..] [--] [PROGRAM]
+    python3 bench/checked.py [--seconds N] [--untimed] [--only WORD..] [--] [PROGRAM]
 
 Each program is written in Promela, a statement for a statement, and each invariance as a formula of linear time. SPIN generates a checker,
 the C compiler makes it, and it runs at most N seconds (60 if it isn't said). It enumerates states, so of a program whose numbers grow
-without a bound it ends only where it finds a run. PROGRAM is another executable than the built one. Programs with forms that aren't
+without a bound it ends only where it finds a run. PROGRAM is another executable than the built one; with `--untimed` the table has no
+times of it. All times are seconds of a processor, so that other work on the machine counts little. Programs with forms that aren't
 written in Promela here are left out.
 """
 import argparse
+import json
+import os
 import re
+import resource
+import signal
 import subprocess
 import sys
 import tempfile
-import time
 from pathlib import Path
 
 TOP = Path(__file__).resolve().parent.parent
 TOKEN = re.compile(r"\s*(%[^\n]*|<<|>>|::|:=|\|\||/\\|\\/|->|!=|<=|>=|\w+|.)", re.S)
+ANSWERS = {"proved": "proved", "false": "a run", "not-found": "nothing"}
 SIGNS = {"=": "==", "/\\": "&&", "\\/": "||", "~": "!", "true": "true", "false": "false"}
 
 
@@ -187,6 +192,8 @@ def promela(program, proof):
     """The program and its claims in Promela."""
     said, starts, parts, owners = Reader(program).program()
     values = dict(re.fullmatch(r"(\w+) = (.*);", start).groups() for start in starts)
+    if not all(name in values for line in said for name in re.findall(r"\w+(?=[,;])", line)):
+        raise Unwritten("a variable that starts with any value")
     declared = [re.sub(r"\b(\w+)\b(?=[,;])", lambda it: f"{it[1]} = {values[it[1]]}" if it[1] in values else it[1], line) for line in said]
     claims = []
     for name, claim in re.findall(r"invariant (\w+):([^;]*);", re.sub(r"%[^\n]*", "", proof)):
@@ -202,12 +209,16 @@ def promela(program, proof):
 
 
 def timed(words, folder, seconds):
-    begin = time.perf_counter()
-    try:
-        it = subprocess.run(words, cwd=folder, capture_output=True, text=True, timeout=seconds)
-        return time.perf_counter() - begin, it.stdout + it.stderr
-    except subprocess.TimeoutExpired:
-        return None, ""
+    """The processor's seconds that a command takes, none where they are too many, and what it writes."""
+    limit = lambda: resource.setrlimit(resource.RLIMIT_CPU, (seconds, seconds + 1))
+    with tempfile.TemporaryFile() as written:
+        it = subprocess.Popen(words, cwd=folder, stdin=subprocess.DEVNULL, stdout=written, stderr=subprocess.STDOUT, preexec_fn=limit)
+        _, status, usage = os.wait4(it.pid, 0)
+        it.returncode = os.waitstatus_to_exitcode(status)
+        written.seek(0)
+        if it.returncode in (-signal.SIGXCPU, -signal.SIGKILL):
+            return None, ""
+        return usage.ru_utime + usage.ru_stime, written.read().decode(errors="replace")
 
 
 def checked(text, seconds):
@@ -224,26 +235,42 @@ def checked(text, seconds):
     return ("a run" if "errors: 1" in said else "holds"), making, running, states[1] if states else ""
 
 
+def found(program, folder):
+    """What a search answers, how many questions it asks, and its time."""
+    words = [program, *(folder / "args").read_text().split("\n")[:-1], "--format", "json"]
+    clock, said = timed(words, folder, 600)
+    report = json.loads(said)
+    return ANSWERS[report["verdict"]], f"{report['queries']:,}", f"{clock:.3f}"
+
+
+def is_played(folder, only):
+    name = folder.name.removeprefix("find-")
+    texts = all((folder / it).exists() for it in ("args", "program", "proof"))
+    return texts and not re.search("-as-|budget|into-|refused|fault", name) and (not only or name in only)
+
+
 def main():
     parser = argparse.ArgumentParser(add_help=False)
     parser.add_argument("--seconds", type=int, default=60)
+    parser.add_argument("--untimed", action="store_true")
     parser.add_argument("--only", nargs="*")
     parser.add_argument("program", nargs="?", default=str(TOP / "crates/milkhour/out/milkhour"))
     words = parser.parse_args()
-    print("| Claims | `find` | seconds | SPIN | made | run | states |\n|---|---|---|---|---|---|---|")
+    heads = ["Claims", "`find`", "questions", *([] if words.untimed else ["seconds"]), "SPIN", "made", "run", "states"]
+    print(f"| {' | '.join(heads)} |\n{'|---' * len(heads)}|", flush=True)
     for folder in sorted((TOP / "cases-milkhour").glob("find-*")):
-        name = folder.name.removeprefix("find-")
-        if words.only and name not in words.only or re.search("-as-|budget|into-|refused", name) or not (folder / "program").exists() or not (folder / "proof").exists():
+        if not is_played(folder, words.only):
             continue
+        name = folder.name.removeprefix("find-")
         try:
             text = promela((folder / "program").read_text(), (folder / "proof").read_text())
             answer, making, running, states = checked(text, words.seconds)
         except Unwritten as why:
             print(f"{name}: {why}", file=sys.stderr)
             continue
-        clock, found = timed([words.program, *(folder / "args").read_text().split("\n")[:-1]], folder, 600)
-        kind = "proved" if found.startswith(("invariant", "%", "waiting", "response")) else "a run" if "false" in found else "nothing"
-        print(f"| {name} | {kind} | {clock:.3f} | {answer} | {making:.2f} | {'' if running is None else f'{running:.3f}'} | {states} |", flush=True)
+        kind, questions, clock = found(words.program, folder)
+        cells = [name, kind, questions, *([] if words.untimed else [clock]), answer, f"{making:.2f}", f"{running or words.seconds:.2f}", states]
+        print(f"| {' | '.join(cells)} |", flush=True)
 
 
 main()

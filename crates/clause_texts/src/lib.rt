@@ -8,6 +8,7 @@ mod labels;
 mod literals;
 mod phrases;
 mod rows;
+mod states;
 mod whereabouts;
 mod writer;
 

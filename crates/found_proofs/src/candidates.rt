@@ -155,6 +155,31 @@ fn with_equations(alloc: Global, cube: &Cube, bounds: &[Lin]) -> Result<Cube, Cu
     Ok(out)
 }
 
+/// Appends the shorter variants of a cube.
+fn push_variants(
+    alloc: Global,
+    search: &Search<'_>,
+    cube: &Cube,
+    bounds: &[Lin],
+    out: &mut Vec<Cube>,
+) -> Result<(), CubeFault> {
+    out.push(with_equations(alloc, cube, bounds)?)?;
+    let live = without_dead(alloc, cube, search.layout().full(), search.dead())?;
+    out.push(with_equations(alloc, &live, bounds)?)?;
+    out.push(live)?;
+    Ok(())
+}
+
+/// The shorter variants of cubes.
+fn variants_of(alloc: Global, search: &Search<'_>, cubes: &[Cube]) -> Result<Vec<Cube>, CubeFault> {
+    let bounds = bounds(alloc, cubes, search.layout().full())?;
+    let mut out = Vec::new(alloc);
+    for cube in cubes {
+        push_variants(alloc, search, cube, &bounds, &mut out)?;
+    }
+    Ok(out)
+}
+
 /// The cubes with their shorter variants behind them. Equations in front of an arrow make joint conditions wide, so `plain` leaves those
 /// variants out.
 pub(crate) fn with_variants(
@@ -166,47 +191,46 @@ pub(crate) fn with_variants(
     if plain {
         return Ok(cubes);
     }
-    let full = search.layout().full();
-    let bounds = bounds(alloc, &cubes, full)?;
-    let mut variants = Vec::new(alloc);
-    for cube in &cubes {
-        let live = without_dead(alloc, cube, full, search.dead())?;
-        variants.push(with_equations(alloc, cube, &bounds)?)?;
-        variants.push(with_equations(alloc, &live, &bounds)?)?;
-        variants.push(live)?;
-    }
-    for variant in variants {
+    for variant in variants_of(alloc, search, &cubes)? {
         push_apart(&mut cubes, variant)?;
     }
     Ok(cubes)
 }
 
-/// A cube as a candidate; `None` where its clause can't be said.
-fn candidate_of(
+/// The clause of a cube, and what it costs.
+fn priced(
+    alloc: Global,
+    writer: &ClauseWriter<'_>,
+    cube: &Cube,
+) -> Result<(Phrase, usize), ClauseFault> {
+    let phrase = writer.clause(alloc, cube)?;
+    let cost = writer.cost(alloc, cube, phrase.text.len())?;
+    Ok((phrase, cost))
+}
+
+/// Appends the candidate of a cube, if its clause can be said.
+fn push_candidate(
     alloc: Global,
     subject: &Subject,
     search: &Search<'_>,
     writer: &ClauseWriter<'_>,
     cube: Cube,
-) -> Result<Option<Candidate>, Memory> {
-    let phrase = match writer.clause(alloc, &cube) {
-        Ok(phrase) => phrase,
-        Err(ClauseFault::Unsaid) => return Ok(None),
-        Err(ClauseFault::Memory) => return Err(Memory),
-    };
-    let cost = match writer.cost(alloc, &cube, phrase.text.len()) {
-        Ok(cost) => cost,
-        Err(ClauseFault::Unsaid) => return Ok(None),
+    out: &mut Vec<Candidate>,
+) -> Result<(), Memory> {
+    let (phrase, cost) = match priced(alloc, writer, &cube) {
+        Ok(pair) => pair,
+        Err(ClauseFault::Unsaid) => return Ok(()),
         Err(ClauseFault::Memory) => return Err(Memory),
     };
     let form = cube.clause(alloc, &subject.components, search.layout())?;
-    Ok(Some(Candidate {
+    out.push(Candidate {
         origin: Origin::Found,
         cube: Some(cube),
         form,
         phrase,
         cost,
-    }))
+    })?;
+    Ok(())
 }
 
 /// Appends the candidates of cubes.
@@ -219,9 +243,7 @@ pub(crate) fn push_candidates(
     out: &mut Vec<Candidate>,
 ) -> Result<(), Memory> {
     for cube in cubes {
-        if let Some(candidate) = candidate_of(alloc, subject, search, writer, cube)? {
-            out.push(candidate)?;
-        }
+        push_candidate(alloc, subject, search, writer, cube, out)?;
     }
     Ok(())
 }

@@ -1,4 +1,5 @@
-//! The linear equations of a program as candidates.
+//! The linear equations of a program as candidates: those between variables and places that hold everywhere, and those between the
+//! variables of one component that hold at one of its locations.
 
 ghost use Rattle.std.specs.Prelude.{IfOk};
 ghost use Rattle.linear_invariants.specs.Plain.{plain_equation, plain_equations};
@@ -6,9 +7,12 @@ ghost use Rattle.equation_writer.specs.Proper.{AreProper, IsProper};
 
 use crate::candidates::{Candidate, Origin};
 use crate::subject::Subject;
-use clause_texts::{Phrase, Shape};
+use clause_texts::{ClauseFault, Comparison, Phrase, Shape, row_text};
 use equation_writer::{Equation, form_of, sentence};
 use linear_invariants::{FindFault, find};
+use location_equations::{LocationEquation, location_equations};
+use st_form::Form;
+use st_linear::LinFault;
 use st_memory::Memory;
 use std::alloc::Global;
 use transition_system::Fts;
@@ -102,15 +106,119 @@ fn proper_equations(alloc: Global, system: &Fts) -> Result<Vec<Equation>, FindFa
     }
 }
 
-/// Appends the linear equations that hold on every run, as far as they are found.
+/// The text of an equation at a location; `None` where the location has no label or a number is too large.
+fn place_text(
+    alloc: Global,
+    subject: &Subject,
+    equation: &LocationEquation,
+) -> Result<Option<Vec<u8>>, Memory> {
+    let Some(label) = subject.names.location_name(equation.place) else {
+        return Ok(None);
+    };
+    let row = row_text(
+        alloc,
+        &subject.names,
+        subject.variables,
+        &equation.form,
+        Comparison::Equal,
+    );
+    let row = match row {
+        Ok(row) => row,
+        Err(ClauseFault::Unsaid) => return Ok(None),
+        Err(ClauseFault::Memory) => return Err(Memory),
+    };
+    let mut text = Vec::from_slice(alloc, b"at ")?;
+    text.extend_from_slice(label.as_bytes())?;
+    text.extend_from_slice(b" -> ")?;
+    text.extend_from_slice(&row)?;
+    Ok(Some(text))
+}
+
+/// That control isn't at the location, or the equation holds.
+fn place_form(alloc: Global, equation: &LocationEquation) -> Result<Form, Memory> {
+    let place = Form::Not(Box::new(alloc, Form::At(equation.place))?);
+    let holds = Form::Equal(equation.form.copy(alloc)?);
+    Ok(Form::Or(vec![in alloc; place, holds]?))
+}
+
+/// An equation at a location as a candidate; `None` where it can't be said.
+fn place_candidate(
+    alloc: Global,
+    subject: &Subject,
+    equation: &LocationEquation,
+) -> Result<Option<Candidate>, Memory> {
+    let Some(text) = place_text(alloc, subject, equation)? else {
+        return Ok(None);
+    };
+    let cost = text.len().saturating_add(EQUATION);
+    Ok(Some(Candidate {
+        origin: Origin::Found,
+        cube: None,
+        form: place_form(alloc, equation)?,
+        phrase: Phrase {
+            text,
+            shape: Shape::Implication,
+        },
+        cost,
+    }))
+}
+
+/// Appends the equations at locations, where one of them says more than that a variable is a number; that, clauses find by themselves.
+fn push_place_candidates(
+    alloc: Global,
+    subject: &Subject,
+    equations: &[LocationEquation],
+    out: &mut Vec<Candidate>,
+) -> Result<(), Memory> {
+    if equations
+        .iter()
+        .all(|equation| equation.form.entries().len() < 2)
+    {
+        return Ok(());
+    }
+    for equation in equations {
+        if let Some(candidate) = place_candidate(alloc, subject, equation)? {
+            out.push(candidate)?;
+        }
+    }
+    Ok(())
+}
+
+/// The locations that have labels: nothing can be said of others.
+fn labelled(alloc: Global, subject: &Subject) -> Result<Vec<u32>, Memory> {
+    let mut out = Vec::new(alloc);
+    for location in 0..subject.system.locations {
+        if subject.names.location_name(location).is_some() {
+            out.push(location)?;
+        }
+    }
+    Ok(out)
+}
+
+/// Appends the equations that hold at locations, as far as they are found.
+fn push_place_equations(
+    alloc: Global,
+    subject: &Subject,
+    out: &mut Vec<Candidate>,
+) -> Result<(), Memory> {
+    let places = labelled(alloc, subject)?;
+    match location_equations(alloc, &subject.system, &subject.components, &places) {
+        Ok(equations) => push_place_candidates(alloc, subject, &equations, out),
+        Err(LinFault::TooLarge) => Ok(()),
+        Err(LinFault::Memory) => Err(Memory),
+    }
+}
+
+/// Appends the linear equations that hold on every run, and those that hold at locations, as far as they are found.
 pub(crate) fn push_equations(
     alloc: Global,
     subject: &Subject,
     out: &mut Vec<Candidate>,
 ) -> Result<(), Memory> {
     match proper_equations(alloc, &subject.system) {
-        Ok(equations) => push_candidates(alloc, subject, &equations, out),
-        Err(FindFault::Wide) => Ok(()),
-        Err(FindFault::Memory) => Err(Memory),
+        Ok(equations) => push_candidates(alloc, subject, &equations, out)?,
+        Err(FindFault::Wide) => {}
+        Err(FindFault::Memory) => return Err(Memory),
     }
+    push_place_equations(alloc, subject, out)
 }

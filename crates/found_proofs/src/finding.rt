@@ -1,5 +1,7 @@
 //! The call that `find` makes, once for each attempt.
 
+ghost use Rattle.std.specs.Prelude.{◌≤◌, IfOk};
+
 use crate::answers::{FindFault, Found};
 use crate::attempts::Attempt;
 use crate::progress::progressed;
@@ -29,7 +31,9 @@ pub fn attempt_proofs(
     proof: &[u8],
     attempt: Attempt,
     budget: u64,
-) -> Result<Attempted, FindFault> {
+) -> Result<Attempted, FindFault>
+    ensures { IfOk result (λ attempted. attempted.queries ≤ budget) }
+{
     let subject = read_subject(alloc, program)?;
     let request = read_request(alloc, proof, &subject.names, &subject.system)?;
     let (found, queries) = progressed(alloc, &subject, proof, &request, attempt, budget)?;

@@ -6,6 +6,7 @@
 
 use crate::candidates::{Candidate, Origin};
 use crate::claims::Claim;
+use crate::steps::joint_claim;
 use crate::subject::Subject;
 use control_cubes::{CubeFault, negation};
 use invariant_search::{Allowed, Answer, Entry, Search};
@@ -137,6 +138,59 @@ fn push_work(uses: &[usize], marks: &mut [bool], work: &mut Vec<usize>) -> Resul
     Ok(())
 }
 
+/// Gives candidates to a search as lemmas that hold always, and their numbers.
+fn give_all(
+    alloc: Global,
+    search: &mut Search<'_>,
+    candidates: &[Candidate],
+) -> Result<Vec<u32>, CubeFault> {
+    let mut numbers = Vec::with_capacity(alloc, candidates.len())?;
+    for candidate in candidates {
+        numbers.push(search.give(alloc, candidate.form.copy(alloc)?)?)?;
+    }
+    Ok(numbers)
+}
+
+/// What is used by what was followed so far, and what is to be followed.
+#[derive(Drop)]
+struct Walk {
+    marks: Vec<bool>,
+    work: Vec<usize>,
+    uses: Vec<Option<Vec<usize>>>,
+}
+
+impl Walk {
+    /// The walk among so many candidates that begins with what goals use.
+    fn new(alloc: Global, count: usize, goals: &[Shown]) -> Result<Walk, Memory> {
+        let mut walk = Walk {
+            marks: vec![in alloc; false; count]?,
+            work: Vec::new(alloc),
+            uses: Vec::new(alloc),
+        };
+        walk.begin(count, goals)?;
+        Ok(walk)
+    }
+
+    fn begin(&mut self, count: usize, goals: &[Shown]) -> Result<(), Memory> {
+        for shown in goals {
+            push_work(&shown.uses, &mut self.marks, &mut self.work)?;
+        }
+        for _ in 0..count {
+            self.uses.push(None)?;
+        }
+        Ok(())
+    }
+
+    /// Takes what a candidate uses.
+    fn take(&mut self, place: usize, used: Vec<usize>) -> Result<(), Memory> {
+        push_work(&used, &mut self.marks, &mut self.work)?;
+        if let Some(slot) = self.uses.get_mut(place) {
+            *slot = Some(used);
+        }
+        Ok(())
+    }
+}
+
 impl<'a> Ground<'a> {
     /// Gives the candidates to a search as lemmas that hold always, in their order.
     pub(crate) fn new(
@@ -146,11 +200,7 @@ impl<'a> Ground<'a> {
         budget: u64,
     ) -> Result<Ground<'a>, CubeFault> {
         let mut search = subject.search(alloc, budget)?;
-        let mut numbers = Vec::with_capacity(alloc, candidates.len())?;
-        for candidate in &candidates {
-            let form = candidate.form.copy(alloc)?;
-            numbers.push(search.give(alloc, form)?)?;
-        }
+        let numbers = give_all(alloc, &mut search, &candidates)?;
         Ok(Ground {
             search,
             candidates,
@@ -247,6 +297,32 @@ impl<'a> Ground<'a> {
         Ok(shown_by(alloc, &self.numbers, implied, kept)?)
     }
 
+    /// The lemmas because of which a candidate is kept.
+    fn kept_by(
+        &mut self,
+        alloc: Global,
+        place: usize,
+        marks: &[bool],
+    ) -> Result<Option<Vec<u32>>, CubeFault> {
+        let Some(candidate) = self.candidates.get(place) else {
+            return Ok(None);
+        };
+        let allowed = Allowed::Among(marks);
+        let entry = match &candidate.cube {
+            Some(cube) => self.search.cube_kept_by(alloc, cube, allowed)?,
+            None => self.search.form_kept_by(alloc, &candidate.form, allowed)?,
+        };
+        Ok(blocking(entry))
+    }
+
+    /// Whether a candidate stands in an earlier step.
+    fn is_known(&self, place: usize) -> bool {
+        match self.candidates.get(place) {
+            Some(candidate) => candidate.origin != Origin::Found,
+            None => false,
+        }
+    }
+
     /// Which of the candidates that are allowed a candidate uses; an earlier step uses none.
     fn used_by(
         &mut self,
@@ -254,24 +330,43 @@ impl<'a> Ground<'a> {
         place: usize,
         allowed: &[bool],
     ) -> Result<Option<Vec<usize>>, CubeFault> {
-        let marks = self.marks(alloc, allowed, Some(place))?;
-        let Some(candidate) = self.candidates.get(place) else {
-            return Ok(None);
-        };
-        if candidate.origin != Origin::Found {
+        if self.is_known(place) {
             return Ok(Some(Vec::new(alloc)));
         }
-        let entry = match &candidate.cube {
-            Some(cube) => self
-                .search
-                .cube_kept_by(alloc, cube, Allowed::Among(&marks))?,
-            None => self
-                .search
-                .form_kept_by(alloc, &candidate.form, Allowed::Among(&marks))?,
-        };
-        match blocking(entry) {
+        let marks = self.marks(alloc, allowed, Some(place))?;
+        match self.kept_by(alloc, place, &marks)? {
             Some(lemmas) => Ok(Some(places_of(alloc, &self.numbers, &lemmas)?)),
             None => Ok(None),
+        }
+    }
+
+    /// The same, where what was known before isn't asked again.
+    fn uses(
+        &mut self,
+        alloc: Global,
+        place: usize,
+        allowed: &[bool],
+        before: Option<&Needs>,
+    ) -> Result<Option<Vec<usize>>, CubeFault> {
+        match still_used(alloc, before, place, allowed)? {
+            Some(used) => Ok(Some(used)),
+            None => self.used_by(alloc, place, allowed),
+        }
+    }
+
+    /// How the claim with a number holds, where what was known before isn't asked again.
+    fn shown(
+        &mut self,
+        alloc: Global,
+        number: usize,
+        claim: &Claim,
+        allowed: &[bool],
+        before: Option<&Needs>,
+    ) -> Result<Option<Shown>, CubeFault> {
+        let known = before.and_then(|needs| needs.goals.get(number));
+        match still_shown(alloc, known, allowed)? {
+            Some(shown) => Ok(Some(shown)),
+            None => self.show(alloc, claim, allowed),
         }
     }
 
@@ -285,17 +380,48 @@ impl<'a> Ground<'a> {
     ) -> Result<Option<Vec<Shown>>, CubeFault> {
         let mut out = Vec::with_capacity(alloc, claims.len())?;
         for (number, claim) in claims.iter().enumerate() {
-            let known = before.and_then(|needs| needs.goals.get(number));
-            let shown = match still_shown(alloc, known, allowed)? {
-                Some(shown) => Some(shown),
-                None => self.show(alloc, claim, allowed)?,
-            };
-            match shown {
+            match self.shown(alloc, number, claim, allowed, before)? {
                 Some(shown) => out.push(shown)?,
                 None => return Ok(None),
             }
         }
         Ok(Some(out))
+    }
+
+    /// Follows what the next candidate uses; whether that is known.
+    fn follow(
+        &mut self,
+        alloc: Global,
+        walk: &mut Walk,
+        allowed: &[bool],
+        before: Option<&Needs>,
+    ) -> Result<bool, CubeFault> {
+        let Some(place) = walk.work.pop() else {
+            return Ok(true);
+        };
+        match self.uses(alloc, place, allowed, before)? {
+            Some(used) => {
+                walk.take(place, used)?;
+                Ok(true)
+            }
+            None => Ok(false),
+        }
+    }
+
+    /// Follows what is used to its end; whether all of it is known. Each round follows a candidate that wasn't followed.
+    fn follow_all(
+        &mut self,
+        alloc: Global,
+        walk: &mut Walk,
+        allowed: &[bool],
+        before: Option<&Needs>,
+    ) -> Result<bool, CubeFault> {
+        for _ in 0..self.candidates.len() {
+            if !self.follow(alloc, walk, allowed, before)? {
+                return Ok(false);
+            }
+        }
+        Ok(true)
     }
 
     /// What a proof of the claims uses of the candidates that are allowed; `None` where it isn't known that they suffice. What `before`
@@ -310,31 +436,39 @@ impl<'a> Ground<'a> {
         let Some(goals) = self.show_all(alloc, claims, allowed, before)? else {
             return Ok(None);
         };
-        let mut marks = vec![in alloc; false; self.candidates.len()]?;
-        let mut work = Vec::new(alloc);
-        for shown in &goals {
-            push_work(&shown.uses, &mut marks, &mut work)?;
+        let mut walk = Walk::new(alloc, self.candidates.len(), &goals)?;
+        if !self.follow_all(alloc, &mut walk, allowed, before)? {
+            return Ok(None);
         }
-        let mut uses = Vec::with_capacity(alloc, self.candidates.len())?;
-        for _ in &self.candidates {
-            uses.push(None)?;
-        }
-        for _ in 0..self.candidates.len() {
-            let Some(place) = work.pop() else {
-                break;
-            };
-            let used = match still_used(alloc, before, place, allowed)? {
-                Some(used) => Some(used),
-                None => self.used_by(alloc, place, allowed)?,
-            };
-            let Some(used) = used else {
-                return Ok(None);
-            };
-            push_work(&used, &mut marks, &mut work)?;
-            if let Some(slot) = uses.get_mut(place) {
-                *slot = Some(used);
+        Ok(Some(Needs {
+            goals,
+            uses: walk.uses,
+        }))
+    }
+
+    /// Whether the candidates at some places are kept together, with those that they use.
+    pub(crate) fn keeps_together(
+        &mut self,
+        alloc: Global,
+        places: &[usize],
+        uses: &[usize],
+    ) -> Result<bool, CubeFault> {
+        let mut allowed = vec![in alloc; false; self.candidates.len()]?;
+        for used in uses {
+            if let Some(mark) = allowed.get_mut(*used) {
+                *mark = true;
             }
         }
-        Ok(Some(Needs { goals, uses }))
+        let marks = self.marks(alloc, &allowed, None)?;
+        let form = joint_claim(alloc, &self.candidates, places)?;
+        let entry = self
+            .search
+            .form_kept_by(alloc, &form, Allowed::Among(&marks))?;
+        Ok(matches!(entry, Entry::Blocked(_)))
+    }
+
+    /// Gives back how many questions might still be asked. From then on none is.
+    pub(crate) fn give_back(&mut self) -> u64 {
+        self.search.give_back()
     }
 }

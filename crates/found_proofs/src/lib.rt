@@ -7,12 +7,14 @@
 mod answers;
 mod attempts;
 mod candidates;
+mod chain_rules;
 mod choosing;
 mod claims;
 mod equations;
 mod finding;
 mod ground;
 mod insertions;
+mod joining;
 mod layers;
 mod naming;
 mod progress;
@@ -22,6 +24,7 @@ mod schedules;
 mod shortening;
 mod steps;
 mod subject;
+mod writing;
 
 pub use answers::{Failing, FindFault, Found, Missing, Proposal, Unfound};
 pub use attempts::{ATTEMPTS, Attempt, share};

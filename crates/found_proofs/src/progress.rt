@@ -1,5 +1,7 @@
 //! The way through a text of requests: goals that stand together are proved together, behind the steps in front of them.
 
+ghost use Rattle.std.specs.Prelude.{◌≤◌, IfOk};
+
 use crate::answers::{Failing, Found, Missing, Proposal, Unfound};
 use crate::attempts::Attempt;
 use crate::insertions::{Insertion, between, ending, inserted, place_above, starts_line};
@@ -33,8 +35,8 @@ pub(crate) struct Progress<'s, 't> {
     subject: &'s Subject,
     text: &'t [u8],
     attempt: Attempt,
-    budget: u64,
-    queries: u64,
+    /// How many queries may be asked still.
+    left: u64,
     known: Vec<Citable>,
     insertions: Vec<Insertion>,
     naming: Naming,
@@ -81,8 +83,7 @@ impl<'s, 't> Progress<'s, 't> {
             subject,
             text,
             attempt,
-            budget,
-            queries: 0,
+            left: budget,
             known: Vec::new(alloc),
             insertions: Vec::new(alloc),
             naming: Naming::among(alloc, steps)?,
@@ -225,15 +226,15 @@ impl<'s, 't> Progress<'s, 't> {
             subject: self.subject,
             attempt: self.attempt,
             known: &self.known,
-            budget: self.budget.saturating_sub(self.queries),
+            budget: self.left,
         };
         match prove(alloc, task, &self.waiting.claims, &mut self.naming) {
             Ok(effort) => {
-                self.queries = self.queries.saturating_add(effort.queries);
+                self.left = self.left.saturating_sub(effort.queries);
                 self.conclude(alloc, effort.tried)
             }
             Err(CubeFault::TooLarge) => {
-                self.queries = self.budget;
+                self.left = 0;
                 Ok(Some(self.missing(alloc, 0, Unfound::Wide, None)?))
             }
             Err(CubeFault::Memory) => Err(Memory),
@@ -266,12 +267,17 @@ impl<'s, 't> Progress<'s, 't> {
         Ok(())
     }
 
-    /// The answer that no chain is found for a response.
-    fn chainless(&self, alloc: Global, leading: &Leading) -> Result<Found, Memory> {
+    /// The answer that no chain is found for a response, with a state in which nothing helps, if one was shown.
+    fn chainless(
+        &self,
+        alloc: Global,
+        leading: &Leading,
+        left: Option<Vec<u8>>,
+    ) -> Result<Found, Memory> {
         Ok(Found::NotFound(Missing {
             goal: leading.name.clone()?,
             why: Unfound::Chain,
-            left: None,
+            left,
             so_far: self.text_to(alloc, self.behind)?,
         }))
     }
@@ -287,23 +293,23 @@ impl<'s, 't> Progress<'s, 't> {
             subject: self.subject,
             attempt: self.attempt,
             known: &self.known,
-            budget: self.budget.saturating_sub(self.queries),
+            budget: self.left,
         };
         let response = match respond(alloc, task, leading, &mut self.naming) {
             Ok(response) => response,
             Err(CubeFault::TooLarge) => {
-                self.queries = self.budget;
-                return Ok(Some(self.chainless(alloc, leading)?));
+                self.left = 0;
+                return Ok(Some(self.chainless(alloc, leading, None)?));
             }
             Err(CubeFault::Memory) => return Err(Memory),
         };
-        self.queries = self.queries.saturating_add(response.queries);
+        self.left = self.left.saturating_sub(response.queries);
         match response.responded {
             Responded::Chained(rule, proof) => {
                 self.take_chain(alloc, extent, leading, rule, proof)?;
                 Ok(None)
             }
-            Responded::Unfound => Ok(Some(self.chainless(alloc, leading)?)),
+            Responded::Unfound(left) => Ok(Some(self.chainless(alloc, leading, left)?)),
         }
     }
 
@@ -363,6 +369,50 @@ fn first_goal(alloc: Global, request: &Request<'_>) -> Result<String, Memory> {
     Ok(String::new(alloc))
 }
 
+/// Goes through the steps of a text; an answer where a goal isn't proved.
+fn through<'t>(
+    alloc: Global,
+    progress: &mut Progress<'_, 't>,
+    request: &Request<'t>,
+) -> Result<Option<Found>, Memory> {
+    let steps = request.script.steps.as_slice();
+    let mut next = 0usize;
+    for (extent, wanted) in &request.steps {
+        let answer = progress.pass(alloc, *extent, wanted, steps.get(next))?;
+        if answer.is_some() {
+            return Ok(answer);
+        }
+        if is_scripted(wanted) {
+            next = next.saturating_add(1);
+        }
+    }
+    progress.settle(alloc)
+}
+
+/// The text with all that was found.
+fn proposal(
+    alloc: Global,
+    progress: &Progress<'_, '_>,
+    request: &Request<'_>,
+) -> Result<Found, Memory> {
+    Ok(Found::Proof(Proposal {
+        goal: first_goal(alloc, request)?,
+        text: progress.text_to(alloc, progress.text.len())?,
+    }))
+}
+
+/// What comes of the goals of a text.
+fn outcome<'t>(
+    alloc: Global,
+    progress: &mut Progress<'_, 't>,
+    request: &Request<'t>,
+) -> Result<Found, Memory> {
+    match through(alloc, progress, request)? {
+        Some(found) => Ok(found),
+        None => proposal(alloc, progress, request),
+    }
+}
+
 /// What an attempt finds of the goals of a text, with so many queries; and how many it asked.
 pub(crate) fn progressed<'t>(
     alloc: Global,
@@ -371,24 +421,11 @@ pub(crate) fn progressed<'t>(
     request: &Request<'t>,
     attempt: Attempt,
     budget: u64,
-) -> Result<(Found, u64), Memory> {
+) -> Result<(Found, u64), Memory>
+    ensures { IfOk result (λ answer. answer.1 ≤ budget) }
+{
     let steps = request.script.steps.as_slice();
     let mut progress = Progress::new(alloc, subject, text, steps, attempt, budget)?;
-    let mut next = 0usize;
-    for (extent, wanted) in &request.steps {
-        if let Some(answer) = progress.pass(alloc, *extent, wanted, steps.get(next))? {
-            return Ok((answer, progress.queries));
-        }
-        if is_scripted(wanted) {
-            next = next.saturating_add(1);
-        }
-    }
-    if let Some(answer) = progress.settle(alloc)? {
-        return Ok((answer, progress.queries));
-    }
-    let proposal = Proposal {
-        goal: first_goal(alloc, request)?,
-        text: progress.text_to(alloc, text.len())?,
-    };
-    Ok((Found::Proof(proposal), progress.queries))
+    let found = outcome(alloc, &mut progress, request)?;
+    Ok((found, budget.saturating_sub(progress.left)))
 }

@@ -5,13 +5,13 @@ use crate::candidates::Candidate;
 use crate::choosing::{chosen, known_candidates};
 use crate::claims::Claim;
 use crate::equations::push_equations;
-use crate::ground::{Ground, Needs};
+use crate::ground::Ground;
 use crate::naming::Naming;
 use crate::shortening::least_needs;
-use crate::steps::{
-    Citable, citation, cited_steps, joint_claim, layered, step_text, uses_of_layer,
-};
+use crate::steps::Citable;
 use crate::subject::Subject;
+pub(crate) use crate::writing::Proof;
+use crate::writing::written;
 use clause_texts::{ClauseFault, ClauseWriter};
 use control_cubes::{Cube, CubeFault};
 use invariant_search::{Outcome, Run, Search, Why};
@@ -21,24 +21,6 @@ use std::alloc::Global;
 
 /// Which part of the queries is kept for the text when lemmas are looked for: one in so many.
 const KEPT: u64 = 4;
-
-/// How a goal is shown: what stands behind its claim.
-#[derive(Drop)]
-pub(crate) struct Ending {
-    pub(crate) by_true: bool,
-    pub(crate) citation: Vec<u8>,
-}
-
-/// A proof of some goals.
-#[derive(Drop)]
-pub(crate) struct Proof {
-    /// The steps in front of them.
-    pub(crate) text: Vec<u8>,
-    /// What these claim, by name.
-    pub(crate) steps: Vec<Citable>,
-    /// How each goal is shown.
-    pub(crate) endings: Vec<Ending>,
-}
 
 /// What came of some goals.
 #[derive(Drop)]
@@ -73,6 +55,27 @@ fn left_text(
     }
 }
 
+/// Looks for lemmas from which the goal with a number follows; `None` where they are found.
+fn sought_one(
+    alloc: Global,
+    search: &mut Search<'_>,
+    writer: &ClauseWriter<'_>,
+    number: usize,
+    goal: &Form,
+) -> Result<Option<Tried>, CubeFault> {
+    match search.ic3(alloc, goal)? {
+        Outcome::Inductive => {
+            search.drop_bounded();
+            Ok(None)
+        }
+        Outcome::Refuted(run) => Ok(Some(Tried::Refuted(number, run))),
+        Outcome::Unknown { why, left } => {
+            let left = left_text(alloc, writer, left)?;
+            Ok(Some(Tried::Unknown(number, why, left)))
+        }
+    }
+}
+
 /// Looks for lemmas from which each goal follows; `None` where they are found.
 fn sought(
     alloc: Global,
@@ -81,93 +84,12 @@ fn sought(
     goals: &[Form],
 ) -> Result<Option<Tried>, CubeFault> {
     for (number, goal) in goals.iter().enumerate() {
-        match search.ic3(alloc, goal)? {
-            Outcome::Inductive => search.drop_bounded(),
-            Outcome::Refuted(run) => return Ok(Some(Tried::Refuted(number, run))),
-            Outcome::Unknown { why, left } => {
-                let left = left_text(alloc, writer, left)?;
-                return Ok(Some(Tried::Unknown(number, why, left)));
-            }
+        let tried = sought_one(alloc, search, writer, number, goal)?;
+        if tried.is_some() {
+            return Ok(tried);
         }
     }
     Ok(None)
-}
-
-/// How each goal is shown by the steps.
-fn endings(
-    alloc: Global,
-    ground: &Ground<'_>,
-    needs: &Needs,
-    homes: &[Option<usize>],
-    steps: &[Citable],
-) -> Result<Vec<Ending>, Memory> {
-    let mut out = Vec::with_capacity(alloc, needs.goals.len())?;
-    for shown in &needs.goals {
-        let cited = cited_steps(alloc, &ground.candidates, homes, &shown.uses)?;
-        out.push(Ending {
-            by_true: shown.by_true,
-            citation: citation(alloc, steps, &cited)?,
-        })?;
-    }
-    Ok(out)
-}
-
-/// The steps behind the first ones.
-fn behind(alloc: Global, steps: Vec<Citable>, first: usize) -> Result<Vec<Citable>, Memory> {
-    let mut out = Vec::new(alloc);
-    for (number, step) in steps.into_iter().enumerate() {
-        if number >= first {
-            out.push(step)?;
-        }
-    }
-    Ok(out)
-}
-
-/// The proof that uses what is needed: a step for each layer, and how each goal is shown.
-fn written(
-    alloc: Global,
-    writer: &ClauseWriter<'_>,
-    ground: &Ground<'_>,
-    needs: &Needs,
-    mut steps: Vec<Citable>,
-    naming: &mut Naming,
-) -> Result<Proof, Memory> {
-    let known = steps.len();
-    let mut text = Vec::new(alloc);
-    let mut homes = vec![in alloc; None; ground.candidates.len()]?;
-    for layer in layered(alloc, &ground.candidates, needs)? {
-        let uses = uses_of_layer(alloc, needs, &layer)?;
-        let cited = cited_steps(alloc, &ground.candidates, &homes, &uses)?;
-        let citation = citation(alloc, &steps, &cited)?;
-        let name = naming.next(alloc)?;
-        let step = step_text(alloc, writer, &ground.candidates, &layer, &name, citation)?;
-        text.extend_from_slice(&step)?;
-        for place in &layer {
-            if let Some(home) = homes.get_mut(*place) {
-                *home = Some(steps.len());
-            }
-        }
-        let claim = joint_claim(alloc, &ground.candidates, &layer)?;
-        steps.push(Citable { name, claim })?;
-    }
-    let endings = endings(alloc, ground, needs, &homes, &steps)?;
-    Ok(Proof {
-        text,
-        steps: behind(alloc, steps, known)?,
-        endings,
-    })
-}
-
-/// Equal steps.
-fn copied(alloc: Global, steps: &[Citable]) -> Result<Vec<Citable>, Memory> {
-    let mut out = Vec::with_capacity(alloc, steps.len())?;
-    for step in steps {
-        out.push(Citable {
-            name: step.name.clone()?,
-            claim: step.claim.copy(alloc)?,
-        })?;
-    }
-    Ok(out)
 }
 
 /// What a proof is made for: the program, how, behind which steps, and with how many queries.
@@ -179,28 +101,68 @@ pub(crate) struct Task<'t> {
     pub(crate) budget: u64,
 }
 
-/// A search for a task, and what is given: the known claims, and equations where the attempt has them.
+/// What is given for a task: the known claims, and equations where the attempt has them.
+fn given_candidates(alloc: Global, task: Task<'_>) -> Result<Vec<Candidate>, Memory> {
+    let mut given = known_candidates(alloc, task.known)?;
+    if task.attempt.equations {
+        push_equations(alloc, task.subject, &mut given)?;
+    }
+    Ok(given)
+}
+
+/// Tells a search what it may speak of, and what is given.
+fn prepare(
+    alloc: Global,
+    search: &mut Search<'_>,
+    goals: &[Form],
+    given: &[Candidate],
+) -> Result<(), CubeFault> {
+    search.use_rows_of(alloc, goals)?;
+    for candidate in given {
+        search.give(alloc, candidate.form.copy(alloc)?)?;
+    }
+    Ok(())
+}
+
+/// A search for a task, and what is given. It may ask all questions but those that are kept for the text.
 pub(crate) fn begun<'t>(
     alloc: Global,
     task: Task<'t>,
     goals: &[Form],
 ) -> Result<(Search<'t>, Vec<Candidate>), CubeFault> {
-    let mut search = task
-        .subject
-        .search(alloc, task.budget.saturating_sub(task.budget / KEPT))?;
-    search.use_rows_of(alloc, goals)?;
-    let mut given = known_candidates(alloc, task.known)?;
-    if task.attempt.equations {
-        push_equations(alloc, task.subject, &mut given)?;
-    }
-    for candidate in &given {
-        let form = candidate.form.copy(alloc)?;
-        search.give(alloc, form)?;
-    }
+    let given = given_candidates(alloc, task)?;
+    let most = task.budget.saturating_sub(task.budget / KEPT);
+    let mut search = task.subject.search(alloc, most)?;
+    prepare(alloc, &mut search, goals, &given)?;
     Ok((search, given))
 }
 
-/// The least proof of claims that follow from what a search has found.
+/// The least proof of claims by candidates; `None` where it isn't known that they suffice.
+fn least_proof(
+    alloc: Global,
+    task: Task<'_>,
+    ground: &mut Ground<'_>,
+    writer: &ClauseWriter<'_>,
+    claims: &[Claim],
+    naming: &mut Naming,
+) -> Result<Option<Proof>, CubeFault> {
+    match least_needs(alloc, ground, claims)? {
+        Some(needs) => Ok(Some(written(alloc, writer, ground, &needs, task.known, naming)?)),
+        None => Ok(None),
+    }
+}
+
+/// What came of goals that were found to follow from lemmas.
+fn tried_with(proof: Option<Proof>, is_spent: bool) -> Tried {
+    match proof {
+        Some(proof) => Tried::Proved(proof),
+        None if is_spent => Tried::Unknown(0, Why::Budget, None),
+        None => Tried::Unknown(0, Why::Wide, None),
+    }
+}
+
+/// The least proof of claims that follow from what a search has found. What is kept for the text is for the look at what is needed, since
+/// the search itself may ask until its own share is spent; and what both leave is for the proof.
 pub(crate) fn finished(
     alloc: Global,
     task: Task<'_>,
@@ -210,27 +172,51 @@ pub(crate) fn finished(
     claims: &[Claim],
     naming: &mut Naming,
 ) -> Result<Effort, CubeFault> {
-    let left = task.budget.saturating_sub(search.counts().queries);
-    let (candidates, more) = chosen(alloc, task, search, writer, given, claims, left)?;
-    let before = search.counts().queries.saturating_add(more);
-    let mut ground = Ground::new(
-        alloc,
-        task.subject,
-        candidates,
-        task.budget.saturating_sub(before),
-    )?;
-    let tried = match least_needs(alloc, &mut ground, claims)? {
-        Some(needs) => {
-            let steps = copied(alloc, task.known)?;
-            Tried::Proved(written(alloc, writer, &ground, &needs, steps, naming)?)
-        }
-        None if ground.search.counts().queries.saturating_add(before) >= task.budget => {
-            Tried::Unknown(0, Why::Budget, None)
-        }
-        None => Tried::Unknown(0, Why::Wide, None),
-    };
-    let queries = before.saturating_add(ground.search.counts().queries);
-    Ok(Effort { tried, queries })
+    let kept = task.budget / KEPT;
+    let (candidates, unasked) = chosen(alloc, task, search, writer, given, claims, kept)?;
+    let left = unasked.saturating_add(search.give_back());
+    let mut ground = Ground::new(alloc, task.subject, candidates, left)?;
+    let proof = least_proof(alloc, task, &mut ground, writer, claims, naming)?;
+    let left = ground.give_back();
+    Ok(Effort {
+        tried: tried_with(proof, left == 0),
+        queries: task.budget.saturating_sub(left),
+    })
+}
+
+/// How many queries of a task were asked, where its search ends with them.
+fn asked(task: Task<'_>, search: &mut Search<'_>) -> u64 {
+    let left = search.give_back().saturating_add(task.budget / KEPT);
+    task.budget.saturating_sub(left)
+}
+
+/// The goals as claims.
+fn claims_of(alloc: Global, goals: &[Form]) -> Result<Vec<Claim>, Memory> {
+    let mut claims = Vec::with_capacity(alloc, goals.len())?;
+    for goal in goals {
+        claims.push(Claim::Invariance(goal.copy(alloc)?))?;
+    }
+    Ok(claims)
+}
+
+/// Looks for lemmas from which the goals follow, and then for the least proof.
+fn proved(
+    alloc: Global,
+    task: Task<'_>,
+    search: &mut Search<'_>,
+    given: Vec<Candidate>,
+    goals: &[Form],
+    claims: &[Claim],
+    naming: &mut Naming,
+) -> Result<Effort, CubeFault> {
+    let writer = task.subject.writer(alloc, search)?;
+    match sought(alloc, search, &writer, goals)? {
+        Some(tried) => Ok(Effort {
+            tried,
+            queries: asked(task, search),
+        }),
+        None => finished(alloc, task, search, &writer, given, claims, naming),
+    }
 }
 
 /// Tries to prove goals of invariance.
@@ -240,15 +226,7 @@ pub(crate) fn prove(
     goals: &[Form],
     naming: &mut Naming,
 ) -> Result<Effort, CubeFault> {
+    let claims = claims_of(alloc, goals)?;
     let (mut search, given) = begun(alloc, task, goals)?;
-    let writer = task.subject.writer(alloc, &search)?;
-    if let Some(tried) = sought(alloc, &mut search, &writer, goals)? {
-        let queries = search.counts().queries;
-        return Ok(Effort { tried, queries });
-    }
-    let mut claims = Vec::with_capacity(alloc, goals.len())?;
-    for goal in goals {
-        claims.push(Claim::Invariance(goal.copy(alloc)?))?;
-    }
-    finished(alloc, task, &mut search, &writer, given, &claims, naming)
+    proved(alloc, task, &mut search, given, goals, &claims, naming)
 }

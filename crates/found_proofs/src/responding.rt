@@ -1,24 +1,27 @@
 //! Responses: a chain is found, and then the least proof that it is one.
 
+use crate::candidates::Candidate;
+use crate::chain_rules::rule_text;
 use crate::claims::Claim;
 use crate::naming::Naming;
 use crate::proving::{Proof, Task, Tried, begun, finished};
-use crate::schedules::push_transition;
 use crate::subject::Subject;
-use control_cubes::CubeFault;
+use clause_texts::{ClauseFault, ClauseWriter};
+use control_cubes::{CubeFault, State};
 use find_requests::Leading;
-use response_search::{Chain, Setting, chain_for, learn};
+use invariant_search::Search;
+use response_search::{Chain, Setting, Sought, chain_for, learn};
 use st_form::{Form, Lin};
 use st_memory::Memory;
 use std::alloc::Global;
-use step_report::push_text;
 
 /// What came of a response.
 #[derive(Drop)]
 pub(crate) enum Responded {
     /// Its chain as a rule, with the bound in front, and the proof that it is one.
     Chained(Vec<u8>, Proof),
-    Unfound,
+    /// No chain was found; with a state in which nothing helps, as a formula, where one was shown.
+    Unfound(Option<Vec<u8>>),
 }
 
 /// What came of a response, and how many queries it took.
@@ -28,36 +31,17 @@ pub(crate) struct Response {
     pub(crate) queries: u64,
 }
 
-/// Whether so many rounds are at most what is allowed, as far as that is a number.
-fn is_allowed(most: Option<&Lin>, rounds: usize) -> bool {
+/// Whether a chain takes no more rounds than is allowed.
+fn is_allowed(
+    alloc: Global,
+    search: &mut Search<'_>,
+    chain: &Chain,
+    most: Option<&Lin>,
+) -> Result<bool, CubeFault> {
     match most {
-        Some(most) if most.entries().is_empty() => {
-            i128::try_from(rounds).is_ok_and(|rounds| rounds <= most.constant())
-        }
-        _ => true,
+        Some(most) => chain.is_within(alloc, search, most),
+        None => Ok(true),
     }
-}
-
-/// The bound and the chain as they stand behind the goal of a response.
-fn rule_text(alloc: Global, subject: &Subject, chain: &Chain) -> Result<Vec<u8>, Memory> {
-    let count = chain.items.len();
-    let head = format!(in alloc; "within {count} by chain [")?;
-    let mut out = Vec::from_slice(alloc, head.as_bytes())?;
-    for (number, item) in chain.items.iter().rev().enumerate() {
-        push_text(
-            &mut out,
-            if number == 0 {
-                b"\n  ".as_slice()
-            } else {
-                b";\n  ".as_slice()
-            },
-        )?;
-        push_text(&mut out, &item.text(alloc)?)?;
-        push_text(&mut out, b" helper ")?;
-        push_transition(subject, item.helper(), &mut out)?;
-    }
-    push_text(&mut out, b" ]")?;
-    Ok(out)
 }
 
 /// The formulas whose comparisons a chain may take: those of the response, and the known claims.
@@ -71,13 +55,91 @@ fn spoken_of(alloc: Global, task: Task<'_>, leading: &Leading) -> Result<Vec<For
     Ok(out)
 }
 
+/// A state as a formula, where it can be said.
+fn state_text(
+    alloc: Global,
+    subject: &Subject,
+    search: &Search<'_>,
+    writer: &ClauseWriter<'_>,
+    state: &State,
+) -> Result<Option<Vec<u8>>, Memory> {
+    let variables = subject.program.variables.as_slice();
+    match writer.state(alloc, search.layout(), variables, state) {
+        Ok(phrase) => Ok(Some(phrase.text)),
+        Err(ClauseFault::Unsaid) => Ok(None),
+        Err(ClauseFault::Memory) => Err(Memory),
+    }
+}
+
+/// That no chain was found.
+fn unfound(
+    alloc: Global,
+    subject: &Subject,
+    search: &Search<'_>,
+    writer: &ClauseWriter<'_>,
+    left: Option<State>,
+) -> Result<Response, Memory> {
+    let left = match left {
+        Some(state) => state_text(alloc, subject, search, writer, &state)?,
+        None => None,
+    };
+    Ok(Response {
+        responded: Responded::Unfound(left),
+        queries: search.counts().queries,
+    })
+}
+
 /// What came of a response whose chain is this rule, by what came of the proof that it is one.
 fn outcome_of(rule: Vec<u8>, tried: Tried) -> Responded {
     match tried {
         Tried::Proved(proof) => Responded::Chained(rule, proof),
-        Tried::Refuted(_goal, _run) => Responded::Unfound,
-        Tried::Unknown(_goal, _why, _left) => Responded::Unfound,
+        Tried::Refuted(_goal, _run) => Responded::Unfound(None),
+        Tried::Unknown(_goal, _why, _left) => Responded::Unfound(None),
     }
+}
+
+/// What the search finds for a response, behind the lemmas that it learns.
+fn sought(
+    alloc: Global,
+    subject: &Subject,
+    search: &mut Search<'_>,
+    writer: &ClauseWriter<'_>,
+    leading: &Leading,
+) -> Result<Sought, CubeFault> {
+    let variables = subject.program.variables.as_slice();
+    learn(alloc, search, variables)?;
+    let setting = Setting {
+        system: &subject.system,
+        components: &subject.components,
+        writer,
+    };
+    chain_for(
+        alloc,
+        search,
+        setting,
+        variables,
+        &leading.start,
+        &leading.goal,
+    )
+}
+
+/// The least proof that a chain is one.
+fn proved(
+    alloc: Global,
+    task: Task<'_>,
+    search: &mut Search<'_>,
+    writer: &ClauseWriter<'_>,
+    given: Vec<Candidate>,
+    chain: Chain,
+    naming: &mut Naming,
+) -> Result<Response, CubeFault> {
+    let rule = rule_text(alloc, task.subject, &chain)?;
+    let claims = vec![in alloc; Claim::Response(chain)]?;
+    let effort = finished(alloc, task, search, writer, given, &claims, naming)?;
+    Ok(Response {
+        queries: effort.queries,
+        responded: outcome_of(rule, effort.tried),
+    })
 }
 
 /// Tries to find a chain for a response.
@@ -91,35 +153,14 @@ pub(crate) fn respond(
     let spoken = spoken_of(alloc, task, leading)?;
     let (mut search, given) = begun(alloc, task, &spoken)?;
     let writer = subject.writer(alloc, &search)?;
-    let variables = subject.program.variables.as_slice();
-    learn(alloc, &mut search, variables)?;
-    let setting = Setting {
-        system: &subject.system,
-        components: &subject.components,
-        writer: &writer,
-    };
-    let chain = chain_for(
-        alloc,
-        &mut search,
-        setting,
-        variables,
-        &leading.start,
-        &leading.goal,
-    )?;
-    let queries = search.counts().queries;
-    let allowed = chain.filter(|chain| is_allowed(leading.most.as_ref(), chain.items.len()));
-    let Some(chain) = allowed else {
-        return Ok(Response {
-            responded: Responded::Unfound,
-            queries,
-        });
-    };
-    let rule = rule_text(alloc, subject, &chain)?;
-    let claims = vec![in alloc; Claim::Response(chain)]?;
-    let effort = finished(alloc, task, &mut search, &writer, given, &claims, naming)?;
-    let queries = effort.queries;
-    Ok(Response {
-        responded: outcome_of(rule, effort.tried),
-        queries,
-    })
+    match sought(alloc, subject, &mut search, &writer, leading)? {
+        Sought::Chain(chain) => {
+            if is_allowed(alloc, &mut search, &chain, leading.most.as_ref())? {
+                proved(alloc, task, &mut search, &writer, given, chain, naming)
+            } else {
+                Ok(unfound(alloc, subject, &search, &writer, None)?)
+            }
+        }
+        Sought::Left(left) => Ok(unfound(alloc, subject, &search, &writer, left)?),
+    }
 }

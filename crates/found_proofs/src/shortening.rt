@@ -39,6 +39,35 @@ fn by_cost(alloc: Global, candidates: &[Candidate], needs: &Needs) -> Result<Vec
     Ok(places)
 }
 
+/// What a proof uses without a candidate that it used, if the others suffice.
+fn without(
+    alloc: Global,
+    ground: &mut Ground<'_>,
+    claims: &[Claim],
+    needs: &Needs,
+    place: usize,
+) -> Result<Option<Needs>, CubeFault> {
+    let fewer = all_but(alloc, needs, place)?;
+    ground.needs(alloc, claims, &fewer, Some(needs))
+}
+
+/// What is left of what a proof uses once nothing can be left out.
+fn lessened(
+    alloc: Global,
+    ground: &mut Ground<'_>,
+    claims: &[Claim],
+    mut needs: Needs,
+) -> Result<Needs, CubeFault> {
+    for place in by_cost(alloc, &ground.candidates, &needs)? {
+        if is_used(&needs, place)
+            && let Some(less) = without(alloc, ground, claims, &needs, place)?
+        {
+            needs = less;
+        }
+    }
+    Ok(needs)
+}
+
 /// What a proof uses of the candidates from which no one can be left out; `None` where not even all are known to suffice.
 pub(crate) fn least_needs(
     alloc: Global,
@@ -46,17 +75,8 @@ pub(crate) fn least_needs(
     claims: &[Claim],
 ) -> Result<Option<Needs>, CubeFault> {
     let all = vec![in alloc; true; ground.candidates.len()]?;
-    let Some(mut needs) = ground.needs(alloc, claims, &all, None)? else {
-        return Ok(None);
-    };
-    for place in by_cost(alloc, &ground.candidates, &needs)? {
-        if !is_used(&needs, place) {
-            continue;
-        }
-        let fewer = all_but(alloc, &needs, place)?;
-        if let Some(less) = ground.needs(alloc, claims, &fewer, Some(&needs))? {
-            needs = less;
-        }
+    match ground.needs(alloc, claims, &all, None)? {
+        Some(needs) => Ok(Some(lessened(alloc, ground, claims, needs)?)),
+        None => Ok(None),
     }
-    Ok(Some(needs))
 }

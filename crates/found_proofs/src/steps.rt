@@ -168,6 +168,28 @@ fn other_half(
     Ok(None)
 }
 
+/// The clause of a candidate from a place on, with its other half if there is one, which is taken then.
+fn clause_at(
+    alloc: Global,
+    writer: &ClauseWriter<'_>,
+    candidate: &Candidate,
+    group: &[&Candidate],
+    from: usize,
+    taken: &mut [bool],
+) -> Result<Phrase, Memory> {
+    let half = match &candidate.cube {
+        Some(cube) => other_half(alloc, writer, cube, group, from, taken)?,
+        None => None,
+    };
+    let Some((other, phrase)) = half else {
+        return copied(alloc, &candidate.phrase);
+    };
+    if let Some(mark) = taken.get_mut(other) {
+        *mark = true;
+    }
+    Ok(phrase)
+}
+
 /// The clauses of candidates; two that are the halves of an equation are one.
 fn clauses(
     alloc: Global,
@@ -177,21 +199,9 @@ fn clauses(
     let mut out = Vec::new(alloc);
     let mut taken = vec![in alloc; false; group.len()]?;
     for (number, candidate) in group.iter().enumerate() {
-        if taken.get(number) == Some(&true) {
-            continue;
-        }
-        let half = match &candidate.cube {
-            Some(cube) => other_half(alloc, writer, cube, group, number.saturating_add(1), &taken)?,
-            None => None,
-        };
-        match half {
-            Some((other, phrase)) => {
-                if let Some(mark) = taken.get_mut(other) {
-                    *mark = true;
-                }
-                out.push(phrase)?;
-            }
-            None => out.push(copied(alloc, &candidate.phrase)?)?,
+        if taken.get(number) == Some(&false) {
+            let from = number.saturating_add(1);
+            out.push(clause_at(alloc, writer, candidate, group, from, &mut taken)?)?;
         }
     }
     Ok(out)

@@ -205,15 +205,26 @@ impl Search<'_> {
             top,
         };
         let first = queue.push(cube, None)?;
-        if let Some(end) = self.at_beginning(alloc, &queue, first, 0)? {
+        self.block_first(alloc, &mut queue, first)
+    }
+
+    /// Blocks the first cube of a queue up to its level, or finds a run into it.
+    fn block_first(
+        &mut self,
+        alloc: Global,
+        queue: &mut Queue,
+        first: u32,
+    ) -> Result<Blocking, CubeFault> {
+        if let Some(end) = self.at_beginning(alloc, queue, first, 0)? {
             return Ok(end);
         }
+        let top = queue.top;
         queue.wait(top, first)?;
         for _ in 0..MOST_ROUNDS {
             let Some((level, number)) = queue.waiting.pop_first() else {
                 return Ok(Blocking::Done);
             };
-            if let Some(end) = self.block_next(alloc, &mut queue, level, number)? {
+            if let Some(end) = self.block_next(alloc, queue, level, number)? {
                 return Ok(end);
             }
         }

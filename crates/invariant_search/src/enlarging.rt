@@ -56,15 +56,21 @@ fn stage_behind(stage: Stage) -> Stage {
     }
 }
 
-/// The rows over more than two variables, or the others, in the order in which they are left out: those over more variables first, then
-/// those that the program doesn't speak of, then those with larger constants.
-fn ranked_rows(alloc: Global, pool: &Pool, cube: &Cube, long: bool) -> Result<Vec<Lin>, Memory> {
+/// The rows over more than two variables, or the others.
+fn rows_of_length(alloc: Global, cube: &Cube, long: bool) -> Result<Vec<Lin>, Memory> {
     let mut rows = Vec::new(alloc);
     for row in &cube.rows {
         if (row.entries().len() > 2) == long {
             rows.push(row.copy(alloc)?)?;
         }
     }
+    Ok(rows)
+}
+
+/// The rows over more than two variables, or the others, in the order in which they are left out: those over more variables first, then
+/// those that the program doesn't speak of, then those with larger constants.
+fn ranked_rows(alloc: Global, pool: &Pool, cube: &Cube, long: bool) -> Result<Vec<Lin>, Memory> {
+    let mut rows = rows_of_length(alloc, cube, long)?;
     rows.sort_by_key(|row| {
         (
             Reverse(row.entries().len()),
@@ -114,13 +120,24 @@ impl Plan {
         Ok(())
     }
 
+    /// Lets constants of a row be tried.
+    fn push_constants_of(
+        &mut self,
+        alloc: Global,
+        row: &Lin,
+        constants: &[i128],
+    ) -> Result<(), Memory> {
+        for constant in constants {
+            let weaker = Enlargement::Constant(row.copy(alloc)?, *constant);
+            self.waiting.push_back(weaker)?;
+        }
+        Ok(())
+    }
+
     fn push_constants(&mut self, alloc: Global, pool: &Pool, cube: &Cube) -> Result<(), CubeFault> {
         for row in &cube.rows {
-            for constant in pool.weaker_constants(alloc, row)? {
-                let row = row.copy(alloc)?;
-                self.waiting
-                    .push_back(Enlargement::Constant(row, constant))?;
-            }
+            let constants = pool.weaker_constants(alloc, row)?;
+            self.push_constants_of(alloc, row, &constants)?;
         }
         Ok(())
     }
@@ -187,8 +204,9 @@ impl Plan {
             let Some(enlargement) = self.next_enlargement(alloc, layout, pool, cube)? else {
                 return Ok(None);
             };
-            if let Some(other) = enlarged(alloc, layout, cube, &enlargement)? {
-                return Ok(Some(other));
+            let other = enlarged_by(alloc, layout, cube, enlargement)?;
+            if other.is_some() {
+                return Ok(other);
             }
         }
         Ok(None)
@@ -203,24 +221,53 @@ fn enlarged(
     enlargement: &Enlargement,
 ) -> Result<Option<Cube>, CubeFault> {
     match enlargement {
-        Enlargement::Row(row) => {
-            if cube.size(layout) < 2 {
-                return Ok(None);
-            }
-            Ok(Some(cube.without_row(alloc, row)?))
-        }
+        Enlargement::Row(row) => without_row(alloc, layout, cube, row),
         Enlargement::Component(component) => {
-            let full = layout.full_of(*component);
-            Ok(Some(with_places(alloc, cube, *component, full)?))
+            with_places(alloc, cube, *component, layout.full_of(*component))
         }
-        Enlargement::Truth(variable) => Ok(Some(cube.without_truth(alloc, *variable)?)),
+        Enlargement::Truth(variable) => without_truth(alloc, cube, *variable),
         Enlargement::Constant(row, constant) => with_weaker(alloc, cube, row, *constant),
-        Enlargement::Place(component, number) => {
-            let held = cube.places_of(narrowed(*component));
-            let more = held.union(PlaceSet::one(*number));
-            Ok(Some(with_places(alloc, cube, *component, more)?))
-        }
+        Enlargement::Place(component, number) => with_place(alloc, cube, *component, *number),
     }
+}
+
+/// The cube with an enlargement that isn't needed any longer.
+fn enlarged_by(
+    alloc: Global,
+    layout: &Layout,
+    cube: &Cube,
+    enlargement: Enlargement,
+) -> Result<Option<Cube>, CubeFault> {
+    enlarged(alloc, layout, cube, &enlargement)
+}
+
+/// The cube without a row, where something else is left of it.
+fn without_row(
+    alloc: Global,
+    layout: &Layout,
+    cube: &Cube,
+    row: &Lin,
+) -> Result<Option<Cube>, CubeFault> {
+    if cube.size(layout) < 2 {
+        return Ok(None);
+    }
+    Ok(Some(cube.without_row(alloc, row)?))
+}
+
+/// The cube in which a boolean variable may have either value.
+fn without_truth(alloc: Global, cube: &Cube, variable: u32) -> Result<Option<Cube>, CubeFault> {
+    Ok(Some(cube.without_truth(alloc, variable)?))
+}
+
+/// The cube in which a component may be at one place more.
+fn with_place(
+    alloc: Global,
+    cube: &Cube,
+    component: usize,
+    number: u8,
+) -> Result<Option<Cube>, CubeFault> {
+    let held = cube.places_of(narrowed(component));
+    with_places(alloc, cube, component, held.union(PlaceSet::one(number)))
 }
 
 /// The cube with these places of a component.
@@ -229,10 +276,10 @@ fn with_places(
     cube: &Cube,
     component: usize,
     places: PlaceSet,
-) -> Result<Cube, CubeFault> {
+) -> Result<Option<Cube>, CubeFault> {
     let mut other = cube.copy(alloc)?;
     other.set_places(narrowed(component), places);
-    Ok(other)
+    Ok(Some(other))
 }
 
 /// The cube with a weaker constant of a row, where the row still has the constant that it had.

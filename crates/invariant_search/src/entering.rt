@@ -22,6 +22,24 @@ pub(crate) fn starts_within(setting: &Setting<'_>, cube: &Cube) -> bool {
     are_among(cube, &setting.first)
 }
 
+/// The states of the cube as one formula.
+fn within(alloc: Global, setting: &Setting<'_>, cube: &Cube) -> Result<SharedForm, CubeFault> {
+    let form = cube.form(alloc, setting.components, &setting.layout)?;
+    Ok(passing(alloc, form)?)
+}
+
+/// What is asked of the cube at the beginning: that a run begins in it.
+pub(crate) fn start_question(
+    alloc: Global,
+    setting: &Setting<'_>,
+    cube: &Cube,
+) -> Result<Vec<SharedForm>, CubeFault> {
+    let mut forms = Vec::with_capacity(alloc, 2)?;
+    forms.push(setting.initial.share()?)?;
+    forms.push(within(alloc, setting, cube)?)?;
+    Ok(forms)
+}
+
 /// Whether a mode changes nothing that the cube speaks of, and starts at its places: then it leads into the cube from within alone.
 fn is_idle(cube: &Cube, step: &Step<'_>) -> bool {
     if !are_among(cube, &step.before) {
@@ -78,43 +96,83 @@ fn truth_before(
     }
 }
 
-/// That the mode leads into the cube: the weakest precondition of the cube's literals (Hoare, An axiomatic basis for computer
-/// programming, 1969).
+/// What the cube says of boolean variables behind the mode.
+fn push_truths(
+    alloc: Global,
+    cube: &Cube,
+    step: &Step<'_>,
+    out: &mut Vec<Form>,
+) -> Result<(), CubeFault> {
+    for (variable, value) in &cube.truths {
+        out.push(truth_before(alloc, step, *variable, *value)?)?;
+    }
+    Ok(())
+}
+
+/// What the cube says of numbers behind the mode.
+fn push_rows(
+    alloc: Global,
+    cube: &Cube,
+    step: &Step<'_>,
+    out: &mut Vec<Form>,
+) -> Result<(), CubeFault> {
+    for row in &cube.rows {
+        out.push(Form::Row(row.replace(alloc, &step.change.numbers)?))?;
+    }
+    Ok(())
+}
+
+/// That the mode leads into the cube, part by part: the weakest precondition of the cube's literals (Hoare, An axiomatic basis for
+/// computer programming, 1969).
+fn push_precondition(
+    alloc: Global,
+    setting: &Setting<'_>,
+    cube: &Cube,
+    step: &Step<'_>,
+    out: &mut Vec<Form>,
+) -> Result<(), CubeFault> {
+    push_unmoved(alloc, setting, cube, step, out)?;
+    push_truths(alloc, cube, step, out)?;
+    push_rows(alloc, cube, step, out)
+}
+
+/// That the mode leads into the cube, as one formula.
 fn precondition(
     alloc: Global,
     setting: &Setting<'_>,
     cube: &Cube,
     step: &Step<'_>,
-) -> Result<Form, CubeFault> {
+) -> Result<SharedForm, CubeFault> {
     let mut parts = Vec::new(alloc);
-    push_unmoved(alloc, setting, cube, step, &mut parts)?;
-    for (variable, value) in &cube.truths {
-        parts.push(truth_before(alloc, step, *variable, *value)?)?;
-    }
-    for row in &cube.rows {
-        parts.push(Form::Row(row.replace(alloc, &step.change.numbers)?))?;
-    }
-    Ok(Form::And(parts))
+    push_precondition(alloc, setting, cube, step, &mut parts)?;
+    Ok(passing(alloc, Form::And(parts))?)
 }
 
-/// That the mode leads into the cube from outside it; `None` where its places alone say that it doesn't.
-fn before_cube(
+/// That control isn't where the cube says, or a variable isn't.
+fn outside(alloc: Global, setting: &Setting<'_>, cube: &Cube) -> Result<SharedForm, CubeFault> {
+    let clause = cube.clause(alloc, setting.components, &setting.layout)?;
+    Ok(passing(alloc, clause)?)
+}
+
+/// That the mode leads into the cube from outside it, which the places may say already.
+fn push_entry(
     alloc: Global,
     setting: &Setting<'_>,
     cube: &Cube,
     step: &Step<'_>,
-) -> Result<Option<Vec<SharedForm>>, CubeFault> {
-    if !are_among(cube, &step.behind) {
-        return Ok(None);
-    }
-    let mut forms = Vec::with_capacity(alloc, 4)?;
-    forms.push(step.enabled.share()?)?;
-    forms.push(passing(alloc, precondition(alloc, setting, cube, step)?)?)?;
+    out: &mut Vec<SharedForm>,
+) -> Result<(), CubeFault> {
+    out.push(step.enabled.share()?)?;
+    out.push(precondition(alloc, setting, cube, step)?)?;
     if are_among(cube, &step.before) {
-        let outside = cube.clause(alloc, setting.components, &setting.layout)?;
-        forms.push(passing(alloc, outside)?)?;
+        out.push(outside(alloc, setting, cube)?)?;
     }
-    Ok(Some(forms))
+    Ok(())
+}
+
+/// Whether the mode may lead into the cube from outside it, by its places and by what it changes.
+fn may_enter(cube: &Cube, step: &Step<'_>) -> bool {
+    !is_idle(cube, step) && are_among(cube, &step.behind)
 }
 
 /// What is asked of the mode with a number: that it leads into the cube from outside it, and for level 1 from a first state of runs;
@@ -129,12 +187,11 @@ pub(crate) fn entry_question(
     let Some(step) = setting.steps.get(number) else {
         return Ok(None);
     };
-    if is_idle(cube, step) {
+    if !may_enter(cube, step) {
         return Ok(None);
     }
-    let Some(mut forms) = before_cube(alloc, setting, cube, step)? else {
-        return Ok(None);
-    };
+    let mut forms = Vec::with_capacity(alloc, 4)?;
+    push_entry(alloc, setting, cube, step, &mut forms)?;
     if first {
         forms.push(setting.initial.share()?)?;
     }

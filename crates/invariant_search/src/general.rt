@@ -44,31 +44,68 @@ fn is_short(row: &Lin) -> bool {
     }
 }
 
-/// Adds the short rows that are the sum of two rows of the cube, one variable of which goes away (Fourier and Motzkin's elimination:
-/// Schrijver, Theory of Linear and Integer Programming, 1986, section 12.2).
-fn push_joined(alloc: Global, cube: &mut Cube) -> Result<(), CubeFault> {
-    let held = cube.copy(alloc)?;
-    for (place, one) in held.rows.iter().enumerate() {
-        for other in held.rows.iter().skip(place.saturating_add(1)) {
-            if cube.rows.len() <= MOST_ROWS && cancels(one, other) {
-                let sum = one.add(alloc, other)?;
-                if is_short(&sum) {
-                    cube.push_row(alloc, &sum)?;
-                }
-            }
+/// Adds the sum of two rows, if it is short.
+fn push_sum(alloc: Global, cube: &mut Cube, one: &Lin, other: &Lin) -> Result<(), CubeFault> {
+    let sum = one.add(alloc, other)?;
+    if is_short(&sum) {
+        cube.push_row(alloc, &sum)
+    } else {
+        Ok(())
+    }
+}
+
+/// Adds the short sums of a row and others that lose a variable.
+fn push_sums(alloc: Global, cube: &mut Cube, one: &Lin, others: &[Lin]) -> Result<(), CubeFault> {
+    for other in others {
+        if cube.rows.len() <= MOST_ROWS && cancels(one, other) {
+            push_sum(alloc, cube, one, other)?;
         }
     }
     Ok(())
 }
 
-/// The cube with rows that follow from two, and once more from those, and with all places that no chain of steps leads to.
-fn enriched(alloc: Global, cube: &Cube, dead: &[PlaceSet]) -> Result<Cube, CubeFault> {
-    let mut out = cube.copy(alloc)?;
-    push_joined(alloc, &mut out)?;
-    push_joined(alloc, &mut out)?;
-    for (set, more) in out.places.iter_mut().zip(dead) {
+/// The rows behind the one at a place.
+fn rows_behind(rows: &[Lin], place: usize) -> &[Lin] {
+    match rows.get(place.saturating_add(1)..) {
+        Some(others) => others,
+        None => &[],
+    }
+}
+
+/// Adds the short rows that are the sum of two of these rows, one variable of which goes away (Fourier and Motzkin's elimination:
+/// Schrijver, Theory of Linear and Integer Programming, 1986, section 12.2).
+fn push_all_sums(alloc: Global, cube: &mut Cube, rows: &[Lin]) -> Result<(), CubeFault> {
+    for (place, one) in rows.iter().enumerate() {
+        push_sums(alloc, cube, one, rows_behind(rows, place))?;
+    }
+    Ok(())
+}
+
+/// Adds the short rows that are the sum of two rows of the cube.
+fn push_joined(alloc: Global, cube: &mut Cube) -> Result<(), CubeFault> {
+    let held = cube.copy(alloc)?;
+    push_all_sums(alloc, cube, &held.rows)
+}
+
+/// Adds places to those of each component.
+fn add_places(places: &mut [PlaceSet], more: &[PlaceSet]) {
+    for (set, more) in places.iter_mut().zip(more) {
         *set = set.union(*more);
     }
+}
+
+/// Adds rows that follow from two, and once more from those, and all places that no chain of steps leads to.
+fn enrich(alloc: Global, cube: &mut Cube, dead: &[PlaceSet]) -> Result<(), CubeFault> {
+    push_joined(alloc, cube)?;
+    push_joined(alloc, cube)?;
+    add_places(&mut cube.places, dead);
+    Ok(())
+}
+
+/// The cube with rows that follow from its own, and with all places that no chain of steps leads to.
+fn enriched(alloc: Global, cube: &Cube, dead: &[PlaceSet]) -> Result<Cube, CubeFault> {
+    let mut out = cube.copy(alloc)?;
+    enrich(alloc, &mut out, dead)?;
     Ok(out)
 }
 

@@ -5,6 +5,7 @@ use crate::blocking::Blocking;
 use crate::lemma::{ALWAYS, Allowed};
 use crate::prover::passing;
 use crate::search::Search;
+use crate::step::Step;
 use control_cubes::{Cube, CubeFault, State, negation};
 use st_form::{Form, SharedForm};
 use st_memory::Memory;
@@ -17,17 +18,36 @@ const MOST_LEVELS: u32 = 100;
 /// As many states in which the goal is false are blocked on one level.
 const MOST_ROUNDS: u32 = 1_000_000;
 
+/// The value of the variable at a place in a state.
+fn datum_of(variable: &Variable, place: usize, state: &State) -> Datum {
+    if variable.truth {
+        Datum::Truth(state.truths.get(place) == Some(&true))
+    } else {
+        Datum::Number(state.numbers.get(place).copied().unwrap_or(0))
+    }
+}
+
 /// The values of the variables in a state.
 fn store_of(alloc: Global, variables: &[Variable], state: &State) -> Result<Vec<Datum>, Memory> {
     let mut store = Vec::with_capacity(alloc, variables.len())?;
     for (place, variable) in variables.iter().enumerate() {
-        if variable.truth {
-            store.push(Datum::Truth(state.truths.get(place) == Some(&true)))?;
-        } else {
-            store.push(Datum::Number(state.numbers.get(place).copied().unwrap_or(0)))?;
-        }
+        store.push(datum_of(variable, place, state))?;
     }
     Ok(store)
+}
+
+/// The moves of steps with these numbers.
+fn moves_of(alloc: Global, all: &[Step<'_>], numbers: &[u32]) -> Result<Vec<Move>, Memory> {
+    let mut moves = Vec::with_capacity(alloc, numbers.len())?;
+    for number in numbers {
+        if let Some(step) = all.get(*number as usize) {
+            moves.push(Move {
+                name: step.name,
+                mode: step.mode,
+            })?;
+        }
+    }
+    Ok(moves)
 }
 
 /// What a level comes to.
@@ -47,17 +67,18 @@ impl Search<'_> {
     fn run_of(&self, alloc: Global, state: &State, steps: &[u32]) -> Result<Run, Memory> {
         let setting = &self.solver.setting;
         let program: &Program = setting.program;
-        let store = store_of(alloc, &program.variables, state)?;
-        let mut moves = Vec::with_capacity(alloc, steps.len())?;
-        for number in steps {
-            if let Some(step) = setting.steps.get(*number as usize) {
-                moves.push(Move {
-                    name: step.name,
-                    mode: step.mode,
-                })?;
-            }
-        }
-        Ok(Run { store, moves })
+        Ok(Run {
+            store: store_of(alloc, &program.variables, state)?,
+            moves: moves_of(alloc, &setting.steps, steps)?,
+        })
+    }
+
+    /// Whether formulas are true in a first state.
+    fn first_denied(&mut self, alloc: Global, denied: &SharedForm) -> Result<Answer, CubeFault> {
+        let mut forms = Vec::with_capacity(alloc, 2)?;
+        forms.push(self.solver.setting.initial.share()?)?;
+        forms.push(denied.share()?)?;
+        self.solve(alloc, forms, Allowed::From(ALWAYS))
     }
 
     /// Whether the goal is false in a first state.
@@ -66,10 +87,7 @@ impl Search<'_> {
         alloc: Global,
         denied: &SharedForm,
     ) -> Result<Option<Outcome>, CubeFault> {
-        let mut forms = Vec::with_capacity(alloc, 2)?;
-        forms.push(self.solver.setting.initial.share()?)?;
-        forms.push(denied.share()?)?;
-        match self.solve(alloc, forms, Allowed::From(ALWAYS))? {
+        match self.first_denied(alloc, denied)? {
             Answer::Never(_) => Ok(None),
             Answer::State(state) => {
                 let run = self.run_of(alloc, &state, &[])?;
@@ -95,15 +113,41 @@ impl Search<'_> {
         denied: &SharedForm,
         top: u32,
     ) -> Result<Option<Level>, CubeFault> {
+        match self.denied_at(alloc, denied, top)? {
+            Answer::Never(_) => Ok(Some(Level::Closed)),
+            Answer::Unknown(why) => Ok(Some(Level::Over(unknown(why)))),
+            Answer::State(state) => self.block_state(alloc, goal, &state, top),
+        }
+    }
+
+    /// Whether the goal is false in a state of this level.
+    fn denied_at(
+        &mut self,
+        alloc: Global,
+        denied: &SharedForm,
+        top: u32,
+    ) -> Result<Answer, CubeFault> {
         let mut forms = Vec::with_capacity(alloc, 1)?;
         forms.push(denied.share()?)?;
-        let state = match self.solve(alloc, forms, Allowed::From(top))? {
-            Answer::Never(_) => return Ok(Some(Level::Closed)),
-            Answer::Unknown(why) => return Ok(Some(Level::Over(unknown(why)))),
-            Answer::State(state) => state,
-        };
-        let bad = self.bad_cube(alloc, goal, &state)?;
-        match self.block(alloc, bad, top)? {
+        self.solve(alloc, forms, Allowed::From(top))
+    }
+
+    /// Blocks a state in which the goal is false.
+    fn block_state(
+        &mut self,
+        alloc: Global,
+        goal: &Form,
+        state: &State,
+        top: u32,
+    ) -> Result<Option<Level>, CubeFault> {
+        let bad = self.bad_cube(alloc, goal, state)?;
+        let blocking = self.block(alloc, bad, top)?;
+        self.level_of(alloc, blocking)
+    }
+
+    /// What a level comes to by what became of a cube; `None` where it goes on.
+    fn level_of(&self, alloc: Global, blocking: Blocking) -> Result<Option<Level>, CubeFault> {
+        match blocking {
             Blocking::Done => Ok(None),
             Blocking::Run(state, steps) => {
                 let run = self.run_of(alloc, &state, &steps)?;
@@ -193,21 +237,48 @@ impl Search<'_> {
         Ok(false)
     }
 
-    /// The levels in turn.
-    pub(crate) fn all_levels(&mut self, alloc: Global, goal: &Form) -> Result<Outcome, CubeFault> {
-        let denied = passing(alloc, negation(alloc, goal.copy(alloc)?)?)?;
-        if let Some(outcome) = self.before_all(alloc, &denied)? {
+    /// What the search comes to at a level; `None` where it goes on to the next.
+    fn at_level(
+        &mut self,
+        alloc: Global,
+        goal: &Form,
+        denied: &SharedForm,
+        top: u32,
+    ) -> Result<Option<Outcome>, CubeFault> {
+        self.level = self.level.max(top);
+        match self.block_all(alloc, goal, denied, top)? {
+            Level::Over(outcome) => Ok(Some(outcome)),
+            Level::Closed => {
+                if self.push_all(alloc, top)? {
+                    Ok(Some(Outcome::Inductive))
+                } else {
+                    Ok(None)
+                }
+            }
+        }
+    }
+
+    /// The levels in turn, behind the first states of runs.
+    fn through_levels(
+        &mut self,
+        alloc: Global,
+        goal: &Form,
+        denied: &SharedForm,
+    ) -> Result<Outcome, CubeFault> {
+        if let Some(outcome) = self.before_all(alloc, denied)? {
             return Ok(outcome);
         }
         for top in 1..MOST_LEVELS {
-            self.level = self.level.max(top);
-            if let Level::Over(outcome) = self.block_all(alloc, goal, &denied, top)? {
+            if let Some(outcome) = self.at_level(alloc, goal, denied, top)? {
                 return Ok(outcome);
-            }
-            if self.push_all(alloc, top)? {
-                return Ok(Outcome::Inductive);
             }
         }
         Ok(unknown(Why::Levels))
+    }
+
+    /// The levels in turn.
+    pub(crate) fn all_levels(&mut self, alloc: Global, goal: &Form) -> Result<Outcome, CubeFault> {
+        let denied = passing(alloc, negation(alloc, goal.copy(alloc)?)?)?;
+        self.through_levels(alloc, goal, &denied)
     }
 }

@@ -48,12 +48,16 @@ impl Pool {
         if row.entries().is_empty() {
             return Ok(());
         }
-        let row = tidy(alloc, row)?;
-        if !self.knows(&row) {
-            let other = opposite(alloc, &row)?;
-            self.rows.push(row)?;
-            self.opposites.push(other)?;
+        self.push_tidy(alloc, tidy(alloc, row)?)
+    }
+
+    /// Takes a tidy row, unless it or its opposite stands there.
+    fn push_tidy(&mut self, alloc: Global, row: Lin) -> Result<(), CubeFault> {
+        if self.knows(&row) {
+            return Ok(());
         }
+        self.opposites.push(opposite(alloc, &row)?)?;
+        self.rows.push(row)?;
         Ok(())
     }
 
@@ -78,8 +82,7 @@ impl Pool {
         self.push_form(alloc, step.enabled.get())?;
         for (variable, row) in &step.change.numbers {
             if !row.entries().iter().any(|entry| entry.0 == *variable) {
-                let difference = Lin::variable(alloc, *variable)?.add(alloc, &row.negated(alloc)?)?;
-                self.push_both(alloc, &difference)?;
+                self.push_both(alloc, &difference(alloc, *variable, row)?)?;
             }
         }
         Ok(())
@@ -88,19 +91,32 @@ impl Pool {
     /// Takes of each row over one or two variables those that compare its form with 0, and of two also with 1.
     pub(crate) fn push_comparisons(&mut self, alloc: Global) -> Result<(), CubeFault> {
         for place in 0..self.rows.len() {
-            if let Some(row) = self.rows.get(place)
-                && row.entries().len() <= 2
-            {
-                let pair = row.entries().len() == 2;
-                let from_zero = with_constant(alloc, row, 0)?;
-                let from_one = with_constant(alloc, row, -1)?;
-                self.push_both(alloc, &from_zero)?;
-                if pair {
-                    self.push(alloc, &from_one)?;
-                }
-            }
+            self.push_from_zero(alloc, place)?;
+            self.push_from_one(alloc, place)?;
         }
         Ok(())
+    }
+
+    /// Takes those that compare the form of the row at a place with 0, if it is over one or two variables.
+    fn push_from_zero(&mut self, alloc: Global, place: usize) -> Result<(), CubeFault> {
+        match self.rows.get(place) {
+            Some(row) if row.entries().len() <= 2 => {
+                let other = with_constant(alloc, row, 0)?;
+                self.push_both(alloc, &other)
+            }
+            _ => Ok(()),
+        }
+    }
+
+    /// Takes the one that compares the form of the row at a place with 1, if it is over two variables.
+    fn push_from_one(&mut self, alloc: Global, place: usize) -> Result<(), CubeFault> {
+        match self.rows.get(place) {
+            Some(row) if row.entries().len() == 2 => {
+                let other = with_constant(alloc, row, -1)?;
+                self.push(alloc, &other)
+            }
+            _ => Ok(()),
+        }
     }
 
     /// The constants above its own of the rows that are parallel to one, the weakest first.
@@ -120,6 +136,12 @@ impl Pool {
         out.reverse();
         Ok(out)
     }
+}
+
+/// A variable less a form.
+fn difference(alloc: Global, variable: u32, form: &Lin) -> Result<Lin, CubeFault> {
+    let opposite = form.negated(alloc)?;
+    Ok(Lin::variable(alloc, variable)?.add(alloc, &opposite)?)
 }
 
 #[cycle(rows)]

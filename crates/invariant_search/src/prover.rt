@@ -3,7 +3,7 @@
 //! A question is the condition that the formulas imply `False`. One book is kept for all questions of a program, so that lists of
 //! conjuncts that come again aren't searched again.
 
-ghost use Rattle.std.specs.Prelude.{◌≡◌, ◌≤◌, true};
+ghost use Rattle.std.specs.Prelude.{◌≡◌, ◌≤◌, ◌+◌, true};
 ghost use Rattle.farkas_check.specs.Limits.{IsNarrow};
 ghost use Rattle.search_laws.specs.Searchable.{IsSearchable};
 ghost use Rattle.st_form.specs.Shared.{consequent_of};
@@ -96,27 +96,44 @@ fn places_of(alloc: Global, layout: &Layout, shown: &Shown) -> Result<Vec<u8>, M
     Ok(places)
 }
 
+/// The number of a datum; 0 where it is a truth value.
+fn number_of(datum: &Datum) -> i128 {
+    match datum {
+        Datum::Number(number) => *number,
+        Datum::Truth(_) => 0,
+    }
+}
+
+fn numbers_of(alloc: Global, store: &[Datum]) -> Result<Vec<i128>, Memory> {
+    let mut numbers = Vec::with_capacity(alloc, store.len())?;
+    for datum in store {
+        numbers.push(number_of(datum))?;
+    }
+    Ok(numbers)
+}
+
+/// The truth value of a datum; false where it is a number.
+fn truth_of(datum: &Datum) -> bool {
+    match datum {
+        Datum::Number(_) => false,
+        Datum::Truth(truth) => *truth,
+    }
+}
+
+fn truths_of(alloc: Global, store: &[Datum]) -> Result<Vec<bool>, Memory> {
+    let mut truths = Vec::with_capacity(alloc, store.len())?;
+    for datum in store {
+        truths.push(truth_of(datum))?;
+    }
+    Ok(truths)
+}
+
 /// A state that is shown.
 fn state_of(alloc: Global, layout: &Layout, shown: &Shown) -> Result<State, Memory> {
-    let places = places_of(alloc, layout, shown)?;
-    let mut numbers = Vec::with_capacity(alloc, shown.store.len())?;
-    let mut truths = Vec::with_capacity(alloc, shown.store.len())?;
-    for datum in &shown.store {
-        match datum {
-            Datum::Number(number) => {
-                numbers.push(*number)?;
-                truths.push(false)?;
-            }
-            Datum::Truth(truth) => {
-                numbers.push(0)?;
-                truths.push(*truth)?;
-            }
-        }
-    }
     Ok(State {
-        places,
-        numbers,
-        truths,
+        places: places_of(alloc, layout, shown)?,
+        numbers: numbers_of(alloc, &shown.store)?,
+        truths: truths_of(alloc, &shown.store)?,
     })
 }
 
@@ -220,6 +237,15 @@ impl<'a> Prover<'a> {
     /// How many questions were asked.
     pub(crate) fn queries(&self) -> u64 {
         self.queries
+    }
+
+    /// Gives back how many questions might still be asked. From then on none is.
+    pub(crate) fn give_back(&mut self) -> u64
+        ensures { result + self.new.budget ≡ self.old.budget }
+    {
+        let left = self.budget - self.queries;
+        self.budget = self.queries;
+        left
     }
 
     /// Whether the formulas that are given are true together. `TooLarge` where a number is too large to be asked for.

@@ -104,6 +104,11 @@ impl<'a> Search<'a> {
         }
     }
 
+    /// Gives back how many conditions might still be searched. From then on none is.
+    pub fn give_back(&mut self) -> u64 {
+        self.solver.give_back()
+    }
+
     /// Takes the rows of these formulas into the pool.
     pub fn use_rows_of(&mut self, alloc: Global, goals: &[Form]) -> Result<(), CubeFault> {
         self.pool.push_forms(alloc, goals)?;

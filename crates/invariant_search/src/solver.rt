@@ -1,12 +1,12 @@
 //! Questions about states in which lemmas hold, and about steps into cubes.
 
 use crate::answer::{Answer, Entry, Why};
-use crate::entering::{entry_question, starts_within};
+use crate::entering::{entry_question, start_question, starts_within};
 use crate::known::Known;
 use crate::lemma::{ALWAYS, Allowed, Lemma};
 use crate::moving::behind_step;
 use crate::posed::{Posed, after_asking, first_broken};
-use crate::prover::{Asked, Prover, narrowed, passing};
+use crate::prover::{Asked, Prover, narrowed};
 use crate::setting::Setting;
 use control_cubes::{Cube, CubeFault, State};
 use st_form::{Condition, SharedForm};
@@ -46,6 +46,10 @@ impl<'a> Solver<'a> {
         self.prover.queries()
     }
 
+    pub(crate) fn give_back(&mut self) -> u64 {
+        self.prover.give_back()
+    }
+
     /// Whether the formulas of a question are true together. A state that was found for another question may say so.
     fn ask(&mut self, alloc: Global, question: &Condition) -> Result<Asked, CubeFault> {
         let layout = &self.setting.layout;
@@ -53,10 +57,44 @@ impl<'a> Solver<'a> {
             return Ok(Asked::State(state.copy(alloc)?));
         }
         let asked = self.prover.ask(alloc, layout, question)?;
-        if let Asked::State(state) = &asked {
-            self.known.keep_state(state.copy(alloc)?)?;
-        }
+        self.keep_shown(alloc, &asked)?;
         Ok(asked)
+    }
+
+    /// Keeps a state that was shown.
+    fn keep_shown(&mut self, alloc: Global, asked: &Asked) -> Result<(), Memory> {
+        match asked {
+            Asked::State(state) => self.known.keep_state(state.copy(alloc)?),
+            Asked::Never | Asked::Unknown(_) => Ok(()),
+        }
+    }
+
+    /// Asks once, and gives the lemma that is broken if the state isn't one that is asked for.
+    fn ask_once(
+        &mut self,
+        alloc: Global,
+        lemmas: &[Lemma],
+        posed: &mut Posed,
+        allowed: Allowed<'_>,
+    ) -> Result<Option<Answer>, CubeFault> {
+        let asked = self.ask(alloc, &posed.condition)?;
+        Ok(after_asking(&self.setting, lemmas, allowed, posed, asked)?)
+    }
+
+    /// Asks as long as lemmas are to be given.
+    fn ask_all(
+        &mut self,
+        alloc: Global,
+        lemmas: &[Lemma],
+        posed: &mut Posed,
+        allowed: Allowed<'_>,
+    ) -> Result<Answer, CubeFault> {
+        for _ in 0..lemmas.len().saturating_add(2) {
+            if let Some(answer) = self.ask_once(alloc, lemmas, posed, allowed)? {
+                return Ok(answer);
+            }
+        }
+        Ok(Answer::Unknown(Why::Wide))
     }
 
     /// Whether the formulas are true together in a state where the lemmas hold that are allowed. Each round but the last gives a lemma
@@ -69,13 +107,7 @@ impl<'a> Solver<'a> {
         allowed: Allowed<'_>,
     ) -> Result<Answer, CubeFault> {
         let mut posed = Posed::new(alloc, forms)?;
-        for _ in 0..lemmas.len().saturating_add(2) {
-            let asked = self.ask(alloc, &posed.condition)?;
-            if let Some(answer) = after_asking(&self.setting, lemmas, allowed, &mut posed, asked)? {
-                return Ok(answer);
-            }
-        }
-        Ok(Answer::Unknown(Why::Wide))
+        self.ask_all(alloc, lemmas, &mut posed, allowed)
     }
 
     /// Whether a first state of runs is in the cube.
@@ -86,15 +118,18 @@ impl<'a> Solver<'a> {
         if !starts_within(&self.setting, cube) {
             return Ok(Answer::Never(Vec::new(alloc)));
         }
-        let mut forms = Vec::with_capacity(alloc, 2)?;
-        forms.push(self.setting.initial.share()?)?;
-        let form = cube.form(alloc, self.setting.components, &self.setting.layout)?;
-        forms.push(passing(alloc, form)?)?;
+        let forms = start_question(alloc, &self.setting, cube)?;
         let answer = self.solve(alloc, &[], forms, Allowed::From(ALWAYS))?;
-        if let Answer::State(state) = &answer {
-            self.known.keep_start(state.copy(alloc)?)?;
-        }
+        self.keep_first(alloc, &answer)?;
         Ok(answer)
+    }
+
+    /// Keeps a first state that was found.
+    fn keep_first(&mut self, alloc: Global, answer: &Answer) -> Result<(), Memory> {
+        match answer {
+            Answer::State(state) => self.known.keep_start(state.copy(alloc)?),
+            Answer::Never(_) | Answer::Unknown(_) => Ok(()),
+        }
     }
 
     /// Whether a state is among those that are reached by at most so many steps, as far as lemmas say.

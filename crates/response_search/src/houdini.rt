@@ -108,12 +108,15 @@ fn pairs(alloc: Global, search: &Search<'_>, literals: Vec<Cube>) -> Result<Vec<
     Ok(out)
 }
 
-/// A candidate that the search has for a lemma.
+/// A candidate that the search has for a lemma, and the lemmas because of which it was kept by each step when it was checked last, if it
+/// was.
 #[derive(Drop)]
 struct Tried {
     cube: Cube,
     number: u32,
     stands: bool,
+    checked: bool,
+    core: Vec<u32>,
 }
 
 /// Takes the cubes in which no run begins for lemmas.
@@ -131,6 +134,8 @@ fn taken(
                 cube,
                 number,
                 stands: true,
+                checked: false,
+                core: Vec::new(alloc),
             })?;
         }
     }
@@ -147,7 +152,24 @@ fn drop_broken(search: &mut Search<'_>, tried: &mut [Tried], state: &State) {
     }
 }
 
-/// Checks the candidate with a number once. Whether something was dropped.
+/// Whether a candidate is to be checked: it stands, and what it was kept because of doesn't, all of it.
+fn is_due(search: &Search<'_>, candidate: &Tried) -> bool {
+    let settled = candidate.checked
+        && candidate.core.iter().all(
+            |number| matches!(search.lemmas().get(*number as usize), Some(lemma) if lemma.stands),
+        );
+    candidate.stands && !settled
+}
+
+/// Remembers the lemmas because of which the candidate with a number is kept by each step.
+fn settle(tried: &mut [Tried], number: usize, core: Vec<u32>) {
+    if let Some(candidate) = tried.get_mut(number) {
+        candidate.checked = true;
+        candidate.core = core;
+    }
+}
+
+/// Checks the candidate with a number once, where that is due. Whether something was dropped.
 fn is_dropped(
     alloc: Global,
     search: &mut Search<'_>,
@@ -155,13 +177,16 @@ fn is_dropped(
     number: usize,
 ) -> Result<bool, CubeFault> {
     let entry = match tried.get(number) {
-        Some(candidate) if candidate.stands => {
+        Some(candidate) if is_due(search, candidate) => {
             search.cube_kept_by(alloc, &candidate.cube, Allowed::From(ALWAYS))?
         }
         _ => return Ok(false),
     };
     match entry {
-        Entry::Blocked(_) => Ok(false),
+        Entry::Blocked(core) => {
+            settle(tried, number, core);
+            Ok(false)
+        }
         Entry::Before(state, step) => {
             let behind = search.state_behind(alloc, &state, step)?;
             drop_one(search, tried, number);
@@ -221,12 +246,43 @@ fn learn_of(alloc: Global, search: &mut Search<'_>, cubes: Vec<Cube>) -> Result<
     Ok(())
 }
 
+/// Gives the search that a component is at none of some places to which control never comes.
+fn exclude(
+    alloc: Global,
+    search: &mut Search<'_>,
+    component: usize,
+    never: PlaceSet,
+) -> Result<(), CubeFault> {
+    if !never.is_empty()
+        && let Ok(number) = u32::try_from(component)
+    {
+        let mut cube = Cube::everything(alloc, search.layout())?;
+        cube.set_places(number, never);
+        search.add(alloc, cube, ALWAYS)?;
+    }
+    Ok(())
+}
+
+/// Gives the search that control comes to no place to which no chain of steps leads, since clauses and chains have to say nothing of such places then.
+fn exclude_dead(alloc: Global, search: &mut Search<'_>) -> Result<(), CubeFault> {
+    for component in 0..search.dead().len() {
+        let never = search
+            .dead()
+            .get(component)
+            .copied()
+            .unwrap_or(PlaceSet::EMPTY);
+        exclude(alloc, search, component, never)?;
+    }
+    Ok(())
+}
+
 /// Gives the search what is inductive of the clauses of one literal, alone or at one place or two.
 pub fn learn(
     alloc: Global,
     search: &mut Search<'_>,
     variables: &[Variable],
 ) -> Result<(), CubeFault> {
+    exclude_dead(alloc, search)?;
     let literals = literal_cubes(alloc, search, variables)?;
     let singles = singles(alloc, search, literals)?;
     learn_of(alloc, search, singles)?;

@@ -7,14 +7,24 @@
 #![tactic(auto)]
 
 mod bases;
+mod candidates;
 mod chain;
 mod cycles;
+mod edges;
+mod group_bases;
+mod groups;
+mod growth;
 mod houdini;
 mod items;
 mod literals;
+mod loops;
+mod measures;
+mod ranks;
+mod said;
 mod saturation;
 
 pub use bases::Setting;
-pub use chain::{Chain, ChainItem};
+pub use chain::{Chain, ChainItem, Measure};
+pub use growth::{Sought, chain_for};
 pub use houdini::learn;
-pub use saturation::chain_for;
+pub use ranks::Ranks;

@@ -1,109 +1,114 @@
-//! The saturation: valid items are added until the wait can begin nowhere else.
+//! A chain that grows: valid items are added until the wait can begin nowhere else.
 //!
-//! Candidates are a base with no, one or two literals. Those near to where the wait begins come first, and fewer literals before more. What
-//! fails by a step to some state is left alone until that state is in the chain. Before pairs of literals are tried, what is left may be
-//! something that never comes, which is a goal of invariance.
+//! Candidates that are near to where the wait begins come first, and fewer literals before more. What fails by a step to some state is left
+//! alone until that state is in the chain.
 
-use crate::bases::{Base, Setting, Wait, bases, both};
+use crate::bases::{Base, Setting};
+use crate::candidates::{Candidate, Width, widths};
 use crate::chain::{Chain, ChainItem, nearer};
-use crate::items::{Checked, Denied, Trial, check_item};
-use crate::literals::{Said, literals};
-use control_cubes::{CubeFault, State, negation};
-use invariant_search::{ALWAYS, Allowed, Answer, Outcome, Search};
-use st_form::{Form, SharedForm, Variable};
+use crate::groups::Opened;
+use crate::items::{Around, Astray, Group, Trial, item_astray};
+use crate::said::{Said, both_forms};
+use control_cubes::{CubeFault, State};
+use invariant_search::{ALWAYS, Allowed, Answer, Search};
+use st_form::{Form, SharedForm};
 use st_memory::Memory;
 use std::alloc::Global;
 use std::collections::BTreeMap;
 
-/// The most items.
-const MOST: usize = 60;
-
-/// Which literals a candidate has beside its base, by number.
-#[derive(Clone, Copy, PartialEq, Eq, PartialOrd, Ord)]
-enum Width {
-    None,
-    One(usize),
-    Two(usize, usize),
-}
-
-/// A candidate: the numbers of its base and of its literals.
-#[derive(Clone, Copy, PartialEq, Eq, PartialOrd, Ord)]
-struct Candidate {
-    base: usize,
-    width: Width,
-}
-
-/// Near bases first, and few literals first; pairs of literals last.
-const ROUNDS: [(bool, usize); 6] = [
-    (true, 0),
-    (true, 1),
-    (false, 0),
-    (false, 1),
-    (true, 2),
-    (false, 2),
-];
-
-/// What came of a round.
-#[derive(Clone, Copy, PartialEq, Eq)]
-enum Round {
-    /// An item was added.
-    Added,
-    /// The wait begins nowhere else, as was found.
-    Covered,
-    /// There is nothing to add.
-    Over,
-}
-
-/// All ways to take so many literals of a number of them.
-fn widths(alloc: Global, taken: usize, count: usize) -> Result<Vec<Width>, Memory> {
-    let mut out = Vec::new(alloc);
-    match taken {
-        0 => out.push(Width::None)?,
-        1 => {
-            for one in 0..count {
-                out.push(Width::One(one))?;
-            }
-        }
-        _ => {
-            for one in 0..count {
-                for other in 0..one {
-                    out.push(Width::Two(other, one))?;
-                }
-            }
-        }
-    }
-    Ok(out)
-}
-
 /// A chain that grows.
 #[derive(Drop)]
-struct Saturation<'s> {
-    setting: Setting<'s>,
-    start: &'s Form,
-    goal: &'s Form,
-    bases: Vec<Base>,
-    literals: Vec<Said>,
-    chain: Chain,
+pub(crate) struct Saturation<'s> {
+    pub(crate) setting: Setting<'s>,
+    pub(crate) start: &'s Form,
+    pub(crate) goal: &'s Form,
+    /// The bases of items that are in no group.
+    pub(crate) bases: Vec<Base>,
+    /// Where groups may wait, and for what: the helpers of these are compassionate.
+    pub(crate) regions: Vec<Base>,
+    pub(crate) literals: Vec<Said>,
+    pub(crate) chain: Chain,
     /// What failed: for good, or until a state is in the chain.
-    failed: BTreeMap<Candidate, Option<State>>,
+    pub(crate) failed: BTreeMap<Candidate, Option<State>>,
     /// Whether it was asked if what is left never comes.
-    asked: bool,
+    pub(crate) asked: bool,
+    /// The group that grows, if one does.
+    pub(crate) opened: Vec<Opened>,
+    /// How many regions were tried since the last item was added that is in no group.
+    pub(crate) tried: usize,
+    /// How many groups were opened.
+    pub(crate) groups: usize,
+}
+
+/// A candidate as an item: its text without what it says of variables, that, and what is to be checked.
+#[derive(Drop)]
+struct Proposed {
+    base: Vec<u8>,
+    tail: Vec<Said>,
+    trial: Trial,
+}
+
+/// Whether a candidate is an item, and if not, the state that has to be in the chain before it may be one.
+#[derive(Drop)]
+struct Judged {
+    valid: bool,
+    behind: Option<State>,
 }
 
 impl Saturation<'_> {
-    /// What a candidate says beside its base.
-    fn tail(&self, alloc: Global, width: Width) -> Result<Option<Said>, Memory> {
-        match width {
-            Width::None => Ok(None),
-            Width::One(one) => match self.literals.get(one) {
-                Some(said) => Ok(Some(both(alloc, None, said)?)),
-                None => Ok(None),
-            },
-            Width::Two(one, other) => match (self.literals.get(one), self.literals.get(other)) {
-                (Some(first), Some(second)) => Ok(Some(both(alloc, Some(first), second)?)),
-                _ => Ok(None),
-            },
+    /// The group that grows.
+    pub(crate) fn group(&self) -> Option<Group> {
+        self.opened.first().map(|opened| opened.group)
+    }
+
+    /// The bases that are tried now.
+    fn bases(&self) -> &[Base] {
+        match self.opened.first() {
+            Some(opened) => &opened.bases,
+            None => &self.bases,
         }
+    }
+
+    /// Appends the literal with a number.
+    fn push_literal(
+        &self,
+        alloc: Global,
+        number: usize,
+        out: &mut Vec<Said>,
+    ) -> Result<(), Memory> {
+        if let Some(literal) = self.literals.get(number) {
+            let said = match out.pop() {
+                Some(before) => before.and(alloc, literal)?,
+                None => literal.copy(alloc)?,
+            };
+            out.push(said)?;
+        }
+        Ok(())
+    }
+
+    /// What a candidate says beside its base, as one; nothing where that is nothing.
+    fn tail(&self, alloc: Global, width: Width) -> Result<Vec<Said>, Memory> {
+        let mut out = Vec::new(alloc);
+        match width {
+            Width::None => {}
+            Width::One(one) => self.push_literal(alloc, one, &mut out)?,
+            Width::Two(one, other) => {
+                self.push_literal(alloc, one, &mut out)?;
+                self.push_literal(alloc, other, &mut out)?;
+            }
+        }
+        Ok(out)
+    }
+
+    /// Whether a state is in the goal or in the chain.
+    fn has(&self, search: &Search<'_>, state: &State) -> bool {
+        let layout = search.layout();
+        state.satisfies(layout, self.goal)
+            || self
+                .chain
+                .items
+                .iter()
+                .any(|item| state.satisfies(layout, item.trial.form.get()))
     }
 
     /// Whether a candidate that failed is to be left alone.
@@ -111,79 +116,147 @@ impl Saturation<'_> {
         match self.failed.get(&candidate) {
             None => false,
             Some(None) => true,
-            Some(Some(state)) => {
-                let layout = search.layout();
-                !state.satisfies(layout, self.goal)
-                    && !self
-                        .chain
-                        .items
-                        .iter()
-                        .any(|item| state.satisfies(layout, &item.form))
-            }
+            Some(Some(state)) => !self.has(search, state),
         }
     }
 
     /// Whether some state is in the formula and neither in the goal nor in the chain.
-    fn adds(
+    pub(crate) fn adds(
         &self,
         alloc: Global,
         search: &mut Search<'_>,
         form: &SharedForm,
     ) -> Result<bool, CubeFault> {
-        let mut forms = Vec::new(alloc);
-        forms.push(form.share()?)?;
-        forms.push(self.chain.goal.here.share()?)?;
-        for item in &self.chain.items {
-            forms.push(item.trial.denied.here.share()?)?;
-        }
-        let answer = search.solve(alloc, forms, Allowed::From(ALWAYS))?;
+        let gap = self.chain.gap(alloc, form)?;
+        let answer = search.solve(alloc, gap, Allowed::From(ALWAYS))?;
         Ok(matches!(answer, Answer::State(_)))
     }
 
-    /// Checks an item in front of the first ones of the chain.
+    /// Checks an item behind the first ones of the chain.
     fn checked(
         &self,
         alloc: Global,
         search: &mut Search<'_>,
         trial: &Trial,
         number: usize,
-    ) -> Result<Checked, CubeFault> {
+    ) -> Result<Option<Astray>, CubeFault> {
         let nearer = nearer(alloc, &self.chain.items, number)?;
-        check_item(
+        let mut group = Vec::new(alloc);
+        for opened in &self.opened {
+            group.push(&opened.denied)?;
+        }
+        let around = Around {
+            goal: &self.chain.goal,
+            nearer: &nearer,
+            group: &group,
+        };
+        let mut used = Vec::new(alloc);
+        let system = self.setting.system;
+        item_astray(
             alloc,
             search,
-            self.setting.system,
+            system,
             trial,
-            &self.chain.goal,
-            &nearer,
+            around,
             Allowed::From(ALWAYS),
+            &mut used,
         )
     }
 
-    /// Joins a candidate to an item with its base, where both together are valid in that item's place.
-    fn is_joined(
+    /// A candidate as an item; nothing where its base has no number.
+    fn proposed(
+        &self,
+        alloc: Global,
+        search: &Search<'_>,
+        candidate: Candidate,
+        out: &mut Vec<Proposed>,
+    ) -> Result<(), CubeFault> {
+        if let Some(base) = self.bases().get(candidate.base) {
+            let tail = self.tail(alloc, candidate.width)?;
+            let form = match tail.first() {
+                Some(tail) => base.said.and(alloc, tail)?.form,
+                None => base.said.form.share()?,
+            };
+            let trial = Trial::new(alloc, search, form, base.helper, self.group())?;
+            out.push(Proposed {
+                base: Vec::from_slice(alloc, &base.said.text)?,
+                tail,
+                trial,
+            })?;
+        }
+        Ok(())
+    }
+
+    /// Judges an item that would be the farthest.
+    fn judged(
+        &self,
+        alloc: Global,
+        search: &mut Search<'_>,
+        trial: &Trial,
+    ) -> Result<Judged, CubeFault> {
+        if !self.adds(alloc, search, &trial.form)? {
+            return Ok(Judged {
+                valid: false,
+                behind: None,
+            });
+        }
+        let found = self.checked(alloc, search, trial, self.chain.items.len())?;
+        Ok(Judged {
+            valid: found.is_none(),
+            behind: state_behind(alloc, search, found)?,
+        })
+    }
+
+    /// Whether the item with a number has the helper, the group and the text of another, and says something of variables.
+    fn may_join(&self, number: usize, proposed: &Proposed) -> bool {
+        match self.chain.items.get(number) {
+            Some(item) => {
+                item.trial.helper == proposed.trial.helper
+                    && item.trial.group == proposed.trial.group
+                    && item.base.as_slice() == proposed.base.as_slice()
+                    && !item.cases.is_empty()
+            }
+            None => false,
+        }
+    }
+
+    /// The item with a number and another as one.
+    fn joint(
+        &self,
+        alloc: Global,
+        search: &Search<'_>,
+        number: usize,
+        proposed: &Proposed,
+        out: &mut Vec<Trial>,
+    ) -> Result<(), CubeFault> {
+        if let Some(item) = self.chain.items.get(number) {
+            let one = item.trial.form.get();
+            let parts = both_forms(alloc, one, proposed.trial.form.get())?;
+            let form = SharedForm::new(alloc, Form::Or(parts), 0)?;
+            let (helper, group) = (proposed.trial.helper, proposed.trial.group);
+            out.push(Trial::new(alloc, search, form, helper, group)?)?;
+        }
+        Ok(())
+    }
+
+    /// Joins an item to the one with a number, where both together are valid in its place.
+    fn is_joined_to(
         &mut self,
         alloc: Global,
         search: &mut Search<'_>,
-        base: &[u8],
-        tail: &Said,
-        form: &Form,
-        helper: u32,
+        number: usize,
+        proposed: &Proposed,
     ) -> Result<bool, CubeFault> {
-        for number in 0..self.chain.items.len() {
-            let Some(item) = self.chain.items.get(number) else {
-                continue;
-            };
-            if item.helper() != helper || item.base.as_slice() != base || item.cases.is_empty() {
-                continue;
-            }
-            let both = Form::Or(vec![in alloc; item.form.copy(alloc)?, form.copy(alloc)?]?);
-            let trial = Trial::new(alloc, search, &both, helper)?;
-            if let Checked::Valid(_) = self.checked(alloc, search, &trial, number)?
+        let mut joint = Vec::new(alloc);
+        self.joint(alloc, search, number, proposed, &mut joint)?;
+        for trial in joint {
+            let found = self.checked(alloc, search, &trial, number)?;
+            if found.is_none()
                 && let Some(item) = self.chain.items.get_mut(number)
             {
-                item.take_case(alloc, tail)?;
-                item.form = both;
+                for said in &proposed.tail {
+                    item.take_case(alloc, said)?;
+                }
                 item.trial = trial;
                 return Ok(true);
             }
@@ -191,29 +264,44 @@ impl Saturation<'_> {
         Ok(false)
     }
 
-    /// Adds a valid candidate to the chain.
+    /// Joins an item to an earlier one, where that can be done.
+    fn is_joined(
+        &mut self,
+        alloc: Global,
+        search: &mut Search<'_>,
+        proposed: &Proposed,
+    ) -> Result<bool, CubeFault> {
+        if proposed.tail.is_empty() {
+            return Ok(false);
+        }
+        for number in 0..self.chain.items.len() {
+            if self.may_join(number, proposed)
+                && self.is_joined_to(alloc, search, number, proposed)?
+            {
+                return Ok(true);
+            }
+        }
+        Ok(false)
+    }
+
+    /// Adds an item that is valid.
     fn add(
         &mut self,
         alloc: Global,
         search: &mut Search<'_>,
-        base: Vec<u8>,
-        tail: Option<Said>,
-        form: Form,
-        trial: Trial,
+        proposed: Proposed,
     ) -> Result<(), CubeFault> {
-        let mut cases = Vec::new(alloc);
-        if let Some(tail) = tail {
-            if self.is_joined(alloc, search, &base, &tail, &form, trial.helper)? {
-                return Ok(());
+        if !self.is_joined(alloc, search, &proposed)? {
+            let mut cases = Vec::new(alloc);
+            for said in proposed.tail {
+                cases.push(said.text)?;
             }
-            cases.push(tail.text)?;
+            self.chain.items.push(ChainItem {
+                base: proposed.base,
+                cases,
+                trial: proposed.trial,
+            })?;
         }
-        self.chain.items.push(ChainItem {
-            base,
-            cases,
-            form,
-            trial,
-        })?;
         Ok(())
     }
 
@@ -224,149 +312,91 @@ impl Saturation<'_> {
         search: &mut Search<'_>,
         candidate: Candidate,
     ) -> Result<bool, CubeFault> {
-        let Some(base) = self.bases.get(candidate.base) else {
-            return Ok(false);
-        };
-        let tail = self.tail(alloc, candidate.width)?;
-        let form = match &tail {
-            Some(tail) => both(alloc, Some(&base.said), tail)?.form,
-            None => base.said.form.copy(alloc)?,
-        };
-        let (helper, text) = (base.helper, Vec::from_slice(alloc, &base.said.text)?);
-        let trial = Trial::new(alloc, search, &form, helper)?;
-        if !self.adds(alloc, search, &trial.form)? {
-            self.failed.insert(candidate, None)?;
-            return Ok(false);
+        let mut all = Vec::new(alloc);
+        self.proposed(alloc, search, candidate, &mut all)?;
+        for proposed in all {
+            let judged = self.judged(alloc, search, &proposed.trial)?;
+            if judged.valid {
+                self.add(alloc, search, proposed)?;
+                return Ok(true);
+            }
+            self.failed.insert(candidate, judged.behind)?;
         }
-        match self.checked(alloc, search, &trial, self.chain.items.len())? {
-            Checked::Valid(_) => {
-                self.add(alloc, search, text, tail, form, trial)?;
-                Ok(true)
+        Ok(false)
+    }
+
+    /// Adds the first candidate of a base that can be added.
+    fn grows_at(
+        &mut self,
+        alloc: Global,
+        search: &mut Search<'_>,
+        base: usize,
+        widths: &[Width],
+    ) -> Result<bool, CubeFault> {
+        for width in widths {
+            let candidate = Candidate {
+                base,
+                width: *width,
+            };
+            if !self.is_left_alone(search, candidate) && self.is_added(alloc, search, candidate)? {
+                return Ok(true);
             }
-            Checked::Leads(state, step) => {
-                let behind = search.state_behind(alloc, &state, step)?;
-                self.failed.insert(candidate, behind)?;
-                Ok(false)
-            }
-            Checked::Open => {
-                self.failed.insert(candidate, None)?;
-                Ok(false)
-            }
+        }
+        Ok(false)
+    }
+
+    /// Whether the base with a number is near, or isn't, as is asked.
+    fn is_of(&self, base: usize, near: bool) -> bool {
+        match self.bases().get(base) {
+            Some(found) => found.near == near,
+            None => false,
         }
     }
 
-    /// Whether what the chain leaves never comes, asked once as a goal of invariance.
-    fn never_comes(&mut self, alloc: Global, search: &mut Search<'_>) -> Result<bool, CubeFault> {
-        if self.asked || self.chain.items.is_empty() {
-            return Ok(false);
-        }
-        self.asked = true;
-        let mut parts = Vec::new(alloc);
-        parts.push(negation(alloc, self.start.copy(alloc)?)?)?;
-        parts.push(self.goal.copy(alloc)?)?;
-        for item in &self.chain.items {
-            parts.push(item.form.copy(alloc)?)?;
-        }
-        let outcome = search.ic3(alloc, &Form::Or(parts))?;
-        search.drop_bounded();
-        match outcome {
-            Outcome::Inductive => self.is_covered(alloc, search),
-            Outcome::Refuted(_) | Outcome::Unknown { .. } => Ok(false),
-        }
-    }
-
-    fn is_covered(&self, alloc: Global, search: &mut Search<'_>) -> Result<bool, CubeFault> {
-        Ok(
-            self.chain
-                .covered(alloc, search, Allowed::From(ALWAYS))?
-                .is_some(),
-        )
-    }
-
-    /// Adds the first candidate that can be added.
-    fn round(&mut self, alloc: Global, search: &mut Search<'_>) -> Result<Round, CubeFault> {
-        for (near, taken) in ROUNDS {
-            if taken == 2 && self.never_comes(alloc, search)? {
-                return Ok(Round::Covered);
-            }
-            let widths = widths(alloc, taken, self.literals.len())?;
-            for base in 0..self.bases.len() {
-                if !matches!(self.bases.get(base), Some(found) if found.near == near) {
-                    continue;
-                }
-                for width in &widths {
-                    let candidate = Candidate {
-                        base,
-                        width: *width,
-                    };
-                    if !self.is_left_alone(search, candidate)
-                        && self.is_added(alloc, search, candidate)?
-                    {
-                        return Ok(Round::Added);
-                    }
-                }
+    /// Adds the first candidate with so many literals that can be added.
+    fn grows_by(
+        &mut self,
+        alloc: Global,
+        search: &mut Search<'_>,
+        near: bool,
+        taken: usize,
+    ) -> Result<bool, CubeFault> {
+        let widths = widths(alloc, taken, self.literals.len())?;
+        for base in 0..self.bases().len() {
+            if self.is_of(base, near) && self.grows_at(alloc, search, base, &widths)? {
+                return Ok(true);
             }
         }
-        Ok(Round::Over)
+        Ok(false)
+    }
+
+    /// Adds the first candidate of these rounds that can be added.
+    pub(crate) fn grows(
+        &mut self,
+        alloc: Global,
+        search: &mut Search<'_>,
+        rounds: &[(bool, usize)],
+    ) -> Result<bool, CubeFault> {
+        for (near, taken) in rounds {
+            if self.grows_by(alloc, search, *near, *taken)? {
+                return Ok(true);
+            }
+        }
+        Ok(false)
     }
 }
 
-/// The chain without the items, from the farthest on, that it is one without.
-fn pruned(
+/// The state to which what was found leads astray, if one was shown.
+fn state_behind(
     alloc: Global,
-    search: &mut Search<'_>,
-    setting: Setting<'_>,
-    mut chain: Chain,
-) -> Result<Chain, CubeFault> {
-    let mut number = chain.items.len();
-    for _ in 0..chain.items.len() {
-        number = number.saturating_sub(1);
-        if number >= chain.items.len() {
-            continue;
-        }
-        let item = chain.items.remove(number);
-        let kept = chain.kept_by(alloc, search, setting.system, Allowed::From(ALWAYS))?;
-        if kept.is_none() && number <= chain.items.len() {
-            chain.items.insert(number, item)?;
-        }
-    }
-    Ok(chain)
-}
-
-/// A chain for the response from `start` to `goal`, by the lemmas of the search that hold always, to which it may add some; `None` where
-/// none is found.
-pub fn chain_for(
-    alloc: Global,
-    search: &mut Search<'_>,
-    setting: Setting<'_>,
-    variables: &[Variable],
-    start: &Form,
-    goal: &Form,
-) -> Result<Option<Chain>, CubeFault> {
-    let wait = Wait::of(alloc, search, start)?;
-    let mut saturation = Saturation {
-        setting,
-        start,
-        goal,
-        bases: bases(alloc, setting, search, &wait)?,
-        literals: literals(alloc, setting.writer, variables, search.pool())?,
-        chain: Chain {
-            start: SharedForm::new(alloc, start.copy(alloc)?, 0)?,
-            goal: Denied::of(alloc, search, goal)?,
-            items: Vec::new(alloc),
+    search: &Search<'_>,
+    found: Option<Astray>,
+) -> Result<Option<State>, CubeFault> {
+    match found {
+        Some(astray) => match &astray.from {
+            Some(state) => search.state_behind(alloc, state, astray.step),
+            None => Ok(None),
         },
-        failed: BTreeMap::new(alloc),
-        asked: false,
-    };
-    for _ in 0..MOST {
-        let covered = match saturation.round(alloc, search)? {
-            Round::Added => saturation.is_covered(alloc, search)?,
-            Round::Covered => true,
-            Round::Over => return Ok(None),
-        };
-        if covered {
-            return Ok(Some(pruned(alloc, search, setting, saturation.chain)?));
-        }
+        None => Ok(None),
     }
-    Ok(None)
 }

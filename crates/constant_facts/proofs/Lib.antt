@@ -1,0 +1,4 @@
+pub mod Loops
+pub mod Settling
+pub mod Sound
+pub mod Greater

@@ -1,0 +1,4 @@
+pub mod Numerals
+pub mod Elements
+pub mod NodeLaws
+pub mod LineLaws

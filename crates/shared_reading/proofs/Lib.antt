@@ -1,0 +1,4 @@
+pub mod Splitting
+pub mod Loops
+pub mod Values
+pub mod Placing

@@ -1,0 +1,9 @@
+pub mod Keeping
+pub mod Deciding
+pub mod Placing
+pub mod Unfolding
+pub mod ReadNodes
+pub mod Knowing
+pub mod Closing
+pub mod Starting
+pub mod Lending

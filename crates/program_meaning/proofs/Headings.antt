@@ -1,7 +1,7 @@
 -- What the walk makes of declarations and processes is what they stand for.
 use Rattle.std.proofs.Common.{◌≡◌, ℕ, suc, ◌+◌, Bool, nat_lt, List, [], ◌∷◌, ◌++◌, map, length, take, append-nil, append_assoc, refl, sym, ap, subst, ◌∙◌, arith, Option, Some, None}
 use Rattle.std.specs.Prelude.{flat_map}
-use Rattle.std.proofs.lemmas.List.{length-map, length-append}
+use Rattle.std.proofs.lemmas.List.{length-map, length-append, map-append}
 use Rattle.st_form.specs.Formula.{Formula}
 use Rattle.st_form.specs.declared.variables.Variable.{Variable}
 use Rattle.st_reading.specs.Reading.{Label}
@@ -23,10 +23,6 @@ use Rattle.program_meaning.proofs.Parts.{test_means}
 use Rattle.program_meaning.proofs.Walked.{entries, Meant, body_means}
 
 -- LISTS
-pub map_append : {A B : Type 0} (f : A → B) (xs ys : List A) → map f (xs ++ ys) ≡ map f xs ++ map f ys
-map_append f [] ys = refl
-map_append f (x ∷ xs) ys = ap (λ zs. f x ∷ zs) (map_append f xs ys)
-
 known_append : (n : ℕ) (vs ws : List Declared) → known n (vs ++ ws) ≡ known n vs ++ known (n + length vs) ws
 known_append n [] ws = ap (λ m. known m ws) (plus_zero n)
   where
@@ -118,8 +114,8 @@ grown_both h k l vs ws fs gs a b = record {
       ∙ ap (λ n. (h.scope ++ known (length h.variables) vs) ++ known n ws) (counted h.variables k.variables vs a.variables)
       ∙ append_assoc h.scope (known (length h.variables) vs) (known (length h.variables + length vs) ws)
       ∙ ap (λ s. h.scope ++ s) (sym (known_append (length h.variables) vs ws));
-  variables = b.variables ∙ ap (λ s. s ++ map (λ v. v.1) ws) a.variables ∙ append_assoc h.variables (map (λ v. v.1) vs) (map (λ v. v.1) ws) ∙ ap (λ s. h.variables ++ s) (sym (map_append (λ v. v.1) vs ws));
-  names = b.names ∙ ap (λ s. s ++ map variable_entry ws) a.names ∙ append_assoc h.state.names (map variable_entry vs) (map variable_entry ws) ∙ ap (λ s. h.state.names ++ s) (sym (map_append variable_entry vs ws));
+  variables = b.variables ∙ ap (λ s. s ++ map (λ v. v.1) ws) a.variables ∙ append_assoc h.variables (map (λ v. v.1) vs) (map (λ v. v.1) ws) ∙ ap (λ s. h.variables ++ s) (sym (map-append (λ v. v.1) vs ws));
+  names = b.names ∙ ap (λ s. s ++ map variable_entry ws) a.names ∙ append_assoc h.state.names (map variable_entry vs) (map variable_entry ws) ∙ ap (λ s. h.state.names ++ s) (sym (map-append variable_entry vs ws));
   initial = b.initial ∙ ap (λ s. s ++ gs) a.initial ∙ append_assoc h.initial fs gs;
   processes = b.processes ∙ a.processes;
 }
@@ -277,7 +273,7 @@ grew : {A : Type 0} (a b c xs ys : List A) → b ≡ a ++ xs → c ≡ b ++ ys �
 grew a b c xs ys e f = f ∙ ap (λ z. z ++ ys) e ∙ append_assoc a xs ys
 
 grew_map : {A B : Type 0} (f : A → B) (a b c : List B) (xs ys : List A) → b ≡ a ++ map f xs → c ≡ b ++ map f ys → c ≡ a ++ map f (xs ++ ys)
-grew_map f a b c xs ys e g = grew a b c (map f xs) (map f ys) e g ∙ ap (λ z. a ++ z) (sym (map_append f xs ys))
+grew_map f a b c xs ys e g = grew a b c (map f xs) (map f ys) e g ∙ ap (λ z. a ++ z) (sym (map-append f xs ys))
 
 joins_more : (h k l : Heading) (q : raw.Process) (qs : List raw.Process) → Joined h k q → Joins k l qs → Joins h l (q ∷ qs)
 joins_more h k l q qs a b = record {

@@ -1,10 +1,10 @@
 -- Occurrences and locations by recursion, so that trees of one shape that are numbered in the order of the text are the same.
 use Rattle.std.proofs.Common.{◌≡◌, ℕ, suc, ◌+◌, List, [], ◌∷◌, ◌++◌, map, length, slice_get, refl, ap, subst, ◌∙◌, arith, Option, Some, None}
+use Rattle.std.proofs.lemmas.List.{map-append}
 use Rattle.st_program.specs.Tree.{Statement, stated, Action, skip, critical, noncritical, assign, await, request, release, if_then, if_else, while_do, block, select, cooperate, group, Statements, no_statement, statement, process, Processes, no_process, beside, occurrence}
 use Rattle.st_program.specs.Spots.{Spot, entry, bodies, bodies_in, spots, spots_within, spots_along, spots_among, spots_inside, all_spots, IsNumbered}
 use Rattle.st_program.specs.Locations.{location_end, IsPlaced, HeadPlaced, AlongPlaced, AmongPlaced}
 use Rattle.spl_typer.proofs.Holding.{own_or, begun}
-use Rattle.program_meaning.proofs.Headings.{map_append}
 
 -- OCCURRENCES
 abbrev mutual
@@ -33,7 +33,7 @@ abbrev occurrence_at : Spot → ℕ
 occurrence_at x = occurrence x.stmt
 
 joined : (xs ys : List Spot) (os ps : List ℕ) → map occurrence_at xs ≡ os → map occurrence_at ys ≡ ps → map occurrence_at (xs ++ ys) ≡ os ++ ps
-joined xs ys os ps e f = map_append occurrence_at xs ys ∙ ap (λ z. z ++ map occurrence_at ys) e ∙ ap (λ z. os ++ z) f
+joined xs ys os ps e f = map-append occurrence_at xs ys ∙ ap (λ z. z ++ map occurrence_at ys) e ∙ ap (λ z. os ++ z) f
 
 mutual
   spots_listed : (x : Statement) (next c : ℕ) → map occurrence_at (spots x next c) ≡ occs x

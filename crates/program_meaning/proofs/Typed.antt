@@ -1,5 +1,6 @@
 -- What typing gives is what the tree stands for.
 use Rattle.std.proofs.Common.{◌≡◌, ℕ, ◌+◌, Bool, true, false, cond, List, [], ◌∷◌, ◌++◌, map, length, append-nil, append_assoc, refl, sym, ap, subst, ◌∙◌, arith, Ok, Err}
+use Rattle.std.proofs.lemmas.List.{map-append}
 use Rattle.st_form.specs.Formula.{Formula, every, formulas}
 use Rattle.st_program.specs.Tree.{Process}
 use Rattle.st_program.specs.Names.{Names}
@@ -17,7 +18,7 @@ use Rattle.spl_typer.specs.Walk.{Entry}
 use Rattle.spl_typer.specs.Programs.{Heading, declarations_in, processes_in, nothing_met, few_processes, heading_of, side_by_side, text_of, Variables, Labels, with_variable, with_label, variables_of, labels_of, few_names, names_of, Typed, typed_of, typing}
 use Rattle.typing_laws.proofs.Whole.{typed_is_well}
 use Rattle.program_meaning.specs.Meaning.{declared, known, all_declared, AreStarts, AreProcesses, Means}
-use Rattle.program_meaning.proofs.Headings.{Begun, declarations_mean, Joins, processes_mean, own_of, map_append, kind_of, first_variable, first_label, variables_among, labels_among, variables_declared, labels_declared, counted}
+use Rattle.program_meaning.proofs.Headings.{Begun, declarations_mean, Joins, processes_mean, own_of, kind_of, first_variable, first_label, variables_among, labels_among, variables_declared, labels_declared, counted}
 
 -- THE TABLE
 text_same : (name : List ℕ) → Holds (λ n. n ≡ name) (text_of name)
@@ -78,8 +79,8 @@ whole tree h k a b = record {
       (subst (λ n. AreProcesses (known 0 (declared tree.declarations)) n tree.processes (side_by_side b.made) b.starts b.labels) (counted [] h.variables (declared tree.declarations) a.grown.variables ∙ zero_plus (length (declared tree.declarations)))
       (subst (λ s. AreProcesses s (length h.variables) tree.processes (side_by_side b.made) b.starts b.labels) a.grown.scope b.means));
   initial = b.initial ∙ ap (λ z. z ++ b.starts) a.grown.initial;
-  variables = b.variables ∙ ap (λ z. z ++ map (λ v. v.1) (own_of tree.processes)) a.grown.variables ∙ sym (map_append (λ v. v.1) (declared tree.declarations) (own_of tree.processes));
-  kinds = b.kinds ∙ ap (λ z. z ++ map kind_of (own_of tree.processes)) (ap variables_among a.grown.names ∙ variables_declared (declared tree.declarations)) ∙ sym (map_append kind_of (declared tree.declarations) (own_of tree.processes));
+  variables = b.variables ∙ ap (λ z. z ++ map (λ v. v.1) (own_of tree.processes)) a.grown.variables ∙ sym (map-append (λ v. v.1) (declared tree.declarations) (own_of tree.processes));
+  kinds = b.kinds ∙ ap (λ z. z ++ map kind_of (own_of tree.processes)) (ap variables_among a.grown.names ∙ variables_declared (declared tree.declarations)) ∙ sym (map-append kind_of (declared tree.declarations) (own_of tree.processes));
   names = b.names ∙ ap (λ z. z ++ b.labels) (ap labels_among a.grown.names ∙ labels_declared (declared tree.declarations));
 }
   where

@@ -1,2 +1,4 @@
 pub mod Paths
 pub mod Refusals
+pub mod Weights
+pub mod Atoms

@@ -1,12 +1,11 @@
 -- The list of a group's paths has each that choices make, and as many as there are ways to choose.
-use Rattle.std.proofs.Common.{◌≡◌, ℕ, suc, ◌+◌, ◌*◌, Bool, true, false, List, [], ◌∷◌, ◌++◌, map, length, refl, sym, ap, subst, ◌∙◌, ◌⊎◌, inl, inr, arith}
-use Rattle.std.specs.Prelude.{flat_map}
+use Rattle.std.proofs.Common.{◌≡◌, ◌+◌, ◌*◌, true, false, List, [], ◌∷◌, ◌++◌, map, length, refl, sym, ap, subst, ◌∙◌, ◌⊎◌, inl, inr, arith}
 use Rattle.std.proofs.lemmas.List.{length-map, length-append}
-use Rattle.std.proofs.Math.Nat.{suc-mul}
 use Rattle.st_form.specs.Formula.{Formula}
 use Rattle.st_program.specs.Tree.{Piece, Pieces, piece_skip, piece_assign, piece_await, piece_if, no_piece, piece}
-use Rattle.st_program.specs.Groups.{Link, tested, given, paths, paths_along}
+use Rattle.st_program.specs.Groups.{Link, tested, paths, paths_along}
 use Rattle.st_program.specs.Member.{Member, here, there}
+use Rattle.spl_typer.proofs.Products.{times, length-times}
 use Rattle.control_facts.proofs.Onces.{nowhere, in_left, in_right, in_either, in_map}
 use Rattle.group_limits.specs.Choices.{IsPath, skips, assigns, awaits, takes_then, takes_else, IsPathAlong, at_end, goes_on, ways, ways_along, PathsAreChoices}
 
@@ -22,10 +21,6 @@ made f [] y m = nowhere m
 made f (x ∷ xs) y (here e) = record { source = x; among = here refl; is = e }
 made f (x ∷ xs) y (there m) = let k = made f xs y m in record { source = k.source; among = there k.among; is = k.is }
 
--- one list behind another, of each pair
-abbrev both : List (List Link) → List (List Link) → List (List Link)
-both ps qs = flat_map (λ path. map (λ further. path ++ further) qs) ps
-
 pub record Parted (ps qs : List (List Link)) (y : List Link) : Type 0 where
   pub first : List Link
   pub second : List Link
@@ -33,17 +28,17 @@ pub record Parted (ps qs : List (List Link)) (y : List Link) : Type 0 where
   pub in_second : Member second qs
   pub is : y ≡ first ++ second
 
-parted : (ps qs : List (List Link)) (y : List Link) → Member y (both ps qs) → Parted ps qs y
+parted : (ps qs : List (List Link)) (y : List Link) → Member y (times ps qs) → Parted ps qs y
 parted [] qs y m = nowhere m
 parted (p ∷ ps) qs y m = either (in_either (map (λ further. p ++ further) qs) m) (λ n. parted ps qs y n)
   where
-    either : Member y (map (λ further. p ++ further) qs) ⊎ Member y (both ps qs) → (Member y (both ps qs) → Parted ps qs y) → Parted (p ∷ ps) qs y
+    either : Member y (map (λ further. p ++ further) qs) ⊎ Member y (times ps qs) → (Member y (times ps qs) → Parted ps qs y) → Parted (p ∷ ps) qs y
     either (inl n) again = let k = made (λ further. p ++ further) qs y n in record { first = p; second = k.source; in_first = here refl; in_second = k.among; is = k.is }
     either (inr n) again = let k = again n in record { first = k.first; second = k.second; in_first = there k.in_first; in_second = k.in_second; is = k.is }
 
-joined : (ps qs : List (List Link)) (a b : List Link) → Member a ps → Member b qs → Member (a ++ b) (both ps qs)
+joined : (ps qs : List (List Link)) (a b : List Link) → Member a ps → Member b qs → Member (a ++ b) (times ps qs)
 joined [] qs a b m n = nowhere m
-joined (p ∷ ps) qs a b (here e) n = in_left (both ps qs) (subst (λ z. Member (a ++ b) (map (λ further. z ++ further) qs)) e (in_map (λ further. a ++ further) n))
+joined (p ∷ ps) qs a b (here e) n = in_left (times ps qs) (subst (λ z. Member (a ++ b) (map (λ further. z ++ further) qs)) e (in_map (λ further. a ++ further) n))
 joined (p ∷ ps) qs a b (there m) n = in_right (map (λ further. p ++ further) qs) (joined ps qs a b m n)
 
 -- BOTH WAYS
@@ -58,6 +53,11 @@ mutual
   listed_along : (xs : Pieces) (path : List Link) → IsPathAlong xs path → Member path (paths_along xs)
   listed_along no_piece path at_end = here refl
   listed_along (piece x xs) path (goes_on y ys a b h k) = joined (paths x) (paths_along xs) a b (listed x a h) (listed_along xs b k)
+
+branch : (t : Formula) (y n : Pieces) (path : List Link) → Member path (map (λ path. tested t true ∷ path) (paths_along y)) ⊎ Member path (map (λ path. tested t false ∷ path) (paths_along n))
+    → ((rest : List Link) → Member rest (paths_along y) → IsPathAlong y rest) → ((rest : List Link) → Member rest (paths_along n) → IsPathAlong n rest) → IsPath (piece_if t y n) path
+branch t y n path (inl m) f g = let k = made (λ path. tested t true ∷ path) (paths_along y) path m in subst (IsPath (piece_if t y n)) (sym k.is) (takes_then t y n k.source (f k.source k.among))
+branch t y n path (inr m) f g = let k = made (λ path. tested t false ∷ path) (paths_along n) path m in subst (IsPath (piece_if t y n)) (sym k.is) (takes_else t y n k.source (g k.source k.among))
 
 mutual
   chosen : (x : Piece) (path : List Link) → Member path (paths x) → IsPath x path
@@ -76,24 +76,10 @@ mutual
       let k = parted (paths x) (paths_along xs) path m in
       subst (IsPathAlong (piece x xs)) (sym k.is) (goes_on x xs k.first k.second (chosen x k.first k.in_first) (chosen_along xs k.second k.in_second))
 
-  branch : (t : Formula) (y n : Pieces) (path : List Link) → Member path (map (λ path. tested t true ∷ path) (paths_along y)) ⊎ Member path (map (λ path. tested t false ∷ path) (paths_along n))
-      → ((rest : List Link) → Member rest (paths_along y) → IsPathAlong y rest) → ((rest : List Link) → Member rest (paths_along n) → IsPathAlong n rest) → IsPath (piece_if t y n) path
-  branch t y n path (inl m) f g = let k = made (λ path. tested t true ∷ path) (paths_along y) path m in subst (IsPath (piece_if t y n)) (sym k.is) (takes_then t y n k.source (f k.source k.among))
-  branch t y n path (inr m) f g = let k = made (λ path. tested t false ∷ path) (paths_along n) path m in subst (IsPath (piece_if t y n)) (sym k.is) (takes_else t y n k.source (g k.source k.among))
-
 pub paths_are_choices : PathsAreChoices
 paths_are_choices xs path = (λ m. chosen_along xs path m, λ h. listed_along xs path h)
 
 -- HOW MANY
-both_count : (ps qs : List (List Link)) → length (both ps qs) ≡ length ps * length qs
-both_count [] qs = refl
-both_count (p ∷ ps) qs =
-    let a = length-append (map (λ further. p ++ further) qs) (both ps qs) in
-    let b = length-map qs (λ further. p ++ further) in
-    let c = both_count ps qs in
-    let d = suc-mul (length ps) (length qs) in
-    omega (arith, a, b, c, d)
-
 mutual
   ways_count : (x : Piece) → length (paths x) ≡ ways x
   ways_count piece_skip = refl
@@ -109,4 +95,4 @@ mutual
 
   pub ways_along_count : (xs : Pieces) → length (paths_along xs) ≡ ways_along xs
   ways_along_count no_piece = refl
-  ways_along_count (piece x xs) = both_count (paths x) (paths_along xs) ∙ ap (λ z. z * length (paths_along xs)) (ways_count x) ∙ ap (λ z. ways x * z) (ways_along_count xs)
+  ways_along_count (piece x xs) = length-times (paths x) (paths_along xs) ∙ ap (λ z. z * length (paths_along xs)) (ways_count x) ∙ ap (λ z. ways x * z) (ways_along_count xs)

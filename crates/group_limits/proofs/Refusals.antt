@@ -1,5 +1,5 @@
 -- Behind its number of paths nothing of a group is refused for them.
-use Rattle.std.proofs.Common.{◌≡◌, ℕ, ◌+◌, ◌≤◌, ◌<◌, ◌↔◌, nat_le, Bool, true, false, if◌then◌else◌, List, [], ◌∷◌, ◌++◌, length, Option, Some, None, Result, Ok, Err, refl, sym, ap, subst, ◌∙◌, arith}
+use Rattle.std.proofs.Common.{◌≡◌, ℕ, ◌+◌, ◌<◌, ◌↔◌, nat_le, Bool, true, false, if◌then◌else◌, List, [], ◌∷◌, ◌++◌, length, Option, Some, None, Result, Ok, Err, refl, subst, arith}
 use Rattle.std.proofs.lemmas.Bool.Decides.{nat_tests}
 use Rattle.st_linear.specs.Linear.{Linear, replaced}
 use Rattle.st_form.specs.Formula.{Formula, formulas, atoms, atoms_of}
@@ -13,7 +13,7 @@ use Rattle.expression_typer.specs.declared.fault.TypeFault.TheVariants as faults
 use Rattle.expression_typer.specs.Answers.{◌>>=◌}
 use Rattle.expression_typer.specs.Written.{is_writable, limited}
 use Rattle.spl_typer.specs.Groups.{Numbers, Composition, nothing, large_unless, limit_unless, composed_number, with_number, numbers_of, numbers_put, numbers_behind, numbers_on, all_small, few, composed_formula, term_on, terms_on, put_all, met, guarded, link_on, path_on, with_path, with_paths, grouped}
-use Rattle.group_limits.specs.Choices.{ways_along, PathsRefuse}
+use Rattle.group_limits.specs.Choices.{PathsRefuse}
 use Rattle.group_limits.proofs.Paths.{ways_along_count}
 
 abbrev is_of_paths : LimitKind → Bool

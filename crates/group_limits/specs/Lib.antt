@@ -1,1 +1,3 @@
 pub mod Choices
+pub mod Weights
+pub mod Atoms

@@ -1,6 +1,8 @@
 //! Laws of the limits of groups. Each is a function that does nothing; its contract is the law.
 
 ghost use Rattle.group_limits.specs.Choices.{PathsAreChoices, PathsRefuse};
+ghost use Rattle.group_limits.specs.Weights.{WeightsAreAdded};
+ghost use Rattle.group_limits.specs.Atoms.{AtomsRefuse};
 
 /// The paths that are listed of a group are those that some choices of branches make.
 pub fn paths_are_choices()
@@ -10,4 +12,15 @@ pub fn paths_are_choices()
 /// A group is refused for its paths exactly where branches can be chosen in more than 64 ways.
 pub fn paths_refuse()
     ensures { PathsRefuse }
+{}
+
+/// Where no other limit is passed, a group adds the weights of its paths, and is refused where the sum is more than 16,777,216.
+pub fn weights_are_added()
+    ensures { WeightsAreAdded }
+{}
+
+/// Where there are few paths and each number stays small, a group is refused for its atoms exactly where a guard or a truth value on
+/// some path has more than 2,048, and all before it are within the limits.
+pub fn atoms_refuse()
+    ensures { AtomsRefuse }
 {}

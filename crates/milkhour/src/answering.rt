@@ -1,14 +1,12 @@
 //! The five tasks whose status is that of `step`.
 
-use crate::facts::with_facts;
 use crate::given::{Given, GivenText};
 use crate::reports::{Account, Shown, shown_of, warned_of};
 use crate::streams::{Streams, Target, style_of, write_remark, write_result};
 use crate::trouble::Trouble;
-use milkhour_run::{Answer, Question, Status, Texts, answer};
+use milkhour_run::{Answer, Question, Status, answer};
 use milkhour_words::{Format, Options};
 use progress_lines::{Progress, Watch};
-use st_memory::Memory;
 use st_outside::Gate;
 use std::alloc::{AllocError, Global};
 use std::rt::Runtime;
@@ -118,28 +116,6 @@ fn tell<R: Runtime + AllocGlobal, G: Gate>(
     write_shown(rt, target, &shown)
 }
 
-/// What is shown of the answer: not with `--format plain`, the equations of `invariants` have facts behind them.
-fn shown_answer<R: Runtime + AllocGlobal + Threads + Sync, G: Gate + Sync>(
-    rt: &R,
-    question: Question,
-    options: &Options<'_>,
-    texts: &Texts<'_>,
-    gate: &G,
-) -> Result<Answer, Memory> {
-    let found = answer(rt, rt.alloc(), question, options.workers, texts, gate)?;
-    if options.format == Format::Plain {
-        return Ok(found);
-    }
-    with_facts(
-        rt,
-        rt.alloc(),
-        options.workers,
-        question,
-        texts.program,
-        found,
-    )
-}
-
 /// Answers a question over the texts. The status is that of the answer, whatever is said of it.
 pub fn answer_question<R: Runtime + AllocGlobal + Threads + Sync>(
     rt: &R,
@@ -149,7 +125,14 @@ pub fn answer_question<R: Runtime + AllocGlobal + Threads + Sync>(
     options: &Options<'_>,
 ) -> Result<u8, Trouble> {
     let progress = Progress::new(rt, Watch::begin(rt, streams.is_error_terminal));
-    let answer = shown_answer(rt, question, options, &given.texts(), &progress)?;
+    let answer = answer(
+        rt,
+        rt.alloc(),
+        question,
+        options.workers,
+        &given.texts(),
+        &progress,
+    )?;
     if options.format == Format::Plain {
         write_result(rt, options.output, answer.text.as_slice())?;
     } else {

@@ -4,7 +4,6 @@
 mod answering;
 mod drawing;
 mod explaining;
-mod facts;
 mod finding;
 mod given;
 mod laying;

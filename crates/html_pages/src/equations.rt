@@ -18,10 +18,21 @@ fn push_equation(page: &mut Page, equation: &Equation) -> Result<(), Memory> {
     }
 }
 
-/// How many equations there are.
+/// Whether some step says what value a variable has at places, rather than a sum; its name tells.
+fn has_facts(report: &EquationReport) -> bool {
+    report
+        .equations
+        .iter()
+        .any(|step| step.name.starts_with("fact"))
+}
+
+/// How many equations there are, and facts among them.
 fn title(alloc: Global, report: &EquationReport) -> Result<String, Memory> {
     let program = &report.program;
     let count = report.equations.len();
+    if has_facts(report) {
+        return Ok(format!(in alloc; "{program}: {count} invariants that hold on every run")?);
+    }
     if count == 1 {
         return Ok(format!(in alloc; "{program}: an equation that holds on every run")?);
     }
@@ -48,7 +59,12 @@ pub fn equation_page(
         &[],
         1,
     )?;
-    page.markup("</section>\n<section>\n<h2>Equations</h2>\n")?;
+    page.markup("</section>\n<section>\n")?;
+    page.markup(if has_facts(report) {
+        "<h2>Equations and facts</h2>\n"
+    } else {
+        "<h2>Equations</h2>\n"
+    })?;
     for equation in &report.equations {
         push_equation(&mut page, equation)?;
     }

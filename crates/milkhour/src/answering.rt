@@ -1,17 +1,21 @@
-//! The five tasks whose status is that of `step`.
+//! The five tasks of `step`. The status is that of `step`, but where it leaves a condition open for which the stronger search finds a
+//! certificate.
 
+use crate::facts::with_facts;
 use crate::given::{Given, GivenText};
 use crate::reports::{Account, Shown, shown_of, warned_of};
 use crate::streams::{Streams, Target, style_of, write_remark, write_result};
 use crate::trouble::Trouble;
-use milkhour_run::{Answer, Question, Status, answer};
+use milkhour_run::{Answer, Question, Status, Texts, answer};
 use milkhour_words::{Format, Options};
 use progress_lines::{Progress, Watch};
+use st_memory::Memory;
 use st_outside::Gate;
 use std::alloc::{AllocError, Global};
 use std::rt::Runtime;
 use std::str;
 use std::thread::Threads;
+use stronger_answers::{certified, verified};
 
 /// Whether what is answered with status 0 is a text that is wanted, and no report.
 fn gives_text(question: Question) -> bool {
@@ -116,6 +120,65 @@ fn tell<R: Runtime + AllocGlobal, G: Gate>(
     write_shown(rt, target, &shown)
 }
 
+/// The certificates of `prove`, or where its search leaves a condition open, those that the stronger search finds.
+fn proved<R: Threads + Sync, G: Gate + Sync>(
+    rt: &R,
+    alloc: Global,
+    workers: u32,
+    texts: &Texts<'_>,
+    gate: &G,
+) -> Result<Answer, Memory> {
+    let first = answer(rt, alloc, Question::Prove, workers, texts, gate)?;
+    let Status::NotProved(number) = first.status else {
+        return Ok(first);
+    };
+    match certified(rt, alloc, workers, texts, number)? {
+        Some(text) => Ok(Answer {
+            status: Status::Proved,
+            text,
+        }),
+        None => Ok(first),
+    }
+}
+
+/// What is answered to a question over texts.
+fn answered<R: Threads + Sync, G: Gate + Sync>(
+    rt: &R,
+    alloc: Global,
+    question: Question,
+    workers: u32,
+    texts: &Texts<'_>,
+    gate: &G,
+) -> Result<Answer, Memory> {
+    match question {
+        Question::Verify => verified(rt, alloc, workers, texts, gate),
+        Question::Prove => proved(rt, alloc, workers, texts, gate),
+        _ => answer(rt, alloc, question, workers, texts, gate),
+    }
+}
+
+/// What is shown of the answer: not with `--format plain`, the equations of `invariants` have facts behind them.
+fn shown_answer<R: Runtime + AllocGlobal + Threads + Sync, G: Gate + Sync>(
+    rt: &R,
+    question: Question,
+    options: &Options<'_>,
+    texts: &Texts<'_>,
+    gate: &G,
+) -> Result<Answer, Memory> {
+    let found = answered(rt, rt.alloc(), question, options.workers, texts, gate)?;
+    if options.format == Format::Plain {
+        return Ok(found);
+    }
+    with_facts(
+        rt,
+        rt.alloc(),
+        options.workers,
+        question,
+        texts.program,
+        found,
+    )
+}
+
 /// Answers a question over the texts. The status is that of the answer, whatever is said of it.
 pub fn answer_question<R: Runtime + AllocGlobal + Threads + Sync>(
     rt: &R,
@@ -125,14 +188,7 @@ pub fn answer_question<R: Runtime + AllocGlobal + Threads + Sync>(
     options: &Options<'_>,
 ) -> Result<u8, Trouble> {
     let progress = Progress::new(rt, Watch::begin(rt, streams.is_error_terminal));
-    let answer = answer(
-        rt,
-        rt.alloc(),
-        question,
-        options.workers,
-        &given.texts(),
-        &progress,
-    )?;
+    let answer = shown_answer(rt, question, options, &given.texts(), &progress)?;
     if options.format == Format::Plain {
         write_result(rt, options.output, answer.text.as_slice())?;
     } else {

@@ -4,6 +4,7 @@
 mod answering;
 mod drawing;
 mod explaining;
+mod facts;
 mod finding;
 mod given;
 mod laying;

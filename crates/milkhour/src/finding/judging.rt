@@ -1,11 +1,12 @@
-//! Who judges what was found: `step` a proof, and a run is judged by the goal that fails on it.
+//! Who judges what was found: a proof is verified, and a run is judged by the goal that fails on it.
 
-use milkhour_run::{Question, Status, Texts, answer};
+use milkhour_run::{Status, Texts};
 use refuted_goals::refutes;
 use st_memory::Memory;
 use st_outside::OpenGate;
 use std::alloc::Global;
 use std::thread::Threads;
+use stronger_answers::verified;
 
 /// The program over which proofs and runs are judged, how many questions a search may ask, and the names by which the texts are
 /// spoken of.
@@ -21,7 +22,7 @@ pub struct Subject<'a> {
     pub proof_name: &'a str,
 }
 
-/// Whether `step` verifies a proof of a program.
+/// Whether a proof of a program is verified, by the search of `step` or by the stronger one.
 fn verifies<'x, R: Threads + Sync>(
     rt: &R,
     alloc: Global,
@@ -34,11 +35,11 @@ fn verifies<'x, R: Threads + Sync>(
         proof: Some(proof),
         third: None,
     };
-    let answer = answer(rt, alloc, Question::Verify, workers, &texts, &OpenGate)?;
+    let answer = verified(rt, alloc, workers, &texts, &OpenGate)?;
     Ok(answer.status == Status::Proved)
 }
 
-/// Whether `step` verifies a proof.
+/// Whether a proof is verified.
 pub fn is_proof<R: Threads + Sync>(
     rt: &R,
     subject: &Subject<'_>,

@@ -10,12 +10,14 @@ use Rattle.step_run.specs.Headline.{Headline, Exactly}
 use Rattle.step_run.specs.Plans.{plan_of, plan_for}
 use Rattle.step_run.specs.Request.{NamesFile}
 use Rattle.milkhour_run.specs.Asked.{asked}
+use Rattle.milkhour_run.specs.Answers.{IsStepAnswer, HoldsIfProved, IsProvedExactly, LacksIfUnread}
 use Rattle.milkhour_run.specs.Held.{told_in, misses_of}
 use Rattle.milkhour_run.proofs.Taken.{asks}
 use Rattle.milkhour_run.proofs.Lacking.{lacks, ok_map}
 use Rattle.milkhour_run.proofs.answering.answer.Goals as goal
 
 pub returns-clause-outcome : goal.returns-clause-outcome
+unfolding IsStepAnswer
 returns-clause-outcome g c =
     let words : words_of c.as_slice.result.now ≡ words_of c.in_ok-words.words.items = ap words_of c.as_slice.ensures.value in
     let asked_for : request_of (words_of c.as_slice.result.now) ≡ Some (asked c.args.question) =
@@ -24,6 +26,7 @@ returns-clause-outcome g c =
     asked_for c.answered.ensures.outcome
 
 pub returns-clause-headline : goal.returns-clause-headline
+unfolding HoldsIfProved
 returns-clause-headline g c =
     let words : words_of c.as_slice.result.now ≡ words_of c.in_ok-words.words.items = ap words_of c.as_slice.ensures.value in
     let asked_for : request_of (words_of c.as_slice.result.now) ≡ Some (asked c.args.question) =
@@ -32,6 +35,7 @@ returns-clause-headline g c =
     asked_for c.answered.ensures.headline
 
 pub returns-clause-exact : goal.returns-clause-exact
+unfolding IsProvedExactly
 returns-clause-exact g c =
     let words : words_of c.as_slice.result.now ≡ words_of c.in_ok-words.words.items = ap words_of c.as_slice.ensures.value in
     let asked_for : request_of (words_of c.as_slice.result.now) ≡ Some (asked c.args.question) =
@@ -40,6 +44,7 @@ returns-clause-exact g c =
     asked_for c.answered.ensures.exact
 
 pub returns-clause-reads : goal.returns-clause-reads
+unfolding LacksIfUnread
 returns-clause-reads g c =
     let words : words_of c.as_slice.result.now ≡ words_of c.in_ok-words.words.items = ap words_of c.as_slice.ensures.value in
     let asked_for : request_of (words_of c.as_slice.result.now) ≡ Some (asked c.args.question) =

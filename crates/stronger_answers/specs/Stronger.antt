@@ -1,0 +1,40 @@
+-- What is answered where two searches follow each other.
+use Rattle.std.specs.Prelude.{◌≡◌, ◌⊎◌, ℕ, List, Some, option_map}
+use Rattle.step_plan.specs.declared.status.Status.TheVariants.{Proved, NotProved}
+use Rattle.step_answers.specs.declared.answer.Answer.{Answer}
+use Rattle.milkhour_run.specs.Answers.{IsStepAnswer, HoldsIfProved, IsProvedExactly}
+use Rattle.milkhour_run.specs.declared.held_texts.Texts.{Texts}
+use Rattle.milkhour_run.specs.declared.question.Question.{Question}
+use Rattle.milkhour_run.specs.declared.question.Question.TheVariants.{Check, Verify}
+
+-- `step`'s answer to a question: status and text, what is shown with status 0, and when this comes
+pub record IsAnswerTo (q : Question) (t : Texts) (a : Answer) : Type 0 where
+  pub outcome : IsStepAnswer t q a
+  pub headline : HoldsIfProved t q a
+  pub exact : IsProvedExactly t q a
+
+-- `check` answers over the same program and proof, with these certificates, that the goals hold
+pub record IsCheckedBy (t : Texts) (certificates : List ℕ) (a : Answer) : Type 0 where
+  pub certified : Texts
+  pub program : certified.program ≡ t.program
+  pub proof : certified.proof ≡ t.proof
+  pub third : option_map (λ bytes. bytes.now) certified.third ≡ Some certificates
+  pub proved : a.status ≡ Proved
+  pub answer : IsAnswerTo Check certified a
+
+-- `check` accepts these certificates
+abbrev pub IsAccepted : Texts → List ℕ → Type 0
+IsAccepted t certificates = (a : Answer) × IsCheckedBy t certificates a
+
+-- `verify` leaves a condition open, and with some certificates `check` answers that the goals hold
+pub record IsClosed (t : Texts) (a : Answer) : Type 0 where
+  pub first : Answer
+  pub number : ℕ
+  pub asked : IsAnswerTo Verify t first
+  pub open : first.status ≡ NotProved number
+  pub certificates : List ℕ
+  pub checked : IsCheckedBy t certificates a
+
+-- the answer of `verify`, or where that leaves a condition open, one of `check` that the goals hold
+abbrev pub IsStronger : Texts → Answer → Type 0
+IsStronger t a = IsAnswerTo Verify t a ⊎ IsClosed t a

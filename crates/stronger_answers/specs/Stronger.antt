@@ -31,7 +31,7 @@ pub record IsClosed (t : Texts) (a : Answer) : Type 0 where
   pub first : Answer
   pub number : ℕ
   pub asked : IsAnswerTo Verify t first
-  pub open : first.status ≡ NotProved number
+  pub left_open : first.status ≡ NotProved number
   pub certificates : List ℕ
   pub checked : IsCheckedBy t certificates a
 

@@ -1,2 +1,3 @@
 pub mod Taken
 pub mod Lacking
+pub mod Answered

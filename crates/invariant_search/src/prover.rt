@@ -1,7 +1,8 @@
 //! Questions to the search of conditions: whether formulas are true in a state together.
 //!
 //! A question is the condition that the formulas imply `False`. One book is kept for all questions of a program, so that lists of
-//! conjuncts that come again aren't searched again.
+//! conjuncts that come again aren't searched again. Where that search neither decides a question nor shows a state, the stronger one is
+//! asked, which looks at the lines before each division.
 
 ghost use Rattle.std.specs.Prelude.{◌≡◌, ◌≤◌, ◌+◌, true};
 ghost use Rattle.farkas_check.specs.Limits.{IsNarrow};
@@ -12,6 +13,7 @@ use crate::answer::Why;
 use crate::narrow::{are_given_narrow, is_narrow};
 use control_cubes::{CubeFault, Layout, State};
 use control_states::Components;
+use eager_search::find;
 use linear_prover::{Book, Shown, Verdict, is_condition_below, unless_valid};
 use st_form::{CondName, Condition, Consequent, Form, Premise, SharedForm, Variable};
 use st_memory::Memory;
@@ -21,6 +23,9 @@ use std::marker::Model;
 
 /// The hint of formulas that stand in one question alone. Those that come again have hints of their own, from `FIRST_HINT` on.
 const PASSING: u32 = 0;
+
+/// At most so many problems are looked at by the stronger search of a question.
+const MOST_PROBLEMS: u32 = 4_000;
 
 /// The hint of the formula that holds at the beginning.
 pub(crate) const INITIAL_HINT: u32 = 2;
@@ -137,6 +142,11 @@ fn state_of(alloc: Global, layout: &Layout, shown: &Shown) -> Result<State, Memo
     })
 }
 
+/// Whether a verdict shows a state that breaks the condition.
+fn shows_state(verdict: &Verdict) -> bool {
+    matches!(verdict, Verdict::Open(_, Some(_)))
+}
+
 /// What a verdict says of a question.
 fn at_verdict(alloc: Global, layout: &Layout, verdict: &Verdict) -> Result<Asked, Memory> {
     match verdict {
@@ -191,6 +201,30 @@ impl<'a> Answered<'a> {
         })
     }
 
+    /// The verdict of the first search, where it shows no state, unless the stronger search finds that the condition is valid.
+    fn second_verdict(
+        &self,
+        alloc: Global,
+        question: &Condition,
+        first: Verdict,
+    ) -> Result<Option<Verdict>, Memory>
+        requires { IsSearchable self.now question.now }
+    {
+        if shows_state(&first) {
+            return Ok(Some(first));
+        }
+        match find(
+            alloc,
+            self.components,
+            self.variables,
+            question,
+            MOST_PROBLEMS,
+        )? {
+            Some(_) => Ok(None),
+            None => Ok(Some(first)),
+        }
+    }
+
     /// The verdict on a question, unless it is that the condition is valid. `TooLarge` where a number is too large to be asked for.
     fn verdict(
         &mut self,
@@ -200,13 +234,17 @@ impl<'a> Answered<'a> {
         if !is_searchable(self.variables.len(), question) {
             return Err(CubeFault::TooLarge);
         }
-        Ok(unless_valid(
+        let first = unless_valid(
             alloc,
             &mut self.book,
             self.components,
             self.variables,
             question,
-        )?)
+        )?;
+        match first {
+            None => Ok(None),
+            Some(verdict) => Ok(self.second_verdict(alloc, question, verdict)?),
+        }
     }
 }
 

@@ -1,8 +1,8 @@
 //! Chains, in which items may wait in groups, or be measured by ranks.
 
+use crate::cases::{joined_text, rest_behind};
 use crate::items::{Around, Denied, Group, Trial, is_never, item_astray};
 use crate::ranks::{Ranked, Ranks, difference, raised, row_form};
-use crate::said::Said;
 use control_cubes::{CubeFault, State};
 use invariant_search::{ALWAYS, Allowed, Answer, Search};
 use st_form::{Lin, SharedForm};
@@ -10,7 +10,7 @@ use st_memory::Memory;
 use std::alloc::Global;
 use transition_system::Fts;
 
-/// An item: what it says of places, what it says of variables, one of some cases, and its helper or its group.
+/// An item: one of some cases, what the first of them says of places, and its helper or its group.
 #[derive(Drop)]
 pub struct ChainItem {
     pub(crate) base: Vec<u8>,
@@ -82,47 +82,21 @@ impl ChainItem {
 
     /// The text of its formula.
     pub fn text(&self, alloc: Global) -> Result<Vec<u8>, Memory> {
-        let mut out = Vec::from_slice(alloc, &self.base)?;
-        let several = self.cases.len() > 1;
-        for (number, case) in self.cases.iter().enumerate() {
-            out.extend_from_slice(lead(number, several))?;
-            out.extend_from_slice(case)?;
-        }
-        if several {
-            out.extend_from_slice(b")")?;
-        }
-        Ok(out)
+        joined_text(alloc, &self.base, &self.cases)
     }
 
     /// Takes a case in that makes others superfluous which say more.
-    pub(crate) fn take_case(&mut self, alloc: Global, said: &Said) -> Result<(), Memory> {
+    pub(crate) fn take_case(&mut self, alloc: Global, text: &[u8]) -> Result<(), Memory> {
         let mut kept = Vec::with_capacity(alloc, self.cases.len())?;
         for case in &self.cases {
-            if !says_more(case, &said.text) {
+            if rest_behind(case, text).is_none() {
                 kept.push(Vec::from_slice(alloc, case)?)?;
             }
         }
-        kept.push(Vec::from_slice(alloc, &said.text)?)?;
+        kept.push(Vec::from_slice(alloc, text)?)?;
         self.cases = kept;
         Ok(())
     }
-}
-
-/// What stands in front of the case with a number.
-fn lead(number: usize, several: bool) -> &'static [u8] {
-    match (number, several) {
-        (0, false) => b" /\\ ".as_slice(),
-        (0, true) => b" /\\ (".as_slice(),
-        _ => b" \\/ ".as_slice(),
-    }
-}
-
-/// Whether a case says what a text says, and more.
-fn says_more(case: &[u8], text: &[u8]) -> bool {
-    case.starts_with(text)
-        && case
-            .get(text.len()..)
-            .is_some_and(|rest| rest.starts_with(b" /\\"))
 }
 
 impl Chain {

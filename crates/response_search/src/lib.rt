@@ -8,6 +8,7 @@
 
 mod bases;
 mod candidates;
+mod cases;
 mod chain;
 mod cycles;
 mod edges;

@@ -40,11 +40,11 @@ pub(crate) struct Saturation<'s> {
     pub(crate) groups: usize,
 }
 
-/// A candidate as an item: its text without what it says of variables, that, and what is to be checked.
+/// A candidate as an item: its text without what it says of variables, its text with it, and what is to be checked.
 #[derive(Drop)]
 struct Proposed {
     base: Vec<u8>,
-    tail: Vec<Said>,
+    text: Vec<u8>,
     trial: Trial,
 }
 
@@ -98,6 +98,14 @@ impl Saturation<'_> {
             }
         }
         Ok(out)
+    }
+
+    /// What a candidate says: its base, and beside it so many literals.
+    fn said(&self, alloc: Global, base: &Said, width: Width) -> Result<Said, Memory> {
+        match self.tail(alloc, width)?.first() {
+            Some(tail) => base.and(alloc, tail),
+            None => base.copy(alloc),
+        }
     }
 
     /// Whether a state is in the goal or in the chain.
@@ -172,15 +180,11 @@ impl Saturation<'_> {
         out: &mut Vec<Proposed>,
     ) -> Result<(), CubeFault> {
         if let Some(base) = self.bases().get(candidate.base) {
-            let tail = self.tail(alloc, candidate.width)?;
-            let form = match tail.first() {
-                Some(tail) => base.said.and(alloc, tail)?.form,
-                None => base.said.form.share()?,
-            };
-            let trial = Trial::new(alloc, search, form, base.helper, self.group())?;
+            let said = self.said(alloc, &base.said, candidate.width)?;
+            let trial = Trial::new(alloc, search, said.form, base.helper, self.group())?;
             out.push(Proposed {
                 base: Vec::from_slice(alloc, &base.said.text)?,
-                tail,
+                text: said.text,
                 trial,
             })?;
         }
@@ -207,14 +211,12 @@ impl Saturation<'_> {
         })
     }
 
-    /// Whether the item with a number has the helper, the group and the text of another, and says something of variables.
+    /// Whether the item with a number has the helper and the group of another.
     fn may_join(&self, number: usize, proposed: &Proposed) -> bool {
         match self.chain.items.get(number) {
             Some(item) => {
                 item.trial.helper == proposed.trial.helper
                     && item.trial.group == proposed.trial.group
-                    && item.base.as_slice() == proposed.base.as_slice()
-                    && !item.cases.is_empty()
             }
             None => false,
         }
@@ -254,9 +256,7 @@ impl Saturation<'_> {
             if found.is_none()
                 && let Some(item) = self.chain.items.get_mut(number)
             {
-                for said in &proposed.tail {
-                    item.take_case(alloc, said)?;
-                }
+                item.take_case(alloc, &proposed.text)?;
                 item.trial = trial;
                 return Ok(true);
             }
@@ -271,9 +271,6 @@ impl Saturation<'_> {
         search: &mut Search<'_>,
         proposed: &Proposed,
     ) -> Result<bool, CubeFault> {
-        if proposed.tail.is_empty() {
-            return Ok(false);
-        }
         for number in 0..self.chain.items.len() {
             if self.may_join(number, proposed)
                 && self.is_joined_to(alloc, search, number, proposed)?
@@ -292,10 +289,7 @@ impl Saturation<'_> {
         proposed: Proposed,
     ) -> Result<(), CubeFault> {
         if !self.is_joined(alloc, search, &proposed)? {
-            let mut cases = Vec::new(alloc);
-            for said in proposed.tail {
-                cases.push(said.text)?;
-            }
+            let cases = vec![in alloc; proposed.text]?;
             self.chain.items.push(ChainItem {
                 base: proposed.base,
                 cases,

@@ -27,6 +27,7 @@ option : (n : ℕ) → 1 ≤ n → n ≤ 64 → IsOption (codes "--workers" ∷ 
 option n least most = inr (n, least, most, refl)
 
 pub taken : NamedForms → (q : Question) (n : ℕ) → 1 ≤ n → n ≤ 64 → request_of (codes "step" ∷ (command_words q ++ (codes "--workers" ∷ decimal n ∷ []))) ≡ Some (asked q)
+unfolding asked
 taken forms Check n least most = forms.check _ _ _ program proof third (codes "step") _ (option n least most)
 taken forms Verify n least most = forms.verify _ _ program proof (codes "step") _ (option n least most)
 taken forms Prove n least most = forms.prove _ _ program proof (codes "step") _ (option n least most)

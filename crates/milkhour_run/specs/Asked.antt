@@ -9,7 +9,8 @@ use Rattle.milkhour_run.specs.declared.held_texts.Texts.{Texts}
 use Rattle.milkhour_run.specs.declared.question.Question.{Question}
 use Rattle.milkhour_run.specs.declared.question.Question.TheVariants.{Check, Verify, Prove, Trace, Invariants}
 
-abbrev pub asked : Question → PlainRequest
+-- it isn't unfolded where a question is named, since the plan of a command is a large term
+unfoldable pub asked : Question → PlainRequest
 asked Check = checks (codes "program") (codes "proof") (codes "third")
 asked Verify = verifies (codes "program") (codes "proof")
 asked Prove = proves (codes "program") (codes "proof")

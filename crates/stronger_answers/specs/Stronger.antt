@@ -1,17 +1,23 @@
 -- What is answered where two searches follow each other.
-use Rattle.std.specs.Prelude.{◌≡◌, ◌⊎◌, ℕ, List, Some, option_map}
+use Rattle.std.specs.Prelude.{◌≡◌, ◌⊎◌, ℕ, List, [], Some, IfSome, option_map}
+use Rattle.st_outside.specs.Sink.{behind}
 use Rattle.step_plan.specs.declared.status.Status.TheVariants.{Proved, NotProved}
+use Rattle.step_plan.specs.Plan.{outcome_of}
+use Rattle.step_plan.specs.Ending.{UnlessFault, IsReached}
+use Rattle.step_run.specs.Headline.{Headline, Exactly}
+use Rattle.step_run.specs.Plans.{plan_for}
 use Rattle.step_answers.specs.declared.answer.Answer.{Answer}
-use Rattle.milkhour_run.specs.Answers.{IsStepAnswer, HoldsIfProved, IsProvedExactly}
+use Rattle.milkhour_run.specs.Held.{told_in}
+use Rattle.milkhour_run.specs.Asked.{asked}
 use Rattle.milkhour_run.specs.declared.held_texts.Texts.{Texts}
 use Rattle.milkhour_run.specs.declared.question.Question.{Question}
 use Rattle.milkhour_run.specs.declared.question.Question.TheVariants.{Check, Verify}
 
 -- `step`'s answer to a question: status and text, what is shown with status 0, and when this comes
 pub record IsAnswerTo (q : Question) (t : Texts) (a : Answer) : Type 0 where
-  pub outcome : IsStepAnswer t q a
-  pub headline : HoldsIfProved t q a
-  pub exact : IsProvedExactly t q a
+  pub outcome : UnlessFault a.status (IfSome (outcome_of (told_in t) (plan_for (asked q))) (IsReached a.status (Some []) (Some a.text.items)))
+  pub headline : a.status ≡ Proved → Headline (told_in t) (λ text. Some a.text.items ≡ behind (Some []) text) (Some (asked q))
+  pub exact : UnlessFault a.status (Exactly (told_in t) a.status (Some (asked q)))
 
 -- `check` answers over the same program and proof, with these certificates, that the goals hold
 pub record IsCheckedBy (t : Texts) (certificates : List ℕ) (a : Answer) : Type 0 where
@@ -30,7 +36,7 @@ IsAccepted t certificates = (a : Answer) × IsCheckedBy t certificates a
 pub record IsClosed (t : Texts) (a : Answer) : Type 0 where
   pub first : Answer
   pub number : ℕ
-  pub asked : IsAnswerTo Verify t first
+  pub verified : IsAnswerTo Verify t first
   pub left_open : first.status ≡ NotProved number
   pub certificates : List ℕ
   pub checked : IsCheckedBy t certificates a

@@ -7,6 +7,7 @@ use crate::attempts::Attempt;
 use crate::progress::progressed;
 use crate::subject::read_subject;
 use find_requests::read_request;
+use invariant_search::Observer;
 use std::alloc::Global;
 
 /// What came of an attempt.
@@ -21,21 +22,22 @@ pub struct Attempted {
 /// are given, and may be cited. What is found is the text itself, with found steps in front of the goals, and with how these are shown.
 ///
 /// Who calls judges what is found: whether a text is a proof, and whether a goal fails on a run. Of the attempts each is made where those
-/// in front of it came to nothing, with its share of the queries that are left.
+/// in front of it came to nothing, with its share of the queries that are left. The observer is told how far the search is.
 ///
 /// # Errors
 /// The first fault of either text; want of memory.
-pub fn attempt_proofs(
+pub fn attempt_proofs<O: Observer>(
     alloc: Global,
     program: &[u8],
     proof: &[u8],
     attempt: Attempt,
     budget: u64,
+    observer: &O,
 ) -> Result<Attempted, FindFault>
     ensures { IfOk result (λ attempted. attempted.queries ≤ budget) }
 {
     let subject = read_subject(alloc, program)?;
     let request = read_request(alloc, proof, &subject.names, &subject.system)?;
-    let (found, queries) = progressed(alloc, &subject, proof, &request, attempt, budget)?;
+    let (found, queries) = progressed(alloc, &subject, proof, &request, attempt, budget, observer)?;
     Ok(Attempted { found, queries })
 }

@@ -29,3 +29,4 @@ mod writing;
 pub use answers::{Failing, FindFault, Found, Missing, Proposal, Unfound};
 pub use attempts::{ATTEMPTS, Attempt, share};
 pub use finding::{Attempted, attempt_proofs};
+pub use invariant_search::{Counts, Observer, Unobserved};

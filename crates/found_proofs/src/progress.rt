@@ -13,7 +13,7 @@ use crate::steps::Citable;
 use crate::subject::Subject;
 use control_cubes::CubeFault;
 use find_requests::{Extent, Leading, Request, Wanted};
-use invariant_search::{Run, Why};
+use invariant_search::{Observer, Run, Why};
 use st_form::Form;
 use st_memory::Memory;
 use std::alloc::Global;
@@ -218,7 +218,11 @@ impl<'s, 't> Progress<'s, 't> {
 
     /// Proves the goals that wait; an answer where that fails. Where a number grows too large it isn't known how many queries were
     /// asked, so all that were allowed count.
-    fn settle(&mut self, alloc: Global) -> Result<Option<Found>, Memory> {
+    fn settle<O: Observer>(
+        &mut self,
+        alloc: Global,
+        observer: &O,
+    ) -> Result<Option<Found>, Memory> {
         if self.waiting.claims.is_empty() {
             return Ok(None);
         }
@@ -228,7 +232,13 @@ impl<'s, 't> Progress<'s, 't> {
             known: &self.known,
             budget: self.left,
         };
-        match prove(alloc, task, &self.waiting.claims, &mut self.naming) {
+        match prove(
+            alloc,
+            task,
+            &self.waiting.claims,
+            &mut self.naming,
+            observer,
+        ) {
             Ok(effort) => {
                 self.left = self.left.saturating_sub(effort.queries);
                 self.conclude(alloc, effort.tried)
@@ -314,12 +324,13 @@ impl<'s, 't> Progress<'s, 't> {
     }
 
     /// Goes over a step that has its own place in the script, or asks for a chain.
-    fn pass(
+    fn pass<O: Observer>(
         &mut self,
         alloc: Global,
         extent: Extent<'t>,
         wanted: &Wanted,
         step: Option<&Step>,
+        observer: &O,
     ) -> Result<Option<Found>, Memory> {
         match (wanted, step) {
             (Wanted::Proof, Some(step)) => {
@@ -327,13 +338,13 @@ impl<'s, 't> Progress<'s, 't> {
                 Ok(None)
             }
             (Wanted::Nothing, Some(step)) => {
-                let answer = self.settle(alloc)?;
+                let answer = self.settle(alloc, observer)?;
                 self.know(alloc, step)?;
                 self.behind = extent.end;
                 Ok(answer)
             }
             (Wanted::Chain(leading), _) => {
-                if let Some(answer) = self.settle(alloc)? {
+                if let Some(answer) = self.settle(alloc, observer)? {
                     return Ok(Some(answer));
                 }
                 self.answer(alloc, extent, leading)
@@ -370,15 +381,16 @@ fn first_goal(alloc: Global, request: &Request<'_>) -> Result<String, Memory> {
 }
 
 /// Goes through the steps of a text; an answer where a goal isn't proved.
-fn through<'t>(
+fn through<'t, O: Observer>(
     alloc: Global,
     progress: &mut Progress<'_, 't>,
     request: &Request<'t>,
+    observer: &O,
 ) -> Result<Option<Found>, Memory> {
     let steps = request.script.steps.as_slice();
     let mut next = 0usize;
     for (extent, wanted) in &request.steps {
-        let answer = progress.pass(alloc, *extent, wanted, steps.get(next))?;
+        let answer = progress.pass(alloc, *extent, wanted, steps.get(next), observer)?;
         if answer.is_some() {
             return Ok(answer);
         }
@@ -386,7 +398,7 @@ fn through<'t>(
             next = next.saturating_add(1);
         }
     }
-    progress.settle(alloc)
+    progress.settle(alloc, observer)
 }
 
 /// The text with all that was found.
@@ -402,30 +414,32 @@ fn proposal(
 }
 
 /// What comes of the goals of a text.
-fn outcome<'t>(
+fn outcome<'t, O: Observer>(
     alloc: Global,
     progress: &mut Progress<'_, 't>,
     request: &Request<'t>,
+    observer: &O,
 ) -> Result<Found, Memory> {
-    match through(alloc, progress, request)? {
+    match through(alloc, progress, request, observer)? {
         Some(found) => Ok(found),
         None => proposal(alloc, progress, request),
     }
 }
 
 /// What an attempt finds of the goals of a text, with so many queries; and how many it asked.
-pub(crate) fn progressed<'t>(
+pub(crate) fn progressed<'t, O: Observer>(
     alloc: Global,
     subject: &Subject,
     text: &'t [u8],
     request: &Request<'t>,
     attempt: Attempt,
     budget: u64,
+    observer: &O,
 ) -> Result<(Found, u64), Memory>
     ensures { IfOk result (λ answer. answer.1 ≤ budget) }
 {
     let steps = request.script.steps.as_slice();
     let mut progress = Progress::new(alloc, subject, text, steps, attempt, budget)?;
-    let found = outcome(alloc, &mut progress, request)?;
+    let found = outcome(alloc, &mut progress, request, observer)?;
     Ok((found, budget.saturating_sub(progress.left)))
 }

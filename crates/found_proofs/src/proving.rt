@@ -14,7 +14,7 @@ pub(crate) use crate::writing::Proof;
 use crate::writing::written;
 use clause_texts::{ClauseFault, ClauseWriter};
 use control_cubes::{Cube, CubeFault};
-use invariant_search::{Outcome, Run, Search, Why};
+use invariant_search::{Observer, Outcome, Run, Search, Why};
 use st_form::Form;
 use st_memory::Memory;
 use std::alloc::Global;
@@ -56,14 +56,15 @@ fn left_text(
 }
 
 /// Looks for lemmas from which the goal with a number follows; `None` where they are found.
-fn sought_one(
+fn sought_one<O: Observer>(
     alloc: Global,
     search: &mut Search<'_>,
     writer: &ClauseWriter<'_>,
     number: usize,
     goal: &Form,
+    observer: &O,
 ) -> Result<Option<Tried>, CubeFault> {
-    match search.ic3(alloc, goal)? {
+    match search.ic3(alloc, goal, observer)? {
         Outcome::Inductive => {
             search.drop_bounded();
             Ok(None)
@@ -77,14 +78,15 @@ fn sought_one(
 }
 
 /// Looks for lemmas from which each goal follows; `None` where they are found.
-fn sought(
+fn sought<O: Observer>(
     alloc: Global,
     search: &mut Search<'_>,
     writer: &ClauseWriter<'_>,
     goals: &[Form],
+    observer: &O,
 ) -> Result<Option<Tried>, CubeFault> {
     for (number, goal) in goals.iter().enumerate() {
-        let tried = sought_one(alloc, search, writer, number, goal)?;
+        let tried = sought_one(alloc, search, writer, number, goal, observer)?;
         if tried.is_some() {
             return Ok(tried);
         }
@@ -200,7 +202,7 @@ fn claims_of(alloc: Global, goals: &[Form]) -> Result<Vec<Claim>, Memory> {
 }
 
 /// Looks for lemmas from which the goals follow, and then for the least proof.
-fn proved(
+fn proved<O: Observer>(
     alloc: Global,
     task: Task<'_>,
     search: &mut Search<'_>,
@@ -208,9 +210,10 @@ fn proved(
     goals: &[Form],
     claims: &[Claim],
     naming: &mut Naming,
+    observer: &O,
 ) -> Result<Effort, CubeFault> {
     let writer = task.subject.writer(alloc, search)?;
-    match sought(alloc, search, &writer, goals)? {
+    match sought(alloc, search, &writer, goals, observer)? {
         Some(tried) => Ok(Effort {
             tried,
             queries: asked(task, search),
@@ -220,13 +223,23 @@ fn proved(
 }
 
 /// Tries to prove goals of invariance.
-pub(crate) fn prove(
+pub(crate) fn prove<O: Observer>(
     alloc: Global,
     task: Task<'_>,
     goals: &[Form],
     naming: &mut Naming,
+    observer: &O,
 ) -> Result<Effort, CubeFault> {
     let claims = claims_of(alloc, goals)?;
     let (mut search, given) = begun(alloc, task, goals)?;
-    proved(alloc, task, &mut search, given, goals, &claims, naming)
+    proved(
+        alloc,
+        task,
+        &mut search,
+        given,
+        goals,
+        &claims,
+        naming,
+        observer,
+    )
 }

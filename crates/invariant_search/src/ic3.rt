@@ -3,6 +3,7 @@
 use crate::answer::{Answer, Entry, Move, Outcome, Run, Why};
 use crate::blocking::Blocking;
 use crate::lemma::{ALWAYS, Allowed};
+use crate::observing::Observer;
 use crate::prover::passing;
 use crate::search::Search;
 use crate::step::Step;
@@ -161,14 +162,16 @@ impl Search<'_> {
     }
 
     /// Blocks all states at this level in which the goal is false.
-    fn block_all(
+    fn block_all<O: Observer>(
         &mut self,
         alloc: Global,
         goal: &Form,
         denied: &SharedForm,
         top: u32,
+        observer: &O,
     ) -> Result<Level, CubeFault> {
         for _ in 0..MOST_ROUNDS {
+            observer.at(self.counts());
             if let Some(level) = self.block_one(alloc, goal, denied, top)? {
                 return Ok(level);
             }
@@ -238,15 +241,16 @@ impl Search<'_> {
     }
 
     /// What the search comes to at a level; `None` where it goes on to the next.
-    fn at_level(
+    fn at_level<O: Observer>(
         &mut self,
         alloc: Global,
         goal: &Form,
         denied: &SharedForm,
         top: u32,
+        observer: &O,
     ) -> Result<Option<Outcome>, CubeFault> {
         self.level = self.level.max(top);
-        match self.block_all(alloc, goal, denied, top)? {
+        match self.block_all(alloc, goal, denied, top, observer)? {
             Level::Over(outcome) => Ok(Some(outcome)),
             Level::Closed => {
                 if self.push_all(alloc, top)? {
@@ -259,17 +263,18 @@ impl Search<'_> {
     }
 
     /// The levels in turn, behind the first states of runs.
-    fn through_levels(
+    fn through_levels<O: Observer>(
         &mut self,
         alloc: Global,
         goal: &Form,
         denied: &SharedForm,
+        observer: &O,
     ) -> Result<Outcome, CubeFault> {
         if let Some(outcome) = self.before_all(alloc, denied)? {
             return Ok(outcome);
         }
         for top in 1..MOST_LEVELS {
-            if let Some(outcome) = self.at_level(alloc, goal, denied, top)? {
+            if let Some(outcome) = self.at_level(alloc, goal, denied, top, observer)? {
                 return Ok(outcome);
             }
         }
@@ -277,8 +282,13 @@ impl Search<'_> {
     }
 
     /// The levels in turn.
-    pub(crate) fn all_levels(&mut self, alloc: Global, goal: &Form) -> Result<Outcome, CubeFault> {
+    pub(crate) fn all_levels<O: Observer>(
+        &mut self,
+        alloc: Global,
+        goal: &Form,
+        observer: &O,
+    ) -> Result<Outcome, CubeFault> {
         let denied = passing(alloc, negation(alloc, goal.copy(alloc)?)?)?;
-        self.through_levels(alloc, goal, &denied)
+        self.through_levels(alloc, goal, &denied, observer)
     }
 }

@@ -3,6 +3,7 @@
 use crate::answer::{Answer, Counts, Entry, Outcome};
 use crate::lemma::{ALWAYS, Allowed, Lemma};
 use crate::moving::behind_step;
+use crate::observing::Observer;
 use crate::pool::Pool;
 use crate::prover::{FIRST_HINT, narrowed};
 use crate::setting::Setting;
@@ -235,7 +236,12 @@ impl<'a> Search<'a> {
     }
 
     /// Looks for lemmas from which the goal follows. `TooLarge` where a number grows too large on the way.
-    pub fn ic3(&mut self, alloc: Global, goal: &Form) -> Result<Outcome, CubeFault> {
-        self.all_levels(alloc, goal)
+    pub fn ic3<O: Observer>(
+        &mut self,
+        alloc: Global,
+        goal: &Form,
+        observer: &O,
+    ) -> Result<Outcome, CubeFault> {
+        self.all_levels(alloc, goal, observer)
     }
 }

@@ -1,6 +1,7 @@
 //! `find`: what is found is judged by proved calls before it is told, a proof as `verify` does, and a run by the goal that fails on it.
 
 mod judging;
+mod observing;
 mod pages;
 mod reporting;
 mod telling;
@@ -13,6 +14,7 @@ use find_requests::script_around;
 use found_proofs::{ATTEMPTS, FindFault, attempt_proofs, share};
 use judging::Subject;
 use milkhour_words::Options;
+use observing::SearchLines;
 use progress_lines::Watch;
 use proof_script::ScriptFault;
 use reporting::{FindReport, Verdict, report_of, untried_report};
@@ -27,8 +29,8 @@ use telling::tell;
 /// The most questions to the prover of a search that an editor asks for, which are as many as `milkhour find` asks by itself.
 const EDITOR_BUDGET: u64 = 200_000;
 
-/// Says which attempt begins, by its number from 0, and how many questions were asked in front of it, where the search takes long. The calls
-/// that search read no clock, so it is said between attempts. Where this can't be written, nothing is lost.
+/// Says which attempt begins, by its number from 0, and how many questions were asked in front of it, where the search takes long. Where
+/// this can't be written, nothing is lost.
 fn say_attempt<R: Clock + Eprint>(rt: &R, watch: Watch, number: usize, asked: u64) {
     if watch.is_late(rt) {
         let attempt = number.saturating_add(1);
@@ -46,12 +48,20 @@ fn search<R: Clock + Eprint + Threads + Sync>(
     proof: &[u8],
     watch: Watch,
 ) -> Result<FindReport, FindFault> {
+    let lines = SearchLines::new(rt, watch);
     let mut left = subject.budget;
     let mut report = untried_report(subject)?;
     for (number, attempt) in ATTEMPTS.iter().enumerate() {
         say_attempt(rt, watch, number, subject.budget.saturating_sub(left));
         let share = share(number, left);
-        let tried = attempt_proofs(subject.alloc, subject.program, proof, *attempt, share)?;
+        let tried = attempt_proofs(
+            subject.alloc,
+            subject.program,
+            proof,
+            *attempt,
+            share,
+            &lines,
+        )?;
         left = left.saturating_sub(tried.queries);
         report = report_of(rt, subject, &tried.found)?;
         report.queries = subject.budget.saturating_sub(left);

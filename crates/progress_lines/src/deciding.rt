@@ -3,49 +3,33 @@
 
 ghost use Rattle.std.specs.Prelude.{IsTrue, true};
 
-use crate::watching::{PATIENCE, Watch};
+use crate::pulse::Pulse;
+use crate::watching::Watch;
 use st_outside::Gate;
 use std::io::Eprint;
 use std::sync::atomic::AtomicU64;
 use std::sync::atomic::Ordering::Relaxed;
 use std::time::Clock;
 
-/// How many milliseconds go by between two lines.
-const PERIOD: u64 = 1000;
-
 /// A gate that says how far the conditions of a question are decided.
 #[derive(Drop)]
 pub struct Progress<'a, R: Clock + Eprint> {
     rt: &'a R,
-    watch: Watch,
+    pulse: Pulse<'a, R>,
     posed: AtomicU64,
     decided: AtomicU64,
     open: AtomicU64,
-    /// Behind how many milliseconds it is said again.
-    due: AtomicU64,
 }
 
 impl<'a, R: Clock + Eprint> Progress<'a, R> {
     pub fn new(rt: &'a R, watch: Watch) -> Progress<'a, R> {
         Progress {
             rt,
-            watch,
+            pulse: Pulse::new(rt, watch),
             posed: AtomicU64::new(0),
             decided: AtomicU64::new(0),
             open: AtomicU64::new(0),
-            due: AtomicU64::new(PATIENCE),
         }
-    }
-
-    /// Whether it is time to say it, and nobody else does.
-    fn is_due(&self) -> bool {
-        let gone = self.watch.gone(self.rt);
-        let due = self.due.load(Relaxed);
-        due < gone
-            && self
-                .due
-                .compare_exchange(due, gone.saturating_add(PERIOD), Relaxed, Relaxed)
-                .is_ok()
     }
 
     /// Says how far the conditions are. Where this can't be written, nothing is lost.
@@ -81,7 +65,7 @@ impl<R: Clock + Eprint> Gate for Progress<'_, R> {
     fn decided(&self, count: usize, open: usize) {
         self.decided.fetch_add(count as u64, Relaxed);
         self.open.fetch_add(open as u64, Relaxed);
-        if self.is_due() {
+        if self.pulse.is_due() {
             self.say();
         }
     }

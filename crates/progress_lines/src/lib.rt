@@ -2,7 +2,9 @@
 #![tactic(auto)]
 
 mod deciding;
+mod pulse;
 mod watching;
 
 pub use deciding::Progress;
+pub use pulse::Pulse;
 pub use watching::Watch;

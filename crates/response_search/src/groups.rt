@@ -11,7 +11,7 @@ use crate::group_bases::bases_in;
 use crate::items::{Around, Denied, Group, Trial, astray_by_steps};
 use crate::saturation::Saturation;
 use control_cubes::CubeFault;
-use invariant_search::{ALWAYS, Allowed, Outcome, Search};
+use invariant_search::{ALWAYS, Allowed, Outcome, Search, Unobserved};
 use st_form::{Form, SharedForm};
 use std::alloc::Global;
 use std::collections::BTreeMap;
@@ -140,7 +140,7 @@ impl Saturation<'_> {
             return Ok(false);
         }
         let parts = self.settled_form(alloc, opened.region.get())?;
-        let outcome = search.ic3(alloc, &Form::Or(parts))?;
+        let outcome = search.ic3(alloc, &Form::Or(parts), &Unobserved)?;
         search.drop_bounded();
         Ok(matches!(outcome, Outcome::Inductive))
     }

@@ -11,7 +11,7 @@ use crate::literals::literals;
 use crate::loops::take_loop;
 use crate::saturation::Saturation;
 use control_cubes::{CubeFault, State, negation};
-use invariant_search::{ALWAYS, Allowed, Outcome, Search};
+use invariant_search::{ALWAYS, Allowed, Outcome, Search, Unobserved};
 use st_form::{Form, SharedForm, Variable};
 use st_memory::Memory;
 use std::alloc::Global;
@@ -62,7 +62,7 @@ impl Saturation<'_> {
         }
         self.asked = true;
         let parts = self.settled_form(alloc, self.start)?;
-        let outcome = search.ic3(alloc, &Form::Or(parts))?;
+        let outcome = search.ic3(alloc, &Form::Or(parts), &Unobserved)?;
         search.drop_bounded();
         match outcome {
             Outcome::Inductive => self.is_covered(alloc, search),

@@ -6,7 +6,7 @@ use crate::given::{Given, GivenText};
 use crate::reports::{Account, Shown, shown_of, warned_of};
 use crate::streams::{Streams, Target, style_of, write_remark, write_result};
 use crate::trouble::Trouble;
-use milkhour_run::{Answer, Question, Status, Texts, answer};
+use milkhour_run::{Answer, Question, Status, Texts};
 use milkhour_words::{Format, Options};
 use progress_lines::{Progress, Watch};
 use st_memory::Memory;
@@ -15,7 +15,7 @@ use std::alloc::{AllocError, Global};
 use std::rt::Runtime;
 use std::str;
 use std::thread::Threads;
-use stronger_answers::{certified, verified};
+use stronger_answers::answered;
 
 /// Whether what is answered with status 0 is a text that is wanted, and no report.
 fn gives_text(question: Question) -> bool {
@@ -118,43 +118,6 @@ fn tell<R: Runtime + AllocGlobal, G: Gate>(
     let warnings = warned_of(rt.alloc(), &account)?;
     let shown = shown_of(rt.alloc(), gate, &account, warnings.as_slice())?;
     write_shown(rt, target, &shown)
-}
-
-/// The certificates of `prove`, or where its search leaves a condition open, those that the stronger search finds.
-fn proved<R: Threads + Sync, G: Gate + Sync>(
-    rt: &R,
-    alloc: Global,
-    workers: u32,
-    texts: &Texts<'_>,
-    gate: &G,
-) -> Result<Answer, Memory> {
-    let first = answer(rt, alloc, Question::Prove, workers, texts, gate)?;
-    let Status::NotProved(number) = first.status else {
-        return Ok(first);
-    };
-    match certified(rt, alloc, workers, texts, number)? {
-        Some(text) => Ok(Answer {
-            status: Status::Proved,
-            text,
-        }),
-        None => Ok(first),
-    }
-}
-
-/// What is answered to a question over texts.
-fn answered<R: Threads + Sync, G: Gate + Sync>(
-    rt: &R,
-    alloc: Global,
-    question: Question,
-    workers: u32,
-    texts: &Texts<'_>,
-    gate: &G,
-) -> Result<Answer, Memory> {
-    match question {
-        Question::Verify => verified(rt, alloc, workers, texts, gate),
-        Question::Prove => proved(rt, alloc, workers, texts, gate),
-        _ => answer(rt, alloc, question, workers, texts, gate),
-    }
 }
 
 /// What is shown of the answer: not with `--format plain`, the equations of `invariants` have facts behind them.

@@ -11,7 +11,7 @@ use Rattle.milkhour_run.specs.Held.{told_in}
 use Rattle.milkhour_run.specs.Asked.{asked}
 use Rattle.milkhour_run.specs.declared.held_texts.Texts.{Texts}
 use Rattle.milkhour_run.specs.declared.question.Question.{Question}
-use Rattle.milkhour_run.specs.declared.question.Question.TheVariants.{Check, Verify}
+use Rattle.milkhour_run.specs.declared.question.Question.TheVariants.{Check, Verify, Prove, Trace, Invariants}
 
 -- `step`'s answer to a question: status and text, what is shown with status 0, and when this comes
 pub record IsAnswerTo (q : Question) (t : Texts) (a : Answer) : Type 0 where
@@ -36,7 +36,7 @@ IsAccepted t certificates = (a : Answer) × IsCheckedBy t certificates a
 pub record IsClosed (t : Texts) (a : Answer) : Type 0 where
   pub first : Answer
   pub number : ℕ
-  pub verified : IsAnswerTo Verify t first
+  pub searched : IsAnswerTo Verify t first
   pub left_open : first.status ≡ NotProved number
   pub certificates : List ℕ
   pub checked : IsCheckedBy t certificates a
@@ -44,3 +44,24 @@ pub record IsClosed (t : Texts) (a : Answer) : Type 0 where
 -- the answer of `verify`, or where that leaves a condition open, one of `check` that the goals hold
 abbrev pub IsStronger : Texts → Answer → Type 0
 IsStronger t a = IsAnswerTo Verify t a ⊎ IsClosed t a
+
+-- `prove` leaves a condition open, and this is a text of certificates that `check` accepts
+pub record IsCertified (t : Texts) (a : Answer) : Type 0 where
+  pub first : Answer
+  pub number : ℕ
+  pub searched : IsAnswerTo Prove t first
+  pub left_open : first.status ≡ NotProved number
+  pub proved : a.status ≡ Proved
+  pub accepted : IsAccepted t a.text.items
+
+-- the answer of `prove`, or where that leaves a condition open, certificates that `check` accepts
+abbrev pub IsCertifying : Texts → Answer → Type 0
+IsCertifying t a = IsAnswerTo Prove t a ⊎ IsCertified t a
+
+-- what is answered to a question
+abbrev pub IsAnswered : Question → Texts → Answer → Type 0
+IsAnswered Check t a = IsAnswerTo Check t a
+IsAnswered Verify t a = IsStronger t a
+IsAnswered Prove t a = IsCertifying t a
+IsAnswered Trace t a = IsAnswerTo Trace t a
+IsAnswered Invariants t a = IsAnswerTo Invariants t a

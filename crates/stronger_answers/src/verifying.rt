@@ -3,7 +3,7 @@
 
 ghost use Rattle.std.specs.Prelude.{IfOk, IfSome};
 ghost use Rattle.std.specs.Thread.{IsSync};
-ghost use Rattle.stronger_answers.specs.Stronger.{IsAccepted, IsCheckedBy, IsStronger};
+ghost use Rattle.stronger_answers.specs.Stronger.{IsAccepted, IsCertifying, IsCheckedBy, IsStronger};
 
 use crate::certificates::certificates;
 use milkhour_run::{Answer, Question, Status, Texts, answer};
@@ -87,9 +87,9 @@ pub fn verified<R: Threads + Sync, G: Gate + Sync>(
     }
 }
 
-/// Certificates of all conditions that `check` accepts, if they are found. That of the condition with a number, which `verify` or `prove`
-/// left open, is looked for first.
-pub fn certified<R: Threads + Sync>(
+/// Certificates of all conditions that `check` accepts, if they are found. That of the condition with a number, which `prove` left open, is
+/// looked for first.
+fn certified<R: Threads + Sync>(
     rt: &R,
     alloc: Global,
     workers: u32,
@@ -101,5 +101,30 @@ pub fn certified<R: Threads + Sync>(
     match certified_answer(rt, alloc, workers, texts, number)? {
         Some((found, _)) => Ok(Some(found)),
         None => Ok(None),
+    }
+}
+
+/// Certificates of all conditions: what `prove` answers, or, where that leaves a condition open, those that the stronger search finds, if
+/// `check` accepts them. The gate is told what `prove` tells it.
+pub fn proved<R: Threads + Sync, G: Gate + Sync>(
+    rt: &R,
+    alloc: Global,
+    workers: u32,
+    texts: &Texts<'_>,
+    gate: &G,
+) -> Result<Answer, Memory>
+    // It is the answer of `prove`, or where that leaves a condition open, a text that `check` accepts.
+    ensures { IfOk result (IsCertifying texts.now) }
+{
+    let first = answer(rt, alloc, Question::Prove, workers, texts, gate)?;
+    let Status::NotProved(number) = first.status else {
+        return Ok(first);
+    };
+    match certified(rt, alloc, workers, texts, number)? {
+        Some(text) => Ok(Answer {
+            status: Status::Proved,
+            text,
+        }),
+        None => Ok(first),
     }
 }

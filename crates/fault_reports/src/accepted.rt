@@ -106,9 +106,25 @@ fn of_program(alloc: Global, program: TextFile) -> Result<Option<Fault>, Memory>
     )?))
 }
 
-/// The warnings on a proof that is read.
+/// Whether `true` stands behind a colon, where a claim begins.
+fn claims_truth(source: &Source) -> bool {
+    let mut behind_colon = false;
+    for token in &source.tokens {
+        let word = word_of(token);
+        if behind_colon && word == "true" {
+            return true;
+        }
+        behind_colon = word == ":";
+    }
+    false
+}
+
+/// The warnings on a proof that is read. Its steps are looked for only where a warning may speak of them.
 fn of_proof(alloc: Global, proof: TextFile, out: &mut Vec<Fault>) -> Result<(), Memory> {
     let source = Source::new(alloc, proof)?;
+    if !source.tokens.is_empty() && !claims_truth(&source) {
+        return Ok(());
+    }
     let steps = step_places(alloc, proof.text)?;
     if steps.is_empty() {
         let span = Span { from: 0, to: 0 };

@@ -1,5 +1,6 @@
 //! States and steps that were found, the last ones, which may answer other questions without a search.
 
+use crate::lemma::{Allowed, Lemma};
 use control_cubes::{Cube, Layout, State};
 use st_form::SharedForm;
 use st_memory::Memory;
@@ -18,12 +19,25 @@ pub(crate) struct Passage {
     pub(crate) from: State,
     to: State,
     pub(crate) step: u32,
+    /// The last lemma that was seen to be false where it begins. Lemmas keep their numbers and what they say, so it is so still.
+    excluded_by: Option<usize>,
 }
 
 impl Passage {
     /// Whether it leads into the cube from outside it.
     pub(crate) fn enters(&self, cube: &Cube) -> bool {
         cube.contains(&self.to) && !cube.contains(&self.from)
+    }
+
+    /// Whether the lemma that was last seen to be false where it begins may be used.
+    pub(crate) fn is_excluded(&self, lemmas: &[Lemma], allowed: Allowed<'_>) -> bool {
+        let Some(number) = self.excluded_by else {
+            return false;
+        };
+        match lemmas.get(number) {
+            Some(lemma) => allowed.has(number, lemma),
+            None => false,
+        }
     }
 }
 
@@ -54,9 +68,21 @@ impl Known {
         }
     }
 
-    /// The steps that were found, the last one at the end.
-    pub(crate) fn passages(&self) -> &VecDeque<Passage> {
-        &self.passages
+    /// How many steps are kept.
+    pub(crate) fn passages(&self) -> usize {
+        self.passages.len()
+    }
+
+    /// The step with a number, from 0; the one that was found last has the highest.
+    pub(crate) fn passage(&self, number: usize) -> Option<&Passage> {
+        self.passages.get(number)
+    }
+
+    /// Keeps in mind that a lemma is false where the step with a number begins.
+    pub(crate) fn exclude(&mut self, number: usize, lemma: usize) {
+        if let Some(passage) = self.passages.get_mut(number) {
+            passage.excluded_by = Some(lemma);
+        }
     }
 
     /// The last state that was found in which the formulas are true.
@@ -96,7 +122,12 @@ impl Known {
         if self.passages.len() >= MOST_PASSAGES {
             let _ = self.passages.pop_front();
         }
-        self.passages.push_back(Passage { from, to, step })?;
+        self.passages.push_back(Passage {
+            from,
+            to,
+            step,
+            excluded_by: None,
+        })?;
         Ok(())
     }
 }

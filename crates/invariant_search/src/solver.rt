@@ -132,22 +132,69 @@ impl<'a> Solver<'a> {
         }
     }
 
-    /// Whether a state is among those that are reached by at most so many steps, as far as lemmas say.
-    fn is_within(&self, lemmas: &[Lemma], level: u32, state: &State) -> bool {
-        if level == 0 {
-            return state.satisfies(&self.setting.layout, self.setting.initial.get());
+    /// Whether the step with a number leads into the cube from outside it, and begins in a first state of runs.
+    fn begins_run(&self, cube: &Cube, number: usize) -> bool {
+        match self.known.passage(number) {
+            Some(passage) => {
+                passage.enters(cube)
+                    && passage
+                        .from
+                        .satisfies(&self.setting.layout, self.setting.initial.get())
+            }
+            None => false,
         }
-        first_broken(&self.setting, lemmas, Allowed::From(level), state).is_none()
     }
 
-    /// A step into the cube from outside it that was found before.
-    fn remembered(&self, lemmas: &[Lemma], level: u32, cube: &Cube) -> Option<(&State, u32)> {
-        for passage in self.known.passages().iter().rev() {
-            if passage.enters(cube) && self.is_within(lemmas, level, &passage.from) {
-                return Some((&passage.from, passage.step));
+    /// Whether the step with a number leads into the cube from outside it, and begins where all lemmas of the level hold. The lemma that
+    /// doesn't is looked at first the next time: all of them would be a walk of each step over each lemma.
+    fn begins_within(&mut self, lemmas: &[Lemma], level: u32, cube: &Cube, number: usize) -> bool {
+        let allowed = Allowed::From(level);
+        let Some(passage) = self.known.passage(number) else {
+            return false;
+        };
+        if !passage.enters(cube) || passage.is_excluded(lemmas, allowed) {
+            return false;
+        }
+        match first_broken(&self.setting, lemmas, allowed, &passage.from) {
+            Some(lemma) => {
+                self.known.exclude(number, lemma);
+                false
+            }
+            None => true,
+        }
+    }
+
+    /// The number of a step that was found before, which leads into the cube from a state outside it that is reached by at most so many
+    /// steps, as far as lemmas say.
+    fn remembered(&mut self, lemmas: &[Lemma], level: u32, cube: &Cube) -> Option<usize> {
+        for number in (0..self.known.passages()).rev() {
+            let enters = if level == 0 {
+                self.begins_run(cube, number)
+            } else {
+                self.begins_within(lemmas, level, cube, number)
+            };
+            if enters {
+                return Some(number);
             }
         }
         None
+    }
+
+    /// The same step, with the state in which it begins.
+    fn remembered_entry(
+        &mut self,
+        alloc: Global,
+        lemmas: &[Lemma],
+        level: u32,
+        cube: &Cube,
+    ) -> Result<Option<Entry>, Memory> {
+        let Some(number) = self.remembered(lemmas, level, cube) else {
+            return Ok(None);
+        };
+        match self.known.passage(number) {
+            Some(passage) => Ok(Some(Entry::Before(passage.from.copy(alloc)?, passage.step))),
+            None => Ok(None),
+        }
     }
 
     /// Remembers a step.
@@ -211,8 +258,8 @@ impl<'a> Solver<'a> {
         } else {
             level.saturating_sub(1)
         };
-        if let Some((state, step)) = self.remembered(lemmas, below, cube) {
-            return Ok(Entry::Before(state.copy(alloc)?, step));
+        if let Some(entry) = self.remembered_entry(alloc, lemmas, below, cube)? {
+            return Ok(entry);
         }
         let allowed = Allowed::From(below.max(1));
         let entry = self.enter_by_any(alloc, lemmas, cube, allowed, below == 0)?;

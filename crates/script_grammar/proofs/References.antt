@@ -95,18 +95,18 @@ module _ {A B : Type 0} (v : Verdict A) (w : Verdict B) (k : A → Reader B) (sa
 
 module _ (g : Setting) where
   -- THE VERDICTS
-  abbrev placed : Label → Option ℕ → Result (ℕ × ℕ) Breach
+  abbrev pub placed : Label → Option ℕ → Result (ℕ × ℕ) Breach
   placed l None = Err (broke rules.UnknownTransition l.place)
   placed l (Some n) = Ok (n, l.place)
 
-  abbrev place_verdict : Verdict (ℕ × ℕ)
+  abbrev pub place_verdict : Verdict (ℕ × ℕ)
   place_verdict l part = placed l (transition_named g.names g.system l.text part)
 
-  abbrev owed : (Option ℕ → Bool) → Rule → Label → Option ℕ → Result ℕ Breach
+  abbrev pub owed : (Option ℕ → Bool) → Rule → Label → Option ℕ → Result ℕ Breach
   owed fails rule l None = Err (broke rules.UnknownTransition l.place)
   owed fails rule l (Some n) = cond (fails (Some n)) (Err (broke rule l.place)) (Ok n)
 
-  abbrev owed_verdict : (Option ℕ → Bool) → Rule → Verdict ℕ
+  abbrev pub owed_verdict : (Option ℕ → Bool) → Rule → Verdict ℕ
   owed_verdict fails rule l part = owed fails rule l (transition_named g.names g.system l.text part)
 
   -- TRANSITIONS
@@ -119,17 +119,19 @@ module _ (g : Setting) where
   transition_is s =
       drawn_judges (λ l part. present (broke rules.UnknownTransition l.place) (option_map (λ n. (n, l.place)) (transition_named g.names g.system l.text part))) place_verdict (λ l part m. placed_so l (transition_named g.names g.system l.text part) m) s
 
-  transition_says : (at : ℕ) (r : RawTransition) → transition_rules g at r ≡ said_rules (at + transition_size r) (place_verdict r.label r.part)
+  pub transition_says : (at : ℕ) (r : RawTransition) → transition_rules g at r ≡ said_rules (at + transition_size r) (place_verdict r.label r.part)
   transition_says at r = at_seen (transition_named g.names g.system r.label.text r.part)
     where
       at_seen : (o : Option ℕ) → broken_where (is_none o) (at + transition_size r) (broke rules.UnknownTransition r.label.place) ≡ said_rules (at + transition_size r) (placed r.label o)
       at_seen None = refl
       at_seen (Some n) = refl
 
+  pub judged_transition : (at : ℕ) (s : Stream) → JudgedAt IsSyntactic no_dot at (transition_of g) raw_reference transition_size (transition_rules g at) (Told place_verdict (transition_rules g) transition_says at) s
+  judged_transition at s =
+      judged_as IsSyntactic no_dot at (judged_by place_verdict) raw_reference transition_size (transition_rules g at) (Told place_verdict (transition_rules g) transition_says at) (transition_of g) raw_reference s (λ after h. transition_is after) (λ after h. refl) (judged_reference place_verdict (transition_rules g) transition_says at s)
+
   pub transitions : StopsAtFirst IsReference (transition_rules g 0) (transition_of g)
-  transitions =
-      stops_at_first is_name no_dot refl reference_lawful (transition_rules g 0) (transition_of g) transition_size (Told place_verdict (transition_rules g) transition_says 0)
-      (λ s. judged_as IsSyntactic no_dot 0 (judged_by place_verdict) raw_reference transition_size (transition_rules g 0) (Told place_verdict (transition_rules g) transition_says 0) (transition_of g) raw_reference s (λ after h. transition_is after) (λ after h. refl) (judged_reference place_verdict (transition_rules g) transition_says 0 s))
+  transitions = stops_at_first is_name no_dot refl reference_lawful (transition_rules g 0) (transition_of g) transition_size (Told place_verdict (transition_rules g) transition_says 0) (judged_transition 0)
 
   -- HELPERS AND GROUPS
   abbrev owing : (Option ℕ → Bool) → Rule → ℕ × ℕ → Reader ℕ
@@ -156,31 +158,33 @@ module _ (g : Setting) where
       ap (λ (r : Read Breach (ℕ × ℕ)). r >>= λ x. owing fails rule x.0 x.1) (transition_is s)
       ∙ judged_then place_verdict (owed_verdict fails rule) (owing fails rule) (λ l part m. owed_so fails rule l (transition_named g.names g.system l.text part) m) s
 
-  helper_says : (at : ℕ) (r : RawTransition) → helper_rules g at r ≡ said_rules (at + transition_size r) (owed_verdict (is_unfair g.system) rules.UnfairHelper r.label r.part)
+  pub helper_says : (at : ℕ) (r : RawTransition) → helper_rules g at r ≡ said_rules (at + transition_size r) (owed_verdict (is_unfair g.system) rules.UnfairHelper r.label r.part)
   helper_says at r = owed_says (is_unfair g.system) rules.UnfairHelper (at + transition_size r) r.label (transition_named g.names g.system r.label.text r.part)
 
   helper_is : (s : Stream) → just_of g s ≡ judged_by (owed_verdict (is_unfair g.system) rules.UnfairHelper) s
   unfolding just_of
   helper_is s = owed_is (is_unfair g.system) rules.UnfairHelper s
 
-  pub helpers : StopsAtFirst IsReference (helper_rules g 0) (just_of g)
-  helpers =
-      stops_at_first is_name no_dot refl reference_lawful (helper_rules g 0) (just_of g) transition_size (Told (owed_verdict (is_unfair g.system) rules.UnfairHelper) (helper_rules g) helper_says 0)
-      (λ s. judged_as IsSyntactic no_dot 0 (judged_by (owed_verdict (is_unfair g.system) rules.UnfairHelper)) raw_reference transition_size (helper_rules g 0) (Told (owed_verdict (is_unfair g.system) rules.UnfairHelper) (helper_rules g) helper_says 0) (just_of g) raw_reference s
-      (λ after h. helper_is after) (λ after h. refl) (judged_reference (owed_verdict (is_unfair g.system) rules.UnfairHelper) (helper_rules g) helper_says 0 s))
+  pub judged_helper : (at : ℕ) (s : Stream) → JudgedAt IsSyntactic no_dot at (just_of g) raw_reference transition_size (helper_rules g at) (Told (owed_verdict (is_unfair g.system) rules.UnfairHelper) (helper_rules g) helper_says at) s
+  judged_helper at s =
+      judged_as IsSyntactic no_dot at (judged_by (owed_verdict (is_unfair g.system) rules.UnfairHelper)) raw_reference transition_size (helper_rules g at) (Told (owed_verdict (is_unfair g.system) rules.UnfairHelper) (helper_rules g) helper_says at) (just_of g) raw_reference s (λ after h. helper_is after) (λ after h. refl) (judged_reference (owed_verdict (is_unfair g.system) rules.UnfairHelper) (helper_rules g) helper_says at s)
 
-  group_says : (at : ℕ) (r : RawTransition) → group_rules g at r ≡ said_rules (at + transition_size r) (owed_verdict (is_uncompassionate g.system) rules.NotCompassionate r.label r.part)
+  pub helpers : StopsAtFirst IsReference (helper_rules g 0) (just_of g)
+  helpers = stops_at_first is_name no_dot refl reference_lawful (helper_rules g 0) (just_of g) transition_size (Told (owed_verdict (is_unfair g.system) rules.UnfairHelper) (helper_rules g) helper_says 0) (judged_helper 0)
+
+  pub group_says : (at : ℕ) (r : RawTransition) → group_rules g at r ≡ said_rules (at + transition_size r) (owed_verdict (is_uncompassionate g.system) rules.NotCompassionate r.label r.part)
   group_says at r = owed_says (is_uncompassionate g.system) rules.NotCompassionate (at + transition_size r) r.label (transition_named g.names g.system r.label.text r.part)
 
   group_is : (s : Stream) → compassionate_of g s ≡ judged_by (owed_verdict (is_uncompassionate g.system) rules.NotCompassionate) s
   unfolding compassionate_of
   group_is s = owed_is (is_uncompassionate g.system) rules.NotCompassionate s
 
+  pub judged_group : (at : ℕ) (s : Stream) → JudgedAt IsSyntactic no_dot at (compassionate_of g) raw_reference transition_size (group_rules g at) (Told (owed_verdict (is_uncompassionate g.system) rules.NotCompassionate) (group_rules g) group_says at) s
+  judged_group at s =
+      judged_as IsSyntactic no_dot at (judged_by (owed_verdict (is_uncompassionate g.system) rules.NotCompassionate)) raw_reference transition_size (group_rules g at) (Told (owed_verdict (is_uncompassionate g.system) rules.NotCompassionate) (group_rules g) group_says at) (compassionate_of g) raw_reference s (λ after h. group_is after) (λ after h. refl) (judged_reference (owed_verdict (is_uncompassionate g.system) rules.NotCompassionate) (group_rules g) group_says at s)
+
   pub groups : StopsAtFirst IsReference (group_rules g 0) (compassionate_of g)
-  groups =
-      stops_at_first is_name no_dot refl reference_lawful (group_rules g 0) (compassionate_of g) transition_size (Told (owed_verdict (is_uncompassionate g.system) rules.NotCompassionate) (group_rules g) group_says 0)
-      (λ s. judged_as IsSyntactic no_dot 0 (judged_by (owed_verdict (is_uncompassionate g.system) rules.NotCompassionate)) raw_reference transition_size (group_rules g 0) (Told (owed_verdict (is_uncompassionate g.system) rules.NotCompassionate) (group_rules g) group_says 0) (compassionate_of g) raw_reference s
-      (λ after h. group_is after) (λ after h. refl) (judged_reference (owed_verdict (is_uncompassionate g.system) rules.NotCompassionate) (group_rules g) group_says 0 s))
+  groups = stops_at_first is_name no_dot refl reference_lawful (group_rules g 0) (compassionate_of g) transition_size (Told (owed_verdict (is_uncompassionate g.system) rules.NotCompassionate) (group_rules g) group_says 0) (judged_group 0)
 
 -- NEW NAMES
 unequal : (xs ys : List ℕ) → bytes_eq xs ys ≡ bytes_eq ys xs

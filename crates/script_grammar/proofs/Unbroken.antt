@@ -7,7 +7,8 @@ use Rattle.st_reading.specs.BrokenRules.{Broken}
 use Rattle.expression_typer.specs.declared.fault.TypeFault.{TypeFault}
 use Rattle.script_grammar.specs.RawScripts.{RawUnit}
 use Rattle.script_grammar.specs.Meaning.{value_or}
-use Rattle.script_grammar.specs.Breaking.{broken_where, typing_rules, marked_rules, listed_rules}
+use Rattle.script_grammar.specs.Nesting.{first_passing, form_passes}
+use Rattle.script_grammar.specs.Breaking.{broken_where, nesting_rules, typing_rules, marked_rules, listed_rules}
 
 -- NO RULE IS BROKEN
 pub none_broken : {X : Type 0} {xs ys : List X} → xs ≡ [] → ys ≡ [] → xs ++ ys ≡ []
@@ -75,14 +76,17 @@ module _ {R : Type 0} (form : R → RawUnit) (size : R → ℕ) (judge : ℕ →
       let e = below_64 before (length xs) few in
       none_broken (rw e k.0) (listed_kept (suc before) (at + (1 + size x)) xs (omega (arith, few)) k.1)
 
-  one_of_few : (b : Bool) (xs ys zs : List (Broken Breach)) (y : Broken Breach) → cond b xs (y ∷ []) ++ zs ≡ [] → (b ≡ true) × (xs ≡ []) × (zs ≡ [])
+  one_is_one : (y : Broken Breach) → y ∷ [] ≡ [] → ⊥
+  one_is_one y h = absurd cc
+
+  one_of_few : (b : Bool) (xs ys zs : List (Broken Breach)) (y : Broken Breach) → cond b xs (ys ++ y ∷ []) ++ zs ≡ [] → (b ≡ true) × (xs ≡ []) × (zs ≡ [])
   one_of_few true xs ys zs y h = let k = both_kept xs zs h in (refl, k.0, k.1)
-  one_of_few false xs ys zs y h = absurd cc
+  one_of_few false xs ys zs y h = absurd (one_is_one y (both_kept ys (y ∷ []) (both_kept (ys ++ y ∷ []) zs h).0).1)
 
   pub kept_listed : (before at : ℕ) (xs : List R) → before ≤ 64 → listed_rules form size judge before at xs ≡ [] → (before + length xs ≤ 64) × (marked_rules size judge at xs ≡ [])
   kept_listed before at [] few h = (omega (arith, few), refl)
   kept_listed before at (x ∷ xs) few h =
-      let k = one_of_few (nat_lt before 64) (judge (at + 1) x) [] (listed_rules form size judge (suc before) (at + (1 + size x)) xs) _ h in
+      let k = one_of_few (nat_lt before 64) (judge (at + 1) x) (nesting_rules (at + 1) (first_passing form_passes (form x).text)) (listed_rules form size judge (suc before) (at + (1 + size x)) xs) _ h in
       let n = is_below_64 before k.0 in
       let m = kept_listed (suc before) (at + (1 + size x)) xs n k.2 in
       let less = m.0 in

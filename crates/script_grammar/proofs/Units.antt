@@ -20,11 +20,14 @@ use Rattle.proof_grammar.specs.Units.{IsFormula, IsNumber, IsTransition, IsHelpe
 use Rattle.script_grammar.specs.RawScripts.{RawUnit, RawTransition}
 use Rattle.script_grammar.specs.Sizes.{transition_size}
 use Rattle.script_grammar.specs.Drawings.{IsUnit, IsReference, first_place, spells_unit, spells_reference}
+use Rattle.script_grammar.specs.Nesting.{first_passing, form_passes, sum_passes}
+use Rattle.script_grammar.specs.Breaking.{nesting_rules, typing_rules}
 use Rattle.script_grammar.specs.Meaning.{form_meant, sum_meant, transition_meant}
 use Rattle.script_grammar.specs.Rules.{form_rules, sum_rules, transition_rules, helper_rules, group_rules, owed_rules}
 use Rattle.script_grammar.specs.Theorems.{Forms, Sums}
-use Rattle.script_grammar.proofs.Unbroken.{not_broken, is_kept, is_typed, no_fault, typed_value, is_there, there_is}
+use Rattle.script_grammar.proofs.Unbroken.{both_kept, none_broken, not_broken, is_kept, is_typed, no_fault, typed_value, is_there, there_is}
 use Rattle.script_grammar.proofs.Trees.{Tree}
+use Rattle.script_grammar.proofs.UnitLaws.{forms, sums, none_passing, within_32}
 
 -- FAIRNESS
 just_is : (o : Option Fairness) → not (owes_justice o) ≡ false → (o ≡ Some Just) ⊎ (o ≡ Some Compassionate)
@@ -54,29 +57,38 @@ kept_owed : (fails : Option ℕ → Bool) (rule : Rule) (n : ℕ) (l : Label) (o
 kept_owed fails rule n l None h = absurd cc
 kept_owed fails rule n l (Some k) h = (refl, is_kept (fails (Some k)) n (broke rule l.place) h)
 
+-- no level is too many
+none_nested : (at : ℕ) (o : Option (ℕ × ℕ)) → nesting_rules at o ≡ [] → o ≡ None
+none_nested at None h = refl
+none_nested at (Some p) h = absurd cc
+
 module _ (g : Setting) where
   -- EXPRESSIONS
   pub form_tree : (ts : List Lexeme) (f : Formula) → IsFormula g ts f → Tree (IsUnit Forms) (form_rules g) (form_meant g) ts f
   form_tree ts f l = record {
-    raw = record { tree = l.tree; place = first_place ts; size = length ts };
-    spells = spells_unit ts l.tree l.spells;
-    lawful = λ at. no_fault f (at + length ts) (truth_of (names_of g.names) l.tree) l.typed;
+    raw = record { tree = l.tree; text = ts; place = first_place ts; size = length ts };
+    spells = spells_unit ts l.tree (32, l.spells);
+    lawful = λ at. none_broken (ap (nesting_rules at) (none_passing forms ts l.tree l.spells)) (no_fault f (at + length ts) (truth_of (names_of g.names) l.tree) l.typed);
     means = typed_value (truth_value false) f (truth_of (names_of g.names) l.tree) l.typed;
   }
 
   pub form_lawful : (ts : List Lexeme) (u : RawUnit) (at : ℕ) → IsUnit Forms ts u → form_rules g at u ≡ [] → IsFormula g ts (form_meant g u)
-  form_lawful ts u at (spells_unit us e l) h = record { tree = e; spells = l; typed = is_typed (truth_value false) (at + length us) (truth_of (names_of g.names) e) h }
+  form_lawful ts u at (spells_unit us e l) h =
+      let k = both_kept (nesting_rules at (first_passing form_passes us)) (typing_rules (at + length us) (truth_of (names_of g.names) e)) h in
+      record { tree = e; spells = within_32 forms us e l (none_nested at (first_passing form_passes us) k.0); typed = is_typed (truth_value false) (at + length us) (truth_of (names_of g.names) e) k.1 }
 
   pub sum_tree : (ts : List Lexeme) (f : Linear) → IsNumber g ts f → Tree (IsUnit Sums) (sum_rules g) (sum_meant g) ts f
   sum_tree ts f l = record {
-    raw = record { tree = l.tree; place = first_place ts; size = length ts };
-    spells = spells_unit ts l.tree l.spells;
-    lawful = λ at. no_fault f (at + length ts) (number_of (names_of g.names) l.tree) l.typed;
+    raw = record { tree = l.tree; text = ts; place = first_place ts; size = length ts };
+    spells = spells_unit ts l.tree (32, l.spells);
+    lawful = λ at. none_broken (ap (nesting_rules at) (none_passing sums ts l.tree l.spells)) (no_fault f (at + length ts) (number_of (names_of g.names) l.tree) l.typed);
     means = typed_value (constant (pos 0)) f (number_of (names_of g.names) l.tree) l.typed;
   }
 
   pub sum_lawful : (ts : List Lexeme) (u : RawUnit) (at : ℕ) → IsUnit Sums ts u → sum_rules g at u ≡ [] → IsNumber g ts (sum_meant g u)
-  sum_lawful ts u at (spells_unit us e l) h = record { tree = e; spells = l; typed = is_typed (constant (pos 0)) (at + length us) (number_of (names_of g.names) e) h }
+  sum_lawful ts u at (spells_unit us e l) h =
+      let k = both_kept (nesting_rules at (first_passing sum_passes us)) (typing_rules (at + length us) (number_of (names_of g.names) e)) h in
+      record { tree = e; spells = within_32 sums us e l (none_nested at (first_passing sum_passes us) k.0); typed = is_typed (constant (pos 0)) (at + length us) (number_of (names_of g.names) e) k.1 }
 
   -- TRANSITIONS
   pub transition_tree : (ts : List Lexeme) (n : ℕ) → IsTransition g ts n → Tree IsReference (transition_rules g) (transition_meant g) ts n

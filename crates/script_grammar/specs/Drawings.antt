@@ -19,9 +19,9 @@ abbrev pub first_place : List Lexeme → ℕ
 first_place [] = 0
 first_place (t ∷ ts) = t.start
 
--- a formula or an integer expression, with its place and how many tokens it has
+-- a formula or an integer expression, with its tokens
 pub data IsUnit (Spells : List Lexeme → Expr → Type 0) : List Lexeme → RawUnit → Type 0 where
-  spells_unit : (ts : List Lexeme) (e : Expr) → Spells ts e → IsUnit Spells ts (record { tree = e; place = first_place ts; size = length ts })
+  spells_unit : (ts : List Lexeme) (e : Expr) → Spells ts e → IsUnit Spells ts (record { tree = e; text = ts; place = first_place ts; size = length ts })
 
 -- name [ "." ( "entry" | "exit" ) ]
 pub data IsReference : List Lexeme → RawTransition → Type 0 where

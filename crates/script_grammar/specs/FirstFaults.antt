@@ -1,16 +1,22 @@
 -- The first fault of a part of a script that is read as a whole text: a rule that is broken in what begins it, or else where the
 -- grammar doesn't go on.
-use Rattle.std.specs.Prelude.{◌≡◌, ◌↔◌, List, Err}
+use Rattle.std.specs.Prelude.{◌≡◌, ◌↔◌, ℕ, true, nat_lt, List, Err}
 use Rattle.st_tokens.specs.Stream.{Lexeme, Stream}
 use Rattle.st_reading.specs.Reading.{Stop, syntax, broken, other, whole}
 use Rattle.st_reading.specs.Spelling.{OneName}
 use Rattle.st_reading.specs.Breaches.{Breach, Reader}
 use Rattle.st_reading.specs.BrokenRules.{Broken, BreaksAt, StopsAt}
-use Rattle.temporal_goals.specs.Texts.{PlainStep}
-use Rattle.proof_script.specs.Listing.{Setting, compassionate_of, just_of, transition_of}
-use Rattle.proof_script.specs.Steps.{earlier_of, new_name_of}
-use Rattle.script_grammar.specs.Drawings.{IsReference}
-use Rattle.script_grammar.specs.Rules.{group_rules, helper_rules, name_rules, transition_rules}
+use Rattle.temporal_goals.specs.Texts.{PlainDrawnNode, PlainStep}
+use Rattle.temporal_goals.specs.declared.diagrams.DiagramKind.{DiagramKind}
+use Rattle.diagram_reader.specs.Drawing.{known_of, new_number_of}
+use Rattle.diagram_reader.specs.Drawn as diagrams
+use Rattle.proof_script.specs.Listing.{Setting, compassionate_of, formula_of, just_of, listed_formula_of, sum_of, transition_of}
+use Rattle.proof_script.specs.Rules.{fair_of, helped_of, ranked_of}
+use Rattle.proof_script.specs.Steps.{cited_of, earlier_of, invariance_of, new_name_of}
+use Rattle.script_grammar.specs.Drawings.{IsNumeral, IsReference, IsUnit}
+use Rattle.script_grammar.specs.Grammar.{IsRawFair, IsRawHelped, IsRawInvariance, IsRawRanked}
+use Rattle.script_grammar.specs.Rules.{cited_rules, claim_rules, fair_rules, form_rules, group_rules, helped_rules, helper_rules, known_rules, listed_form_rules, name_rules, new_number_rules, ranked_rules, sum_rules, transition_rules}
+use Rattle.script_grammar.specs.Theorems.{Forms, Sums}
 
 -- a fault that the grammar alone has
 abbrev pub IsSyntactic : Stop Breach → Type 0
@@ -37,6 +43,47 @@ HelpersFirstFault = (g : Setting) → StopsAtFirst IsReference (helper_rules g 0
 
 abbrev pub GroupsFirstFault : Type 0
 GroupsFirstFault = (g : Setting) → StopsAtFirst IsReference (group_rules g 0) (compassionate_of g)
+
+-- a formula, and an integer expression
+abbrev pub FormulasFirstFault : Type 0
+FormulasFirstFault = (g : Setting) → StopsAtFirst (IsUnit Forms) (form_rules g 0) (formula_of g)
+
+abbrev pub SumsFirstFault : Type 0
+SumsFirstFault = (g : Setting) → StopsAtFirst (IsUnit Sums) (sum_rules g 0) (sum_of g)
+
+-- a formula that is listed, behind so many others: it is read behind 64 of them, and is one too many
+abbrev pub ListedFormulasFirstFault : Type 0
+ListedFormulasFirstFault = (g : Setting) (before : ℕ) → StopsAtFirst (IsUnit Forms) (listed_form_rules g before 0) (listed_formula_of g before)
+
+-- an item with a helper, and one with a rank and a helper, behind fewer than 64 others
+abbrev pub HelpedFirstFault : Type 0
+HelpedFirstFault = (g : Setting) (before : ℕ) → nat_lt before 64 ≡ true → StopsAtFirst (IsRawHelped Forms Sums) (helped_rules g 0) (helped_of g before)
+
+abbrev pub RankedFirstFault : Type 0
+RankedFirstFault = (g : Setting) (before : ℕ) → nat_lt before 64 ≡ true → StopsAtFirst (IsRawRanked Forms Sums) (ranked_rules g 0) (ranked_of g before)
+
+-- and one whose helper may be left out
+abbrev pub FairFirstFault : Type 0
+FairFirstFault = (g : Setting) (before : ℕ) → nat_lt before 64 ≡ true → StopsAtFirst (IsRawFair Forms Sums) (fair_rules g 0) (fair_of g before)
+
+-- the claim of an invariance, with the formula by which it is shown
+abbrev pub InvariancesFirstFault : Type 0
+InvariancesFirstFault = (g : Setting) → StopsAtFirst (IsRawInvariance Forms Sums) (claim_rules g 0) (invariance_of g)
+
+-- the number of a node that is drawn, and that of a new one
+abbrev pub KnownNumbersFirstFault : Type 0
+KnownNumbersFirstFault = (nodes : List PlainDrawnNode) → StopsAtFirst IsNumeral (known_rules nodes 0) (known_of nodes)
+
+-- what a drawing of this kind is read for, over a program
+abbrev pub drawing_over : Setting → DiagramKind → ℕ → diagrams.Setting
+drawing_over g kind highest = record { kind = kind; levels = highest; names = g.names; system = g.system }
+
+abbrev pub NewNumbersFirstFault : Type 0
+NewNumbersFirstFault = (g : Setting) (kind : DiagramKind) (highest : ℕ) (nodes : List PlainDrawnNode) → StopsAtFirst IsNumeral (new_number_rules kind highest nodes 0) (new_number_of (drawing_over g kind highest) nodes)
+
+-- the name of a step that is cited, behind these steps
+abbrev pub CitationsFirstFault : Type 0
+CitationsFirstFault = (before : List PlainStep) → StopsAtFirst OneName (cited_rules before 0) (cited_of (earlier_of before))
 
 -- the name of a step, behind these steps
 abbrev pub NewNamesFirstFault : Type 0

@@ -1,5 +1,5 @@
 -- The grammar of scripts: which token lists stand for which trees, one constructor for each production. No rule is asked.
--- `Forms` and `Sums` are the languages of formulas and of integer expressions: with at most 32 levels, in a script that is read.
+-- `Forms` and `Sums` are the languages of formulas and of integer expressions, with any number of levels.
 use Rattle.std.specs.Prelude.{◌≤◌, List, [], ◌∷◌, ◌++◌, length, Option}
 use Rattle.st_tokens.specs.Stream.{Lexeme}
 use Rattle.st_reading.specs.declared.mark.Mark.TheVariants as marks

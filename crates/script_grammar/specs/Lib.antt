@@ -3,6 +3,7 @@ pub mod Sizes
 pub mod Drawings
 pub mod Grammar
 pub mod Meaning
+pub mod Nesting
 pub mod Breaking
 pub mod Rules
 pub mod Theorems

@@ -1,14 +1,16 @@
 -- Scripts as they are written, with their places; nothing is judged. Names are words. How many tokens a part has follows from
--- the tree, but for formulas and sums, whose parentheses leave no trace in it.
+-- the tree, but for formulas and sums, whose parentheses leave no trace in it; so these have their tokens.
 use Rattle.std.specs.Prelude.{ℕ, List, Option}
+use Rattle.st_tokens.specs.Stream.{Lexeme}
 use Rattle.st_reading.specs.Reading.{Label}
 use Rattle.st_form.specs.declared.conditions.Part.{Part}
 use Rattle.temporal_goals.specs.declared.diagrams.DiagramKind.{DiagramKind}
 use Rattle.expression_parser.specs.ExpressionTree.{Expr}
 
--- a formula or an integer expression, the place of its first token, and how many tokens it has
+-- a formula or an integer expression, its tokens, the place of the first of them, and how many there are
 pub record RawUnit : Type 0 where
   pub tree : Expr
+  pub text : List Lexeme
   pub place : ℕ
   pub size : ℕ
 

@@ -1,6 +1,6 @@
 -- The rules of scripts, on trees: which are broken, in the order of the text, with the token at which each is found and the
 -- place that is named. `at` counts the tokens before a part. Behind the first rule that is broken the list is of no account.
-use Rattle.std.specs.Prelude.{ℕ, ◌+◌, ◌-◌, Bool, true, not, ◌&&◌, nat_eq, nat_lt, is_none, is_some, List, [], ◌∷◌, ◌++◌, length, Option, Some, None}
+use Rattle.std.specs.Prelude.{ℕ, ◌+◌, ◌-◌, Bool, true, cond, not, ◌&&◌, nat_eq, nat_lt, is_none, is_some, List, [], ◌∷◌, ◌++◌, length, Option, Some, None}
 use Rattle.st_tokens.specs.declared.limit.LimitKind.TheVariants as limits
 use Rattle.st_reading.specs.Reading.{Label}
 use Rattle.st_reading.specs.Rule.{Rule}
@@ -18,7 +18,8 @@ use Rattle.proof_script.specs.Listing.{Setting}
 use Rattle.script_grammar.specs.RawScripts.{RawUnit, RawTransition, RawNumber, RawDrawnNode, RawEdge, RawItem, raw_terminal, raw_node, raw_edge, RawDrawing, RawHelped, RawRanked, RawFair, RawNode, RawLevel, RawNestedNode, RawRule, raw_just, raw_chain, raw_ranked, raw_fair, raw_net, raw_nested, raw_diagram, RawWaitingRule, raw_levels, raw_wait_diagram, RawClaim, raw_invariance, raw_waiting, raw_response, RawStep}
 use Rattle.script_grammar.specs.Sizes.{optional_size, marked_size, many_size, unit_size, transition_size, label_size, drawn_node_size, item_size, drawing_size, helped_size, ranked_size, fair_size, node_size, level_size, nested_node_size, claim_size, step_size}
 use Rattle.script_grammar.specs.Meaning.{step_called, lemma_called, transition_seen, item_drawn, items_drawn, step_meant}
-use Rattle.script_grammar.specs.Breaking.{broken_where, typing_rules, optional_rules, marked_rules, many_rules, listed_rules}
+use Rattle.script_grammar.specs.Nesting.{first_passing, form_passes, sum_passes}
+use Rattle.script_grammar.specs.Breaking.{broken_where, nesting_rules, one_too_many_rules, typing_rules, optional_rules, marked_rules, many_rules, listed_rules}
 
 -- NAMES OF STEPS
 -- a name that no step before has
@@ -42,13 +43,22 @@ owed_rules fails rule n l (Some k) = broken_where (fails (Some k)) n (broke rule
 abbrev pub known_rules : List PlainDrawnNode → ℕ → RawNumber → List (Broken Breach)
 known_rules nodes at n = broken_where (not (is_known n.number nodes)) (at + 1) (broke rules.UnknownNode n.place)
 
+-- the number of a new node; in a wait diagram it is that of a level, of which this is the highest
+abbrev pub new_number_rules : DiagramKind → ℕ → List PlainDrawnNode → ℕ → RawNumber → List (Broken Breach)
+new_number_rules kind highest nodes at n =
+    broken_where (is_known n.number nodes) (at + 1) (broke rules.Twice n.place) ++ broken_where (is_above kind highest n.number) (at + 1) (broke rules.UnknownNode n.place)
+
 module _ (g : Setting) where
-  -- UNITS
+  -- UNITS: at most 32 levels, and typed
   abbrev pub form_rules : ℕ → RawUnit → List (Broken Breach)
-  form_rules at u = typing_rules (at + u.size) (truth_of (names_of g.names) u.tree)
+  form_rules at u = nesting_rules at (first_passing form_passes u.text) ++ typing_rules (at + u.size) (truth_of (names_of g.names) u.tree)
+
+  -- listed behind so many others, of which there are at most 64
+  abbrev pub listed_form_rules : ℕ → ℕ → RawUnit → List (Broken Breach)
+  listed_form_rules before at u = cond (nat_lt before 64) (form_rules at u) (one_too_many_rules at u)
 
   abbrev pub sum_rules : ℕ → RawUnit → List (Broken Breach)
-  sum_rules at u = typing_rules (at + u.size) (number_of (names_of g.names) u.tree)
+  sum_rules at u = nesting_rules at (first_passing sum_passes u.text) ++ typing_rules (at + u.size) (number_of (names_of g.names) u.tree)
 
   abbrev pub transition_rules : ℕ → RawTransition → List (Broken Breach)
   transition_rules at t = broken_where (is_none (transition_seen g t)) (at + transition_size t) (broke rules.UnknownTransition t.label.place)

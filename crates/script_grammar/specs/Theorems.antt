@@ -14,12 +14,12 @@ use Rattle.script_grammar.specs.Grammar.{IsRawScript}
 use Rattle.script_grammar.specs.Meaning.{drawing_meant, scripted}
 use Rattle.script_grammar.specs.Rules.{broken_rules, drawing_rules}
 
--- formulas and integer expressions with at most 32 levels
+-- formulas and integer expressions with any number of levels: that there are at most 32 is a rule
 abbrev pub Forms : List Lexeme → Expr → Type 0
-Forms = expressions.SpellsWithin true 32
+Forms ts e = (n : ℕ) × expressions.SpellsWithin true n ts e
 
 abbrev pub Sums : List Lexeme → Expr → Type 0
-Sums = expressions.IsSum true (expressions.Inside true 32)
+Sums ts e = (n : ℕ) × expressions.IsSum true (expressions.Inside true n) ts e
 
 -- the text spells the script: its tokens are those of a tree that breaks no rule, and means this script
 pub record SpellsLawfully (g : Setting) (text : List ℕ) (steps : List PlainStep) : Type 0 where

@@ -1,6 +1,7 @@
 //! Laws of the grammar of scripts and of their rules. Each is a function that does nothing; its contract is the law.
 
-ghost use Rattle.script_grammar.specs.FirstFaults.{TransitionsFirstFault, HelpersFirstFault, GroupsFirstFault, NewNamesFirstFault};
+ghost use Rattle.script_grammar.specs.FirstFaults.{TransitionsFirstFault, HelpersFirstFault, GroupsFirstFault, NewNamesFirstFault, CitationsFirstFault};
+ghost use Rattle.script_grammar.specs.FirstFaults.{FormulasFirstFault, SumsFirstFault, ListedFormulasFirstFault, HelpedFirstFault, RankedFirstFault, FairFirstFault, InvariancesFirstFault, KnownNumbersFirstFault, NewNumbersFirstFault};
 ghost use Rattle.script_grammar.specs.Theorems.{ScriptsAreLawful, DiagramsAreLawful};
 
 /// A text is read as a script exactly where its tokens spell a tree that breaks no rule, and the script is what the tree means.
@@ -32,4 +33,55 @@ pub fn groups_first_fault()
 /// And the name of a step, which no earlier one has.
 pub fn new_names_first_fault()
     ensures { NewNamesFirstFault }
+{}
+
+/// And the name of a step that is cited: an earlier one, and an invariance.
+pub fn citations_first_fault()
+    ensures { CitationsFirstFault }
+{}
+
+/// The number of a node that an edge joins is refused exactly for its first fault: it is 0, or that of a node that is drawn.
+pub fn known_numbers_first_fault()
+    ensures { KnownNumbersFirstFault }
+{}
+
+/// So is that of a new node, which no other has, and which in a wait diagram is that of a level.
+pub fn new_numbers_first_fault()
+    ensures { NewNumbersFirstFault }
+{}
+
+/// A formula is refused exactly for its first fault: the token that passes its 32 levels, the first rule of typing, which is
+/// found at its last token, or else the grammar doesn't go on.
+pub fn formulas_first_fault()
+    ensures { FormulasFirstFault }
+{}
+
+/// So is an integer expression.
+pub fn sums_first_fault()
+    ensures { SumsFirstFault }
+{}
+
+/// And a formula that is listed: behind 64 others it is one too many, which is found at its last token.
+pub fn listed_formulas_first_fault()
+    ensures { ListedFormulasFirstFault }
+{}
+
+/// An item that has a helper, behind fewer than 64 others, is refused exactly for its first fault.
+pub fn helped_first_fault()
+    ensures { HelpedFirstFault }
+{}
+
+/// So is one that has a rank and a helper.
+pub fn ranked_first_fault()
+    ensures { RankedFirstFault }
+{}
+
+/// So is one whose helper may be left out.
+pub fn fair_first_fault()
+    ensures { FairFirstFault }
+{}
+
+/// The claim of an invariance is refused exactly for its first fault.
+pub fn invariances_first_fault()
+    ensures { InvariancesFirstFault }
 {}

@@ -1,6 +1,9 @@
 //! States and steps that were found, the last ones, which may answer other questions without a search.
 
 use crate::lemma::{Allowed, Lemma};
+use crate::posed::holds;
+use crate::prover::narrowed;
+use crate::setting::Setting;
 use control_cubes::{Cube, Layout, State};
 use st_form::SharedForm;
 use st_memory::Memory;
@@ -19,8 +22,10 @@ pub(crate) struct Passage {
     pub(crate) from: State,
     to: State,
     pub(crate) step: u32,
-    /// The last lemma that was seen to be false where it begins. Lemmas keep their numbers and what they say, so it is so still.
-    excluded_by: Option<usize>,
+    /// How many lemmas were looked at where it begins, and the numbers of those that are false there. Lemmas keep their numbers and what
+    /// they say, so each is looked at once.
+    seen: usize,
+    broken: Vec<u32>,
 }
 
 impl Passage {
@@ -29,15 +34,49 @@ impl Passage {
         cube.contains(&self.to) && !cube.contains(&self.from)
     }
 
-    /// Whether the lemma that was last seen to be false where it begins may be used.
-    pub(crate) fn is_excluded(&self, lemmas: &[Lemma], allowed: Allowed<'_>) -> bool {
-        let Some(number) = self.excluded_by else {
-            return false;
-        };
-        match lemmas.get(number) {
-            Some(lemma) => allowed.has(number, lemma),
-            None => false,
+    /// Whether a lemma that may be used is false where it begins, among those that were looked at.
+    fn is_excluded(&self, lemmas: &[Lemma], allowed: Allowed<'_>) -> bool {
+        for number in &self.broken {
+            let place = *number as usize;
+            if let Some(lemma) = lemmas.get(place)
+                && allowed.has(place, lemma)
+            {
+                return true;
+            }
         }
+        false
+    }
+
+    /// Looks at the other lemmas, up to the first that may be used and is false where it begins; and whether there is one.
+    fn meets_broken(
+        &mut self,
+        setting: &Setting<'_>,
+        lemmas: &[Lemma],
+        allowed: Allowed<'_>,
+    ) -> Result<bool, Memory> {
+        for (number, lemma) in lemmas.iter().enumerate().skip(self.seen) {
+            self.seen = self.seen.saturating_add(1);
+            if lemma.stands && !holds(setting, lemma, &self.from) {
+                self.broken.push(narrowed(number))?;
+                if allowed.has(number, lemma) {
+                    return Ok(true);
+                }
+            }
+        }
+        Ok(false)
+    }
+
+    /// Whether all lemmas that may be used hold where it begins.
+    pub(crate) fn begins_within(
+        &mut self,
+        setting: &Setting<'_>,
+        lemmas: &[Lemma],
+        allowed: Allowed<'_>,
+    ) -> Result<bool, Memory> {
+        if self.is_excluded(lemmas, allowed) {
+            return Ok(false);
+        }
+        Ok(!self.meets_broken(setting, lemmas, allowed)?)
     }
 }
 
@@ -78,11 +117,9 @@ impl Known {
         self.passages.get(number)
     }
 
-    /// Keeps in mind that a lemma is false where the step with a number begins.
-    pub(crate) fn exclude(&mut self, number: usize, lemma: usize) {
-        if let Some(passage) = self.passages.get_mut(number) {
-            passage.excluded_by = Some(lemma);
-        }
+    /// The same, to look at more lemmas.
+    pub(crate) fn passage_mut(&mut self, number: usize) -> Option<&mut Passage> {
+        self.passages.get_mut(number)
     }
 
     /// The last state that was found in which the formulas are true.
@@ -118,7 +155,13 @@ impl Known {
         Ok(())
     }
 
-    pub(crate) fn keep_passage(&mut self, from: State, to: State, step: u32) -> Result<(), Memory> {
+    pub(crate) fn keep_passage(
+        &mut self,
+        alloc: Global,
+        from: State,
+        to: State,
+        step: u32,
+    ) -> Result<(), Memory> {
         if self.passages.len() >= MOST_PASSAGES {
             let _ = self.passages.pop_front();
         }
@@ -126,7 +169,8 @@ impl Known {
             from,
             to,
             step,
-            excluded_by: None,
+            seen: 0,
+            broken: Vec::new(alloc),
         })?;
         Ok(())
     }

@@ -35,7 +35,7 @@ impl Posed {
 }
 
 /// Whether a lemma holds in a state.
-fn holds(setting: &Setting<'_>, lemma: &Lemma, state: &State) -> bool {
+pub(crate) fn holds(setting: &Setting<'_>, lemma: &Lemma, state: &State) -> bool {
     match &lemma.cube {
         Some(cube) => !cube.contains(state),
         None => state.satisfies(&setting.layout, lemma.form.get()),
@@ -43,7 +43,7 @@ fn holds(setting: &Setting<'_>, lemma: &Lemma, state: &State) -> bool {
 }
 
 /// The first lemma that may be used and doesn't hold in the state.
-pub(crate) fn first_broken(
+fn first_broken(
     setting: &Setting<'_>,
     lemmas: &[Lemma],
     allowed: Allowed<'_>,

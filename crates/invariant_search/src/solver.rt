@@ -5,7 +5,7 @@ use crate::entering::{entry_question, start_question, starts_within};
 use crate::known::Known;
 use crate::lemma::{ALWAYS, Allowed, Lemma};
 use crate::moving::behind_step;
-use crate::posed::{Posed, after_asking, first_broken};
+use crate::posed::{Posed, after_asking};
 use crate::prover::{Asked, Prover, narrowed};
 use crate::setting::Setting;
 use control_cubes::{Cube, CubeFault, State};
@@ -145,39 +145,44 @@ impl<'a> Solver<'a> {
         }
     }
 
-    /// Whether the step with a number leads into the cube from outside it, and begins where all lemmas of the level hold. The lemma that
-    /// doesn't is looked at first the next time: all of them would be a walk of each step over each lemma.
-    fn begins_within(&mut self, lemmas: &[Lemma], level: u32, cube: &Cube, number: usize) -> bool {
-        let allowed = Allowed::From(level);
-        let Some(passage) = self.known.passage(number) else {
-            return false;
-        };
-        if !passage.enters(cube) || passage.is_excluded(lemmas, allowed) {
-            return false;
-        }
-        match first_broken(&self.setting, lemmas, allowed, &passage.from) {
-            Some(lemma) => {
-                self.known.exclude(number, lemma);
-                false
+    /// Whether the step with a number leads into the cube from outside it, and begins where all lemmas of the level hold.
+    fn begins_within(
+        &mut self,
+        lemmas: &[Lemma],
+        level: u32,
+        cube: &Cube,
+        number: usize,
+    ) -> Result<bool, Memory> {
+        match self.known.passage_mut(number) {
+            Some(passage) => {
+                if !passage.enters(cube) {
+                    return Ok(false);
+                }
+                passage.begins_within(&self.setting, lemmas, Allowed::From(level))
             }
-            None => true,
+            None => Ok(false),
         }
     }
 
     /// The number of a step that was found before, which leads into the cube from a state outside it that is reached by at most so many
     /// steps, as far as lemmas say.
-    fn remembered(&mut self, lemmas: &[Lemma], level: u32, cube: &Cube) -> Option<usize> {
+    fn remembered(
+        &mut self,
+        lemmas: &[Lemma],
+        level: u32,
+        cube: &Cube,
+    ) -> Result<Option<usize>, Memory> {
         for number in (0..self.known.passages()).rev() {
             let enters = if level == 0 {
                 self.begins_run(cube, number)
             } else {
-                self.begins_within(lemmas, level, cube, number)
+                self.begins_within(lemmas, level, cube, number)?
             };
             if enters {
-                return Some(number);
+                return Ok(Some(number));
             }
         }
-        None
+        Ok(None)
     }
 
     /// The same step, with the state in which it begins.
@@ -188,7 +193,7 @@ impl<'a> Solver<'a> {
         level: u32,
         cube: &Cube,
     ) -> Result<Option<Entry>, Memory> {
-        let Some(number) = self.remembered(lemmas, level, cube) else {
+        let Some(number) = self.remembered(lemmas, level, cube)? else {
             return Ok(None);
         };
         match self.known.passage(number) {
@@ -200,7 +205,8 @@ impl<'a> Solver<'a> {
     /// Remembers a step.
     fn remember(&mut self, alloc: Global, state: &State, step: u32) -> Result<(), Memory> {
         if let Some(to) = behind_step(alloc, &self.setting, state, step)? {
-            self.known.keep_passage(state.copy(alloc)?, to, step)?;
+            self.known
+                .keep_passage(alloc, state.copy(alloc)?, to, step)?;
         }
         Ok(())
     }

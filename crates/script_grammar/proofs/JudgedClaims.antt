@@ -40,7 +40,7 @@ use Rattle.script_grammar.proofs.RawUnits.{raw, raw_lawful}
 use Rattle.script_grammar.proofs.UnitLaws.{forms, judged_form, typed_unit}
 use Rattle.script_grammar.proofs.JudgedPairs.{both_of, short_pair, short_after, judge_map, judged_pair, pairs}
 use Rattle.script_grammar.proofs.JudgedItems.{listed_is}
-use Rattle.script_grammar.proofs.JudgedOptions.{judged_option, open_lawful}
+use Rattle.script_grammar.proofs.JudgedOptions.{SameThere, judged_option, open_lawful}
 use Rattle.script_grammar.proofs.PartLaws.{stops_at_first}
 
 -- what follows an item whose helper may be left out
@@ -109,7 +109,7 @@ module _ (g : Setting) (before : ℕ) (few : nat_lt before 64 ≡ true) where
   judged_option_helper : (f : Formula) (at : ℕ) (s : Stream) → JudgedAt IsSyntactic fair_next at (then_reads (helper_of g) (λ h. gives (fair_with f h))) helper_option.phrase.reader (optional_size transition_size) (optional_rules (helper_rules g) at) (λ o x. Unit {0}) s
   unfolding helper_of
   judged_option_helper f at s =
-      judge_map fair_next at (optional marks.Helper (just_of g)) helper_option.phrase.reader (optional_size transition_size) (optional_rules (helper_rules g) at) (λ o x. Unit {0}) (fair_with f) (λ o x. Unit {0}) (λ o x m. tt) s
+      judge_map fair_next at (optional marks.Helper (just_of g)) helper_option.phrase.reader (optional_size transition_size) (optional_rules (helper_rules g) at) SameThere (fair_with f) (λ o x. Unit {0}) (λ o x m. tt) s
       (judged_option marks.Helper no_dot fair_next fair_undotted (just_of g) raw_reference transition_size (helper_rules g) _ (short_after is_name no_dot reference_lawful (moves refl (syntax 0) refl)) at (λ m. judged_helper g (at + 1) m) s)
 
   pub judged_fair : (at : ℕ) (s : Stream) → JudgedAt IsSyntactic fair_next at (fair_of g before) fair_lawful.phrase.reader fair_size (fair_rules g at) (λ r x. Unit {0}) s
@@ -174,7 +174,7 @@ module _ (g : Setting) where
 
   judged_by_form : (p : Formula) (at : ℕ) (s : Stream) → JudgedAt IsSyntactic by_next at (then_reads (optional marks.By (formula_of g)) (λ f. gives (invariance_with p f))) by_option.phrase.reader (optional_size (λ u. u.size)) (optional_rules (form_rules g) at) (λ o x. Unit {0}) s
   judged_by_form p at s =
-      judge_map by_next at (optional marks.By (formula_of g)) by_option.phrase.reader (optional_size (λ u. u.size)) (optional_rules (form_rules g) at) (λ o x. Unit {0}) (invariance_with p) (λ o x. Unit {0}) (λ o x m. tt) s
+      judge_map by_next at (optional marks.By (formula_of g)) by_option.phrase.reader (optional_size (λ u. u.size)) (optional_rules (form_rules g) at) SameThere (invariance_with p) (λ o x. Unit {0}) (λ o x m. tt) s
       (judged_option marks.By calm by_next by_calm (formula_of g) (raw forms) (λ u. u.size) (form_rules g) _ (short_after anything calm (raw_lawful forms) (wider (λ g h. refl))) at (λ m. judged_form g (at + 1) m) s)
 
   pub judged_invariance : (at : ℕ) (s : Stream) → JudgedAt IsSyntactic by_next at (invariance_of g) invariance_lawful.phrase.reader claim_size (claim_rules g at) (λ r x. Unit {0}) s

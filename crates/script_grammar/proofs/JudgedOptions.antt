@@ -1,5 +1,6 @@
 -- What may stand behind a mark, judged beside its plain reader.
 use Rattle.std.proofs.Common.{◌≡◌, ℕ, ◌+◌, Bool, true, false, cond, List, [], ◌∷◌, Option, Some, None, Ok, Err, refl, sym, ap, ◌∙◌}
+use Rattle.std.specs.Prelude.{is_none}
 use Rattle.st_tokens.specs.Stream.{Lexeme, Stream, ends, breaks, more, behind}
 use Rattle.st_reading.specs.declared.mark.Mark.{Mark}
 use Rattle.st_reading.specs.declared.sign.Sign.{Sign}
@@ -20,6 +21,10 @@ use Rattle.script_grammar.specs.Breaking.{optional_rules}
 use Rattle.script_grammar.specs.FirstFaults.{IsSyntactic}
 use Rattle.script_grammar.proofs.JudgedPairs.{both_of, made_lawful, judge_map, judged_after}
 
+-- both are there, or neither is
+abbrev pub SameThere : {A B : Type 0} → Option B → Option A → Type 0
+SameThere o x = is_none x ≡ is_none o
+
 -- judged before fewer tokens
 pub judged_calmer : {A B : Type 0} (inner next : Sign → Bool) (fewer : Within next inner) (at : ℕ) (judge : Reader A) (plain : Reader B) (count : B → ℕ) (rules : B → List (Broken Breach)) (makes : B → A → Type 0) (s : Stream)
     → JudgedAt IsSyntactic inner at judge plain count rules makes s → JudgedAt IsSyntactic next at judge plain count rules makes s
@@ -32,7 +37,7 @@ judged_calmer inner next fewer at judge plain count rules makes s (alike f plain
 module _ {A B : Type 0} (mark : Mark) (inner next : Sign → Bool) (fewer : Within next inner) (judge : Reader A) (plain : Reader B) (count : B → ℕ) (rules : ℕ → B → List (Broken Breach)) (makes : B → A → Type 0) (short : Short {A = ℕ} anything inner (λ m. plain))
     (at : ℕ) (judged : (m : Stream) → JudgedAt IsSyntactic inner (at + 1) judge plain count (rules (at + 1)) makes m) where
   abbrev JudgedOption : Stream → Type 0
-  JudgedOption s = JudgedAt IsSyntactic next at (optional mark judge) (optional mark plain) (optional_size count) (optional_rules rules at) (λ o x. Unit {0}) s
+  JudgedOption s = JudgedAt IsSyntactic next at (optional mark judge) (optional mark plain) (optional_size count) (optional_rules rules at) SameThere s
 
   abbrev marked : {C : Type 0} → Reader C → Reader (Option C)
   marked r = then_reads (then_reads (expected mark) (λ m. r)) (λ x. gives (Some x))
@@ -44,17 +49,17 @@ module _ {A B : Type 0} (mark : Mark) (inner next : Sign → Bool) (fewer : With
 
   at_mark : (t : Lexeme) (s : Stream) → is (sign_of t) mark ≡ true → JudgedOption (more t s)
   at_mark t s e =
-      judged_calmer inner next fewer at (optional mark judge) (optional mark plain) (optional_size count) (optional_rules rules at) (λ o x. Unit {0}) (more t s)
-      (judged_as IsSyntactic inner at (marked judge) (marked plain) (optional_size count) (optional_rules rules at) (λ o x. Unit {0}) (optional mark judge) (optional mark plain) (more t s) (option_is judge t s e) (option_is plain t s e)
-      (judged_map IsSyntactic inner at (marked judge) (then_reads (expected mark) (λ m. plain)) (λ b. 1 + count b) (λ b. rules (at + 1) b) (λ b x. Unit {0}) (λ b. Some b) (optional_size count) (optional_rules rules at) (λ o x. Unit {0}) (λ b. refl) (λ b. refl) (λ b x m. tt) (more t s)
-      (judge_map inner at (then_reads (expected mark) (λ m. judge)) (then_reads (expected mark) (λ m. plain)) (λ b. 1 + count b) (λ b. rules (at + 1) b) makes (λ a. Some a) (λ b x. Unit {0}) (λ b a m. tt) (more t s)
+      judged_calmer inner next fewer at (optional mark judge) (optional mark plain) (optional_size count) (optional_rules rules at) SameThere (more t s)
+      (judged_as IsSyntactic inner at (marked judge) (marked plain) (optional_size count) (optional_rules rules at) SameThere (optional mark judge) (optional mark plain) (more t s) (option_is judge t s e) (option_is plain t s e)
+      (judged_map IsSyntactic inner at (marked judge) (then_reads (expected mark) (λ m. plain)) (λ b. 1 + count b) (λ b. rules (at + 1) b) (λ b x. is_none x ≡ false) (λ b. Some b) (optional_size count) (optional_rules rules at) SameThere (λ b. refl) (λ b. refl) (λ b x m. m) (more t s)
+      (judge_map inner at (then_reads (expected mark) (λ m. judge)) (then_reads (expected mark) (λ m. plain)) (λ b. 1 + count b) (λ b. rules (at + 1) b) makes (λ a. Some a) (λ b x. is_none x ≡ false) (λ b a m. refl) (more t s)
       (judged_after mark inner judge plain count rules makes short at judged (more t s)))))
 
   at_none : (s : Stream) → is (ahead s) mark ≡ false → JudgedOption s
   at_none s e =
       good [] None None s refl
       (λ after h. let k : is (ahead after) mark ≡ false = ap (λ g. is g mark) (ahead_same s after h) ∙ e in rw k refl)
-      (λ after h. let k : is (ahead after) mark ≡ false = ap (λ g. is g mark) (ahead_same s after h) ∙ e in rw k refl) refl refl tt
+      (λ after h. let k : is (ahead after) mark ≡ false = ap (λ g. is g mark) (ahead_same s after h) ∙ e in rw k refl) refl refl refl
 
   pub judged_option : (s : Stream) → JudgedOption s
   judged_option (ends p) = at_none (ends p) refl

@@ -20,6 +20,14 @@ mod TypingRules
 mod ListedForms
 mod JudgedOptions
 mod JudgedClaims
+mod Judges
+mod MarkedItems
+mod JudgedRows
+mod JudgedLists
+mod JudgedBrackets
+mod ListedItems
+mod Citations
+mod NamedSteps
 mod Units
 mod DrawnTrees
 mod RuleTrees

@@ -39,7 +39,7 @@ use Rattle.script_grammar.proofs.JudgedReferences.{Verdict, said, said_rules, ju
 use Rattle.script_grammar.proofs.PartLaws.{stops_at_first}
 
 -- READERS BY VERDICTS
-refusal_drawn : (s : Stream) → drawing_stop (refusal s) ≡ refusal s
+pub refusal_drawn : (s : Stream) → drawing_stop (refusal s) ≡ refusal s
 refusal_drawn (ends p) = refl
 refusal_drawn (breaks f) = refl
 refusal_drawn (more t s) = refl
@@ -209,31 +209,31 @@ taken_same (s ∷ steps) name = ap (λ b. is_some (if b then Some (is_invariance
     at_test false again = again ∙ sym (later_same (step_called steps name))
 
 module _ (before : List PlainStep) where
-  abbrev Names : Label → List ℕ → Type 0
+  abbrev pub Names : Label → List ℕ → Type 0
   Names l name = l.text ≡ name
 
-  abbrev JudgedName : Stream → Type 0
-  JudgedName s = JudgedAt IsSyntactic anything 0 (new_name_of (earlier_of before)) named (λ l. 1) (name_rules before 0) Names s
+  abbrev JudgedName : ℕ → Stream → Type 0
+  JudgedName at s = JudgedAt IsSyntactic anything at (new_name_of (earlier_of before)) named (λ l. 1) (name_rules before at) Names s
 
-  judged_name : (s : Stream) → JudgedName s
+  pub judged_name : (at : ℕ) (s : Stream) → JudgedName at s
   unfolding new_name_of
-  judged_name (ends p) = alike (refusal (ends p)) (refusal_syntactic (ends p)) refl refl
-  judged_name (breaks f) = alike (refusal (breaks f)) (refusal_syntactic (breaks f)) refl refl
-  judged_name (more t s) = at_name (is_name (sign_of t)) refl
+  judged_name at (ends p) = alike (refusal (ends p)) (refusal_syntactic (ends p)) refl refl
+  judged_name at (breaks f) = alike (refusal (breaks f)) (refusal_syntactic (breaks f)) refl refl
+  judged_name at (more t s) = at_name (is_name (sign_of t)) refl
     where
-      at_taken : is_name (sign_of t) ≡ true → (b : Bool) → is_some (step_called before t.text) ≡ b → is_taken (earlier_of before) t.text ≡ b → JudgedName (more t s)
+      at_taken : is_name (sign_of t) ≡ true → (b : Bool) → is_some (step_called before t.text) ≡ b → is_taken (earlier_of before) t.text ≡ b → JudgedName at (more t s)
       at_taken n false e k = good (t ∷ []) (label_of t) t.text s refl (λ after h. rw n refl) (λ after h. rw (n, k) refl) refl (rw e refl) refl
       at_taken n true e k =
-          bad t [] s (found_at 1 (broke rules.Twice t.start)) closed refl refl (closed_settles s) (λ after h. rw (n, k) refl)
-          (λ after x m h r. let v = values (named {X = Breach} (more t after)) (label_of t) x after m (rw n refl) r in ([], ap (name_rules before 0) (sym v.0) ∙ rw e refl))
+          bad t [] s (found_at (at + 1) (broke rules.Twice t.start)) closed refl refl (closed_settles s) (λ after h. rw (n, k) refl)
+          (λ after x m h r. let v = values (named {X = Breach} (more t after)) (label_of t) x after m (rw n refl) r in ([], ap (name_rules before at) (sym v.0) ∙ rw e refl))
           (record { others = []; spelled = none_spelled; value = label_of t; reads = λ after h. rw n refl; settled = λ after h. closed_settles after }) (λ d g. absurd cc)
 
-      at_name : (b : Bool) → is_name (sign_of t) ≡ b → JudgedName (more t s)
+      at_name : (b : Bool) → is_name (sign_of t) ≡ b → JudgedName at (more t s)
       at_name false n = alike (refusal (more t s)) (refusal_syntactic (more t s)) (rw n refl) (rw n refl)
       at_name true n = at_taken n (is_some (step_called before t.text)) refl (taken_same before t.text)
 
   pub new_names : StopsAtFirst OneName (name_rules before 0) (new_name_of (earlier_of before))
-  new_names = stops_at_first is_name anything refl (name_lawful name_token name_spelled refl) (name_rules before 0) (new_name_of (earlier_of before)) (λ l. 1) Names judged_name
+  new_names = stops_at_first is_name anything refl (name_lawful name_token name_spelled refl) (name_rules before 0) (new_name_of (earlier_of before)) (λ l. 1) Names (judged_name 0)
 
 -- THE LAWS
 pub transitions_first_fault : TransitionsFirstFault

@@ -234,7 +234,7 @@ module _ (nodes : List PlainDrawnNode) where
   abbrev pub knowing : RawNumber → Result ℕ Breach
   knowing n = refused_by (not (is_known n.number nodes)) (broke rules.UnknownNode n.place) (Ok n.number)
 
-  known_is : (s : Stream) → known_of nodes s ≡ token_judge number_at knowing s
+  pub known_is : (s : Stream) → known_of nodes s ≡ token_judge number_at knowing s
   unfolding known_of numeral_of
   known_is (ends p) = refl
   known_is (breaks f) = refl

@@ -17,7 +17,7 @@ use Rattle.expression_typer.specs.Scope.{Names}
 use Rattle.expression_typer.specs.Written.{is_writable, is_constant, limited, fitted, fitted_to, difference, lowered, product}
 use Rattle.expression_typer.specs.Typing.{typed_by, kind_typed_by, all_typed_by, as_number, as_truth, combine, is_implication, named_by, placed_by}
 use Rattle.assertions.specs.Faults.{of_rule}
-use Rattle.assertions.specs.Reading.{truth_of}
+use Rattle.assertions.specs.Reading.{number_of, truth_of}
 
 -- a rule that is broken
 abbrev pub IsRule : Breach → Type 0
@@ -121,3 +121,6 @@ mutual
 
 pub truths_ruled : (s : Names) (e : Expr) → IsKept (truth_of s e)
 truths_ruled s e = then_ruled (typed_by s e) (λ x. as_truth (start_of e) x) (typing_ruled s e) (λ x. truth_ruled (start_of e) x)
+
+pub numbers_ruled : (s : Names) (e : Expr) → IsKept (number_of s e)
+numbers_ruled s e = then_ruled (typed_by s e) (λ x. as_number (start_of e) x) (typing_ruled s e) (λ x. number_ruled (start_of e) x)

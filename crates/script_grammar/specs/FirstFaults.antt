@@ -3,19 +3,24 @@
 use Rattle.std.specs.Prelude.{◌≡◌, ◌↔◌, ℕ, true, nat_lt, List, Err}
 use Rattle.st_tokens.specs.Stream.{Lexeme, Stream}
 use Rattle.st_reading.specs.Reading.{Stop, syntax, broken, other, whole}
+use Rattle.st_reading.specs.declared.mark.Mark.TheVariants as marks
 use Rattle.st_reading.specs.Spelling.{OneName}
+use Rattle.st_reading.specs.Phrases.{After}
 use Rattle.st_reading.specs.Breaches.{Breach, Reader}
 use Rattle.st_reading.specs.BrokenRules.{Broken, BreaksAt, StopsAt}
 use Rattle.temporal_goals.specs.Texts.{PlainDrawnNode, PlainStep}
 use Rattle.temporal_goals.specs.declared.diagrams.DiagramKind.{DiagramKind}
 use Rattle.diagram_reader.specs.Drawing.{known_of, new_number_of}
 use Rattle.diagram_reader.specs.Drawn as diagrams
-use Rattle.proof_script.specs.Listing.{Setting, compassionate_of, formula_of, just_of, listed_formula_of, sum_of, transition_of}
+use Rattle.proof_script.specs.Listing.{Setting, behind_mark, bracketed, compassionate_of, formula_of, just_of, listed_formula_of, sum_of, transition_of}
 use Rattle.proof_script.specs.Rules.{fair_of, helped_of, ranked_of}
-use Rattle.proof_script.specs.Steps.{cited_of, earlier_of, invariance_of, new_name_of}
+use Rattle.proof_script.specs.Steps.{cited_of, earlier_of, invariance_of, new_name_of, step_of}
+use Rattle.proof_script.specs.declared.steps.Claim.TheVariants as claims
 use Rattle.script_grammar.specs.Drawings.{IsNumeral, IsReference, IsUnit}
-use Rattle.script_grammar.specs.Grammar.{IsRawFair, IsRawHelped, IsRawInvariance, IsRawRanked}
-use Rattle.script_grammar.specs.Rules.{cited_rules, claim_rules, fair_rules, form_rules, group_rules, helped_rules, helper_rules, known_rules, listed_form_rules, name_rules, new_number_rules, ranked_rules, sum_rules, transition_rules}
+use Rattle.script_grammar.specs.Grammar.{InBrackets, IsRawFair, IsRawHelped, IsRawInvariance, IsRawNamed, IsRawRanked}
+use Rattle.script_grammar.specs.Sizes.{fair_size, helped_size, ranked_size}
+use Rattle.script_grammar.specs.Breaking.{listed_rules}
+use Rattle.script_grammar.specs.Rules.{cited_rules, claim_rules, fair_rules, form_rules, group_rules, helped_rules, helper_rules, known_rules, listed_form_rules, name_rules, new_number_rules, ranked_rules, step_rules, sum_rules, transition_rules}
 use Rattle.script_grammar.specs.Theorems.{Forms, Sums}
 
 -- a fault that the grammar alone has
@@ -66,6 +71,16 @@ RankedFirstFault = (g : Setting) (before : ℕ) → nat_lt before 64 ≡ true �
 abbrev pub FairFirstFault : Type 0
 FairFirstFault = (g : Setting) (before : ℕ) → nat_lt before 64 ≡ true → StopsAtFirst (IsRawFair Forms Sums) (fair_rules g 0) (fair_of g before)
 
+-- lists of these in brackets, of at most 64 items
+abbrev pub ChainsFirstFault : Type 0
+ChainsFirstFault = (g : Setting) → StopsAtFirst (InBrackets (IsRawHelped Forms Sums)) (listed_rules (λ x. x.form) helped_size (helped_rules g) 0 0) (bracketed (helped_of g))
+
+abbrev pub RankingsFirstFault : Type 0
+RankingsFirstFault = (g : Setting) → StopsAtFirst (InBrackets (IsRawRanked Forms Sums)) (listed_rules (λ x. x.form) ranked_size (ranked_rules g) 0 0) (bracketed (ranked_of g))
+
+abbrev pub FairListsFirstFault : Type 0
+FairListsFirstFault = (g : Setting) → StopsAtFirst (InBrackets (IsRawFair Forms Sums)) (listed_rules (λ x. x.form) fair_size (fair_rules g) 0 0) (bracketed (fair_of g))
+
 -- the claim of an invariance, with the formula by which it is shown
 abbrev pub InvariancesFirstFault : Type 0
 InvariancesFirstFault = (g : Setting) → StopsAtFirst (IsRawInvariance Forms Sums) (claim_rules g 0) (invariance_of g)
@@ -88,3 +103,8 @@ CitationsFirstFault = (before : List PlainStep) → StopsAtFirst OneName (cited_
 -- the name of a step, behind these steps
 abbrev pub NewNamesFirstFault : Type 0
 NewNamesFirstFault = (before : List PlainStep) → StopsAtFirst OneName (name_rules before 0) (new_name_of (earlier_of before))
+
+-- a step that claims an invariance, behind these steps
+abbrev pub InvarianceStepsFirstFault : Type 0
+InvarianceStepsFirstFault = (g : Setting) (before : List PlainStep)
+    → StopsAtFirst (After marks.Invariant (IsRawNamed (IsRawInvariance Forms Sums))) (step_rules g before 0) (behind_mark marks.Invariant (step_of g claims.Invariant (earlier_of before)))

@@ -2,6 +2,7 @@
 
 ghost use Rattle.script_grammar.specs.FirstFaults.{TransitionsFirstFault, HelpersFirstFault, GroupsFirstFault, NewNamesFirstFault, CitationsFirstFault};
 ghost use Rattle.script_grammar.specs.FirstFaults.{FormulasFirstFault, SumsFirstFault, ListedFormulasFirstFault, HelpedFirstFault, RankedFirstFault, FairFirstFault, InvariancesFirstFault, KnownNumbersFirstFault, NewNumbersFirstFault};
+ghost use Rattle.script_grammar.specs.FirstFaults.{ChainsFirstFault, RankingsFirstFault, FairListsFirstFault, InvarianceStepsFirstFault};
 ghost use Rattle.script_grammar.specs.Theorems.{ScriptsAreLawful, DiagramsAreLawful};
 
 /// A text is read as a script exactly where its tokens spell a tree that breaks no rule, and the script is what the tree means.
@@ -84,4 +85,24 @@ pub fn fair_first_fault()
 /// The claim of an invariance is refused exactly for its first fault.
 pub fn invariances_first_fault()
     ensures { InvariancesFirstFault }
+{}
+
+/// So is a list of items with helpers, in brackets: at most 64, and a further one is found at the end of its formula.
+pub fn chains_first_fault()
+    ensures { ChainsFirstFault }
+{}
+
+/// So is one of items with ranks and helpers.
+pub fn rankings_first_fault()
+    ensures { RankingsFirstFault }
+{}
+
+/// So is one of items whose helpers may be left out.
+pub fn fair_lists_first_fault()
+    ensures { FairListsFirstFault }
+{}
+
+/// A step that claims an invariance is refused exactly for its first fault.
+pub fn invariance_steps_first_fault()
+    ensures { InvarianceStepsFirstFault }
 {}

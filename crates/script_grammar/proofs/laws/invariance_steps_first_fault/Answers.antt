@@ -1,0 +1,5 @@
+use Rattle.script_grammar.proofs.NamedSteps as proved
+use Rattle.script_grammar.proofs.laws.invariance_steps_first_fault.Goals as goal
+
+pub returns : goal.returns
+returns c = proved.invariance_steps_first_fault

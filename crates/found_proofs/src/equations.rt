@@ -209,6 +209,13 @@ fn push_place_equations(
     }
 }
 
+/// Whether equations are found.
+pub(crate) fn has_equations(alloc: Global, subject: &Subject) -> Result<bool, Memory> {
+    let mut found = Vec::new(alloc);
+    push_equations(alloc, subject, &mut found)?;
+    Ok(!found.is_empty())
+}
+
 /// Appends the linear equations that hold on every run, and those that hold at locations, as far as they are found.
 pub(crate) fn push_equations(
     alloc: Global,

@@ -4,10 +4,12 @@ ghost use Rattle.std.specs.Prelude.{◌≤◌, IfOk};
 
 use crate::answers::{FindFault, Found};
 use crate::attempts::Attempt;
-use crate::progress::progressed;
-use crate::subject::read_subject;
+use crate::equations::has_equations;
+use crate::progress::{progressed, unmade};
+use crate::subject::{Subject, read_subject};
 use find_requests::read_request;
 use invariant_search::Observer;
+use st_memory::Memory;
 use std::alloc::Global;
 
 /// What came of an attempt.
@@ -16,6 +18,14 @@ pub struct Attempted {
     pub found: Found,
     /// How many queries were asked.
     pub queries: u64,
+}
+
+/// Whether an attempt is made: early ones are only where the program has equations.
+fn is_made(alloc: Global, subject: &Subject, attempt: Attempt) -> Result<bool, Memory> {
+    if attempt.early.is_none() {
+        return Ok(true);
+    }
+    has_equations(alloc, subject)
 }
 
 /// Looks for proofs of the goals of a text: of each invariance without `by` and `using`, and of each response `by find`. The other steps
@@ -38,6 +48,12 @@ pub fn attempt_proofs<O: Observer>(
 {
     let subject = read_subject(alloc, program)?;
     let request = read_request(alloc, proof, &subject.names, &subject.system)?;
+    if !is_made(alloc, &subject, attempt)? {
+        return Ok(Attempted {
+            found: unmade(alloc, &request)?,
+            queries: 0,
+        });
+    }
     let (found, queries) = progressed(alloc, &subject, proof, &request, attempt, budget, observer)?;
     Ok(Attempted { found, queries })
 }

@@ -380,6 +380,16 @@ fn first_goal(alloc: Global, request: &Request<'_>) -> Result<String, Memory> {
     Ok(String::new(alloc))
 }
 
+/// The answer where no attempt is made.
+pub(crate) fn unmade(alloc: Global, request: &Request<'_>) -> Result<Found, Memory> {
+    Ok(Found::NotFound(Missing {
+        goal: first_goal(alloc, request)?,
+        why: Unfound::Budget,
+        left: None,
+        so_far: Vec::new(alloc),
+    }))
+}
+
 /// Goes through the steps of a text; an answer where a goal isn't proved.
 fn through<'t, O: Observer>(
     alloc: Global,

@@ -1,0 +1,4 @@
+pub mod Choices
+pub mod Weights
+pub mod Atoms
+pub mod Order

@@ -10,7 +10,7 @@ use clause_texts::{ClauseFault, ClauseWriter};
 use control_cubes::{CubeFault, State};
 use find_requests::Leading;
 use invariant_search::Search;
-use response_search::{Chain, Setting, Sought, chain_for, learn};
+use response_search::{Chain, Setting, Sought, chain_for, learn, learn_more, short_chain_for};
 use st_form::{Form, Lin};
 use st_memory::Memory;
 use std::alloc::Global;
@@ -98,7 +98,7 @@ fn outcome_of(rule: Vec<u8>, tried: Tried) -> Responded {
     }
 }
 
-/// What the search finds for a response, behind the lemmas that it learns.
+/// What the search finds for a response: a short chain behind few lemmas, or else one behind all that it learns, which takes many questions.
 fn sought(
     alloc: Global,
     subject: &Subject,
@@ -107,20 +107,18 @@ fn sought(
     leading: &Leading,
 ) -> Result<Sought, CubeFault> {
     let variables = subject.program.variables.as_slice();
-    learn(alloc, search, variables)?;
     let setting = Setting {
         system: &subject.system,
         components: &subject.components,
         writer,
     };
-    chain_for(
-        alloc,
-        search,
-        setting,
-        variables,
-        &leading.start,
-        &leading.goal,
-    )
+    let (start, goal) = (&leading.start, &leading.goal);
+    learn(alloc, search, variables)?;
+    if let Some(chain) = short_chain_for(alloc, search, setting, variables, start, goal)? {
+        return Ok(Sought::Chain(chain));
+    }
+    learn_more(alloc, search, variables)?;
+    chain_for(alloc, search, setting, variables, start, goal)
 }
 
 /// The least proof that a chain is one.

@@ -277,6 +277,11 @@ impl<'a> Prover<'a> {
         self.queries
     }
 
+    /// Whether no question may be asked any longer.
+    pub(crate) fn is_spent(&self) -> bool {
+        self.budget <= self.queries
+    }
+
     /// Gives back how many questions might still be asked. From then on none is.
     pub(crate) fn give_back(&mut self) -> u64
         ensures { result + self.new.budget ≡ self.old.budget }

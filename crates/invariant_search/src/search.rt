@@ -105,6 +105,11 @@ impl<'a> Search<'a> {
         }
     }
 
+    /// Whether no condition may be searched any longer.
+    pub fn is_spent(&self) -> bool {
+        self.solver.is_spent()
+    }
+
     /// Gives back how many conditions might still be searched. From then on none is.
     pub fn give_back(&mut self) -> u64 {
         self.solver.give_back()

@@ -46,6 +46,10 @@ impl<'a> Solver<'a> {
         self.prover.queries()
     }
 
+    pub(crate) fn is_spent(&self) -> bool {
+        self.prover.is_spent()
+    }
+
     pub(crate) fn give_back(&mut self) -> u64 {
         self.prover.give_back()
     }

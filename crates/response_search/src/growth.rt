@@ -21,6 +21,9 @@ use transition_system::Fairness;
 /// The most items.
 const MOST: usize = 60;
 
+/// The most items of a chain that is looked for before much is learned.
+const SHORT: usize = 2;
+
 /// The most rounds: in each an item or a group is added, or a group is given up.
 const ROUNDS: usize = 400;
 
@@ -230,6 +233,30 @@ fn begun<'s>(
         tried: 0,
         groups: 0,
     })
+}
+
+/// A chain of one item or two for the response from `start` to `goal`, if there is one by the lemmas of the search that hold always.
+pub fn short_chain_for(
+    alloc: Global,
+    search: &mut Search<'_>,
+    setting: Setting<'_>,
+    variables: &[Variable],
+    start: &Form,
+    goal: &Form,
+) -> Result<Option<Chain>, CubeFault> {
+    let wait = Wait::of(alloc, search, start)?;
+    let mut saturation = begun(alloc, search, setting, variables, &wait, start, goal)?;
+    for _ in 0..SHORT {
+        if !saturation.grows(alloc, search, &NARROW)? {
+            return Ok(None);
+        }
+        if saturation.is_covered(alloc, search)? {
+            let mut chain = saturation.chain;
+            prune_all(alloc, search, setting, &mut chain)?;
+            return Ok(Some(chain));
+        }
+    }
+    Ok(None)
 }
 
 /// A chain for the response from `start` to `goal`, by the lemmas of the search that hold always, to which it may add some.

@@ -276,7 +276,7 @@ fn exclude_dead(alloc: Global, search: &mut Search<'_>) -> Result<(), CubeFault>
     Ok(())
 }
 
-/// Gives the search what is inductive of the clauses of one literal, alone or at one place or two.
+/// Gives the search what is inductive of the clauses of one literal, alone or at one place.
 pub fn learn(
     alloc: Global,
     search: &mut Search<'_>,
@@ -285,7 +285,15 @@ pub fn learn(
     exclude_dead(alloc, search)?;
     let literals = literal_cubes(alloc, search, variables)?;
     let singles = singles(alloc, search, literals)?;
-    learn_of(alloc, search, singles)?;
+    learn_of(alloc, search, singles)
+}
+
+/// Gives the search what is inductive of the clauses of one literal at two places.
+pub fn learn_more(
+    alloc: Global,
+    search: &mut Search<'_>,
+    variables: &[Variable],
+) -> Result<(), CubeFault> {
     let literals = literal_cubes(alloc, search, variables)?;
     let pairs = pairs(alloc, search, literals)?;
     learn_of(alloc, search, pairs)

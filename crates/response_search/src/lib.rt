@@ -26,6 +26,6 @@ mod saturation;
 
 pub use bases::Setting;
 pub use chain::{Chain, ChainItem, Measure};
-pub use growth::{Sought, chain_for};
-pub use houdini::learn;
+pub use growth::{Sought, chain_for, short_chain_for};
+pub use houdini::{learn, learn_more};
 pub use ranks::Ranks;

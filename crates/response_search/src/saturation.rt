@@ -171,16 +171,33 @@ impl Saturation<'_> {
         )
     }
 
-    /// A candidate as an item; nothing where its base has no number.
+    /// What a candidate says, where that adds something to the chain: most add nothing, and one question says it.
+    fn adding(
+        &self,
+        alloc: Global,
+        search: &mut Search<'_>,
+        candidate: Candidate,
+        out: &mut Vec<Said>,
+    ) -> Result<(), CubeFault> {
+        if let Some(base) = self.bases().get(candidate.base) {
+            let said = self.said(alloc, &base.said, candidate.width)?;
+            if self.adds(alloc, search, &said.form)? {
+                out.push(said)?;
+            }
+        }
+        Ok(())
+    }
+
+    /// A candidate as an item, of what it says; nothing where its base has no number.
     fn proposed(
         &self,
         alloc: Global,
         search: &Search<'_>,
         candidate: Candidate,
+        said: Said,
         out: &mut Vec<Proposed>,
     ) -> Result<(), CubeFault> {
         if let Some(base) = self.bases().get(candidate.base) {
-            let said = self.said(alloc, &base.said, candidate.width)?;
             let trial = Trial::new(alloc, search, said.form, base.helper, self.group())?;
             out.push(Proposed {
                 base: Vec::from_slice(alloc, &base.said.text)?,
@@ -198,12 +215,6 @@ impl Saturation<'_> {
         search: &mut Search<'_>,
         trial: &Trial,
     ) -> Result<Judged, CubeFault> {
-        if !self.adds(alloc, search, &trial.form)? {
-            return Ok(Judged {
-                valid: false,
-                behind: None,
-            });
-        }
         let found = self.checked(alloc, search, trial, self.chain.items.len())?;
         Ok(Judged {
             valid: found.is_none(),
@@ -299,15 +310,16 @@ impl Saturation<'_> {
         Ok(())
     }
 
-    /// Adds a candidate, if it adds something and is valid.
-    fn is_added(
+    /// Adds a candidate, if what it says is valid as an item.
+    fn is_taken(
         &mut self,
         alloc: Global,
         search: &mut Search<'_>,
         candidate: Candidate,
+        said: Said,
     ) -> Result<bool, CubeFault> {
         let mut all = Vec::new(alloc);
-        self.proposed(alloc, search, candidate, &mut all)?;
+        self.proposed(alloc, search, candidate, said, &mut all)?;
         for proposed in all {
             let judged = self.judged(alloc, search, &proposed.trial)?;
             if judged.valid {
@@ -319,6 +331,24 @@ impl Saturation<'_> {
         Ok(false)
     }
 
+    /// Adds a candidate, if it adds something and is valid.
+    fn is_added(
+        &mut self,
+        alloc: Global,
+        search: &mut Search<'_>,
+        candidate: Candidate,
+    ) -> Result<bool, CubeFault> {
+        let mut adding = Vec::new(alloc);
+        self.adding(alloc, search, candidate, &mut adding)?;
+        match adding.pop() {
+            Some(said) => self.is_taken(alloc, search, candidate, said),
+            None => {
+                self.failed.insert(candidate, None)?;
+                Ok(false)
+            }
+        }
+    }
+
     /// Adds the first candidate of a base that can be added.
     fn grows_at(
         &mut self,
@@ -328,6 +358,9 @@ impl Saturation<'_> {
         widths: &[Width],
     ) -> Result<bool, CubeFault> {
         for width in widths {
+            if search.is_spent() {
+                return Ok(false);
+            }
             let candidate = Candidate {
                 base,
                 width: *width,

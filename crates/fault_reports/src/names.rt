@@ -13,6 +13,17 @@ fn reach(word: &str) -> usize {
 /// How long a misspelt name may be: the table of distances has a row for each of its letters.
 const LONGEST: usize = 64;
 
+/// Twice the distance, and one more where the name isn't as long as the word: a letter is mistaken more often than forgotten, and of
+/// numbered names, as `l1` and `l11` for `l12`, the one with as many digits is meant.
+fn rank(alloc: Global, word: &str, name: &str) -> Result<usize, Memory> {
+    let distance = damerau_levenshtein(alloc, word, name)?;
+    if distance >= name.len() {
+        return Ok(usize::MAX);
+    }
+    let other = usize::from(name.len() != word.len());
+    Ok(distance.saturating_mul(2).saturating_add(other))
+}
+
 /// The nearest name, the first of several as near. A name that is longer by as much as the nearest is far isn't nearer, so no
 /// table is made for it.
 pub(crate) fn nearest<'a>(
@@ -24,12 +35,12 @@ pub(crate) fn nearest<'a>(
         return Ok(None);
     }
     let mut found = None;
-    let mut least = reach(word).saturating_add(1);
+    let mut least = reach(word).saturating_mul(2).saturating_add(2);
     for name in names {
         if name.len() < word.len().saturating_add(least) {
-            let distance = damerau_levenshtein(alloc, word, name)?;
-            if distance < least && distance < name.len() {
-                least = distance;
+            let rank = rank(alloc, word, name)?;
+            if rank < least {
+                least = rank;
                 found = Some(*name);
             }
         }

@@ -18,12 +18,12 @@ pub const ATTEMPTS: [Attempt; 5] = [
     Attempt {
         equations: false,
         plain: false,
-        early: Some(4_000),
+        early: Some(8_000),
     },
     Attempt {
         equations: true,
         plain: false,
-        early: Some(16_000),
+        early: Some(24_000),
     },
     Attempt {
         equations: false,

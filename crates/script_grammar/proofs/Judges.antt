@@ -13,7 +13,7 @@ use Rattle.st_reading.proofs.Spelled.{none_spelled}
 use Rattle.st_reading.proofs.Soundness.{Shrinks, split, values}
 use Rattle.st_reading.proofs.LawfulPhrases.{LawfulPhrase}
 use Rattle.st_reading.proofs.Judging.{closed, JudgedAt, good, bad, alike, judged_bind}
-use Rattle.st_reading.proofs.JudgedParts.{judged_as, judged_map, judged_expected}
+use Rattle.st_reading.proofs.JudgedParts.{judged_as, judged_map, judged_expected, judged_gives}
 use Rattle.proof_script.specs.Listing.{optional}
 use Rattle.script_grammar.specs.Sizes.{optional_size}
 use Rattle.script_grammar.specs.Breaking.{found_at, broken_where, optional_rules}
@@ -74,6 +74,15 @@ module _ {A B : Type 0} {next : Sign → Bool} {judge : Reader A} {plain : Reade
       weaker_at at s (bad t ts rest first open_to is_cut found settles stops told v onward) = bad t ts rest first open_to is_cut found settles stops told v onward
       weaker_at at s (alike f p e k) = alike f p e k
 
+  -- with its count and its rules said otherwise
+  pub same_so : (count2 : B → ℕ) (rules2 : ℕ → B → List (Broken Breach)) → ((b : B) → count2 b ≡ count b) → ((at : ℕ) (b : B) → rules2 at b ≡ rules at b) → Judges next judge plain count rules makes → Judges next judge plain count2 rules2 makes
+  same_so count2 rules2 counts ruled j = record { judged = λ at s. same_at at s (j.judged at s) }
+    where
+      same_at : (at : ℕ) (s : Stream) → JudgedAt IsSyntactic next at judge plain count (rules at) makes s → JudgedAt IsSyntactic next at judge plain count2 (rules2 at) makes s
+      same_at at s (good ts b a rest is_cut go go2 many none made) = good ts b a rest is_cut go go2 (counts b ∙ many) (ruled at b ∙ none) made
+      same_at at s (bad t ts rest first open_to is_cut found settles stops told v onward) = bad t ts rest first open_to is_cut found settles stops (λ after b m h r. let k = told after b m h r in (k.0, ruled at b ∙ k.1)) v onward
+      same_at at s (alike f p e k) = alike f p e k
+
   -- before fewer tokens
   pub calmer_so : (fewer : Sign → Bool) → Within fewer next → Judges next judge plain count rules makes → Judges fewer judge plain count rules makes
   calmer_so fewer within j = record { judged = λ at s. judged_calmer next fewer within at judge plain count (rules at) makes s (j.judged at s) }
@@ -131,6 +140,10 @@ plain_mark_so mark x = mark_so mark false (λ n. no_breach n) x
   where
     no_breach : ℕ → Breach
     no_breach n = crowded n
+
+-- a value that is there
+pub value_so : {A B : Type 0} {next : Sign → Bool} {count : B → ℕ} {rules : ℕ → B → List (Broken Breach)} {makes : B → A → Type 0} (a : A) (b : B) → count b ≡ 0 → ((at : ℕ) → rules at b ≡ []) → makes b a → Judges next (gives a) (gives b) count rules makes
+value_so {A} {B} {next} {count} {rules} {makes} a b none lawful m = record { judged = λ at s. judged_gives IsSyntactic next at a b count (rules at) makes none (lawful at) m s }
 
 -- a mark, and its place
 pub place_so : (mark : Mark) → Judges anything (expected mark) (expected mark) (λ n. 1) (λ at n. []) (λ n k. k ≡ n)

@@ -28,6 +28,15 @@ mod JudgedBrackets
 mod ListedItems
 mod Citations
 mod NamedSteps
+mod DrawnReaders
+mod DrawnMarks
+mod JudgedTerminals
+mod JudgedNodes
+mod JudgedEdges
+mod DrawnKinds
+mod DrawnItems
+mod JudgedDrawings
+mod DrawingLaws
 mod Units
 mod DrawnTrees
 mod RuleTrees

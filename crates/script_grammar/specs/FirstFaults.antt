@@ -10,17 +10,18 @@ use Rattle.st_reading.specs.Breaches.{Breach, Reader}
 use Rattle.st_reading.specs.BrokenRules.{Broken, BreaksAt, StopsAt}
 use Rattle.temporal_goals.specs.Texts.{PlainDrawnNode, PlainStep}
 use Rattle.temporal_goals.specs.declared.diagrams.DiagramKind.{DiagramKind}
-use Rattle.diagram_reader.specs.Drawing.{known_of, new_number_of}
+use Rattle.diagram_reader.specs.Drawing.{diagram_of, known_of, new_number_of}
 use Rattle.diagram_reader.specs.Drawn as diagrams
+use Rattle.proof_script.specs.Faults.{drawn}
 use Rattle.proof_script.specs.Listing.{Setting, behind_mark, bracketed, compassionate_of, formula_of, just_of, listed_formula_of, sum_of, transition_of}
 use Rattle.proof_script.specs.Rules.{fair_of, helped_of, ranked_of}
 use Rattle.proof_script.specs.Steps.{cited_of, earlier_of, invariance_of, new_name_of, step_of}
 use Rattle.proof_script.specs.declared.steps.Claim.TheVariants as claims
-use Rattle.script_grammar.specs.Drawings.{IsNumeral, IsReference, IsUnit}
+use Rattle.script_grammar.specs.Drawings.{IsNumeral, IsRawDrawing, IsReference, IsUnit}
 use Rattle.script_grammar.specs.Grammar.{InBrackets, IsRawFair, IsRawHelped, IsRawInvariance, IsRawNamed, IsRawRanked}
 use Rattle.script_grammar.specs.Sizes.{fair_size, helped_size, ranked_size}
 use Rattle.script_grammar.specs.Breaking.{listed_rules}
-use Rattle.script_grammar.specs.Rules.{cited_rules, claim_rules, fair_rules, form_rules, group_rules, helped_rules, helper_rules, known_rules, listed_form_rules, name_rules, new_number_rules, ranked_rules, step_rules, sum_rules, transition_rules}
+use Rattle.script_grammar.specs.Rules.{cited_rules, claim_rules, drawing_rules, fair_rules, form_rules, group_rules, helped_rules, helper_rules, known_rules, listed_form_rules, name_rules, new_number_rules, ranked_rules, step_rules, sum_rules, transition_rules}
 use Rattle.script_grammar.specs.Theorems.{Forms, Sums}
 
 -- a fault that the grammar alone has
@@ -108,3 +109,7 @@ NewNamesFirstFault = (before : List PlainStep) → StopsAtFirst OneName (name_ru
 abbrev pub InvarianceStepsFirstFault : Type 0
 InvarianceStepsFirstFault = (g : Setting) (before : List PlainStep)
     → StopsAtFirst (After marks.Invariant (IsRawNamed (IsRawInvariance Forms Sums))) (step_rules g before 0) (behind_mark marks.Invariant (step_of g claims.Invariant (earlier_of before)))
+
+-- a drawing of this kind, with this highest level, and its faults as a script tells them
+abbrev pub DrawingsFirstFault : Type 0
+DrawingsFirstFault = (g : Setting) (kind : DiagramKind) (highest : ℕ) → StopsAtFirst (IsRawDrawing Forms Sums kind) (drawing_rules g kind highest 0) (λ s. drawn (diagram_of kind highest g.names g.system s))

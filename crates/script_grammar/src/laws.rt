@@ -2,7 +2,7 @@
 
 ghost use Rattle.script_grammar.specs.FirstFaults.{TransitionsFirstFault, HelpersFirstFault, GroupsFirstFault, NewNamesFirstFault, CitationsFirstFault};
 ghost use Rattle.script_grammar.specs.FirstFaults.{FormulasFirstFault, SumsFirstFault, ListedFormulasFirstFault, HelpedFirstFault, RankedFirstFault, FairFirstFault, InvariancesFirstFault, KnownNumbersFirstFault, NewNumbersFirstFault};
-ghost use Rattle.script_grammar.specs.FirstFaults.{ChainsFirstFault, RankingsFirstFault, FairListsFirstFault, InvarianceStepsFirstFault};
+ghost use Rattle.script_grammar.specs.FirstFaults.{ChainsFirstFault, RankingsFirstFault, FairListsFirstFault, InvarianceStepsFirstFault, DrawingsFirstFault};
 ghost use Rattle.script_grammar.specs.Theorems.{ScriptsAreLawful, DiagramsAreLawful};
 
 /// A text is read as a script exactly where its tokens spell a tree that breaks no rule, and the script is what the tree means.
@@ -105,4 +105,9 @@ pub fn fair_lists_first_fault()
 /// A step that claims an invariance is refused exactly for its first fault.
 pub fn invariance_steps_first_fault()
     ensures { InvarianceStepsFirstFault }
+{}
+
+/// A drawing of each kind is refused exactly for its first fault.
+pub fn drawings_first_fault()
+    ensures { DrawingsFirstFault }
 {}

@@ -20,9 +20,9 @@ pub struct Attempted {
     pub queries: u64,
 }
 
-/// Whether an attempt is made: early ones are only where the program has equations.
+/// Whether an attempt is made: early ones, and those with equations, are only where the program has some.
 fn is_made(alloc: Global, subject: &Subject, attempt: Attempt) -> Result<bool, Memory> {
-    if attempt.early.is_none() {
+    if attempt.early.is_none() && !attempt.equations {
         return Ok(true);
     }
     has_equations(alloc, subject)

@@ -20,7 +20,7 @@ use st_memory::Memory;
 use std::alloc::Global;
 
 /// Which part of the queries is kept for the text when lemmas are looked for: one in so many.
-const KEPT: u64 = 4;
+const KEPT: u64 = 8;
 
 /// What came of some goals.
 #[derive(Drop)]

@@ -1,0 +1,4 @@
+//! What each exit status means: a law over the plans of runs. No code.
+#![tactic(auto)]
+
+pub mod laws;

@@ -41,6 +41,13 @@ fn say_attempt<R: Clock + Eprint>(rt: &R, watch: Watch, number: usize, asked: u6
     }
 }
 
+/// Where an attempt finds nothing and names nothing that is left, what an earlier one left is told.
+fn keep_left(before: &mut FindReport, next: &mut FindReport) {
+    if next.verdict == Verdict::NotFound && next.left.is_none() {
+        next.left = before.left.take();
+    }
+}
+
 /// What comes of the attempts: the first that proves or refutes, else the last.
 fn search<R: Clock + Eprint + Threads + Sync>(
     rt: &R,
@@ -63,7 +70,9 @@ fn search<R: Clock + Eprint + Threads + Sync>(
             &lines,
         )?;
         left = left.saturating_sub(tried.queries);
-        report = report_of(rt, subject, &tried.found)?;
+        let mut next = report_of(rt, subject, &tried.found)?;
+        keep_left(&mut report, &mut next);
+        report = next;
         report.queries = subject.budget.saturating_sub(left);
         if report.verdict != Verdict::NotFound {
             return Ok(report);

@@ -9,7 +9,7 @@ use Rattle.posed_conditions.specs.declared.scripts.PosedScript.{PosedScript}
 use Rattle.posed_conditions.specs.Translated.{IsOfText}
 use Rattle.posed_conditions.specs.Posed.{IsPosedBy}
 use Rattle.proof_reports.specs.declared.proofs.Report.{Report}
-use Rattle.explanations.specs.Explained.{IsExplained, IsOutlined, name_of, named_in, number, number_in, number_of, open_places}
+use Rattle.explanations.specs.Explained.{IsExplained, name_of, named_in, number, number_in, number_of, open_places}
 
 numbers_are : (us : List Undecided) → map number_of us ≡ map number (map place_of us)
 numbers_are [] = refl
@@ -36,10 +36,3 @@ module _ (program proof : List ℕ) (x : TranslatedProgram) (p : PosedScript) (l
       → IfOk r (IsExplained program proof limit)
   explained (Ok report) steps conditions numbers failing first = tells report steps conditions numbers failing first
   explained (Err e) steps conditions numbers failing first = conditions
-
-module _ (program proof : List ℕ) (x : TranslatedProgram) (p : PosedScript) (of : IsOfText program x) (by : IsPosedBy proof x p) where
-  pub outlined : {E : Type 0} (r : Result Report E) → IfOk r (λ r. map named_in r.steps.items ≡ map name_of p.script.steps.items) → IfOk r (λ r. r.conditions ≡ length p.conditions.items)
-      → IfOk r (λ r. r.numbers.items ≡ []) → IfOk r (λ r. r.failing ≡ 0) → IfOk r (λ r. map number_in r.failures.items ≡ [])
-      → IfOk r (IsOutlined program proof)
-  outlined (Ok report) steps conditions numbers failing first = record { source = x; posed = p; of = of; by = by; steps = steps; conditions = conditions; none = numbers; failing = failing; unexplained = first }
-  outlined (Err e) steps conditions numbers failing first = conditions

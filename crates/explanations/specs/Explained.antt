@@ -1,7 +1,13 @@
 -- What a report tells of a proof over a program: the numbers of all conditions that aren't decided valid, and the first of them explained.
-use Rattle.std.specs.Prelude.{◌≡◌, ◌<◌, ℕ, ◌+◌, ◌-◌, ◌^◌, List, [], length, map, min, take, slice_get, Some, string_bytes}
+use Rattle.std.specs.Prelude.{◌≡◌, ◌<◌, ℕ, ◌+◌, ◌-◌, ◌^◌, List, [], length, map, min, take, slice_get, Some, Ok, string_bytes}
 use Rattle.st_form.specs.declared.conditions.Condition.{Condition}
+use Rattle.transition_system.specs.Plain.{plain_system}
+use Rattle.temporal_goals.specs.declared.scripts.Script.{Script}
 use Rattle.temporal_goals.specs.declared.scripts.Step.{Step}
+use Rattle.temporal_goals.specs.Plain.{plain_script}
+use Rattle.script_laws.specs.Script.{script_list}
+use Rattle.condition_counts.specs.Counts.{counts_of}
+use Rattle.proof_script.specs.Script.{script_spelled}
 use Rattle.farkas_check.specs.Problem.{Setting}
 use Rattle.farkas_check.specs.PlainProblem.{setting}
 use Rattle.discharge.specs.declared.marks.Undecided.{Undecided}
@@ -43,6 +49,10 @@ name_of s = string_bytes s.name
 abbrev pub named_in : StepReport → List ℕ
 named_in r = string_bytes r.name
 
+-- how many conditions the step is said to have
+abbrev pub count_in : StepReport → ℕ
+count_in r = r.conditions
+
 -- a condition of a step stands at the place
 abbrev pub Stands : PosedScript → Undecided → Type 0
 Stands p u = (c : Condition) × (slice_get p.conditions.items u.place ≡ Some c) × (c.name.step < length p.script.steps.items)
@@ -63,14 +73,16 @@ pub record IsExplained (program proof : List ℕ) (limit : ℕ) (r : Report) : T
   pub failing : r.failing ≡ length r.numbers.items
   pub first : map number_in r.failures.items ≡ take limit r.numbers.items
 
--- the report tells of the proof that one text spells over the program of another, and of no condition that fails
+-- the report tells of the proof that one text spells over the program of another: its steps, how many conditions each of them and all of
+-- them have, and of none that fails
 pub record IsOutlined (program proof : List ℕ) (r : Report) : Type 0 where
   pub source : TranslatedProgram
-  pub posed : PosedScript
+  pub script : Script
   pub of : IsOfText program source
-  pub by : IsPosedBy proof source posed
-  pub steps : map named_in r.steps.items ≡ map name_of posed.script.steps.items
-  pub conditions : r.conditions ≡ length posed.conditions.items
+  pub by : script_spelled source.names (plain_system source.system) proof ≡ Ok (plain_script script)
+  pub steps : map named_in r.steps.items ≡ map name_of script.steps.items
+  pub counts : map count_in r.steps.items ≡ counts_of (plain_system source.system) (plain_script script)
+  pub conditions : r.conditions ≡ length (script_list (plain_system source.system) (plain_script script))
   pub none : r.numbers.items ≡ []
   pub failing : r.failing ≡ 0
-  pub unexplained : map number_in r.failures.items ≡ []
+  pub unexplained : r.failures.items ≡ []

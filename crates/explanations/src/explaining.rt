@@ -5,7 +5,7 @@ ghost use Rattle.discharge.specs.Marked.{place_of};
 ghost use Rattle.open_conditions.specs.Open.{AreOpen};
 ghost use Rattle.posed_conditions.specs.Translated.{IsOfText, IsTranslated};
 ghost use Rattle.posed_conditions.specs.Posed.{IsPosed, IsPosedBy};
-ghost use Rattle.explanations.specs.Explained.{AllStand, IsExplained, IsOutlined, name_of, named_in, number_in, number_of, open_places, setting_of};
+ghost use Rattle.explanations.specs.Explained.{AllStand, IsExplained, name_of, named_in, number_in, number_of, open_places, setting_of};
 ghost use Rattle.explanations.specs.Refused.{AreRefused};
 
 use crate::sources::{Places, Sources, Texts, number, posed, raw_program};
@@ -21,7 +21,7 @@ use st_outside::Gate;
 use std::alloc::Global;
 
 /// The version of the form of reports.
-const SCHEMA: &str = "milkhour.verify/1";
+pub(crate) const SCHEMA: &str = "milkhour.verify/1";
 
 /// The first so many.
 fn first(left: &[Undecided], limit: usize) -> &[Undecided]
@@ -81,13 +81,17 @@ fn report(
         conditions: sources.posed.conditions.len() as u64,
         failing: left.len() as u64,
         numbers: numbers(alloc, left)?,
-        steps: sources.step_reports(alloc, left)?,
+        steps: sources.steps_with(alloc, left)?,
         failures: failures(alloc, sources, first(left, limit))?,
     })
 }
 
 /// Where things stand in two texts.
-fn places(alloc: Global, texts: &Texts<'_>, raw: &RawProgram<'_>) -> Result<Places, Memory> {
+pub(crate) fn places(
+    alloc: Global,
+    texts: &Texts<'_>,
+    raw: &RawProgram<'_>,
+) -> Result<Places, Memory> {
     Ok(Places {
         statements: statement_places(alloc, texts.program, raw)?,
         steps: step_places(alloc, texts.proof)?,
@@ -163,20 +167,6 @@ fn decided<G: Gate>(
     reported(alloc, texts, raw, posed, &left, limit)
 }
 
-/// The report of what is posed by two texts, no condition decided.
-fn outlined(
-    alloc: Global,
-    texts: &Texts<'_>,
-    raw: &RawProgram<'_>,
-    posed: &PosedProof,
-) -> Result<Report, Memory>
-    requires of { IsOfText texts.now.program.now posed.now.source }
-    requires by { IsPosedBy texts.now.proof.now posed.now.source posed.now.proof }
-    ensures { IfOk result (IsOutlined texts.now.program.now texts.now.proof.now) }
-{
-    reported(alloc, texts, raw, posed, &[], 0)
-}
-
 /// What is told of a proof that isn't proved: its steps, the numbers of all conditions that aren't decided valid, and the first so
 /// many of them explained. The gate is told of each condition that is decided. `None` where one of the texts is refused.
 pub fn explain<G: Gate>(
@@ -193,21 +183,6 @@ pub fn explain<G: Gate>(
     };
     match posed(alloc, texts)? {
         Some(posed) => Ok(Some(decided(alloc, gate, texts, &raw, &posed, limit)?)),
-        None => Ok(None),
-    }
-}
-
-/// What is told of a proof that is proved: its steps and their conditions. Nothing is decided. `None` where one of the texts is
-/// refused.
-pub fn outline(alloc: Global, texts: &Texts<'_>) -> Result<Option<Report>, Memory>
-    ensures told { IfOk result (λ o. IfSome o (IsOutlined texts.now.program.now texts.now.proof.now)) }
-    ensures refused { IfOk result (λ o. o ≡ None → AreRefused texts.now.program.now texts.now.proof.now) }
-{
-    let Some(raw) = raw_program(alloc, texts.program)? else {
-        return Ok(None);
-    };
-    match posed(alloc, texts)? {
-        Some(posed) => Ok(Some(outlined(alloc, texts, &raw, &posed)?)),
         None => Ok(None),
     }
 }

@@ -8,6 +8,7 @@ mod explaining;
 mod failures;
 mod mentions;
 mod nets;
+mod outlining;
 mod parts;
 mod refusing;
 mod sentences;
@@ -17,6 +18,7 @@ mod steps;
 mod tables;
 mod turns;
 
-pub use explaining::{explain, outline};
+pub use explaining::explain;
+pub use outlining::outline;
 pub use proof_reports::{Case, Failure, Item, Report, Row, Spot, StepReport, Turn};
 pub use sources::Texts;

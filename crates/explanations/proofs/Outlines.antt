@@ -1,5 +1,5 @@
 -- The report of a proof whose conditions are counted.
-use Rattle.std.proofs.Common.{arith, ◌≡◌, ◌∙◌, ◌≤◌, ◌<◌, ℕ, zero, suc, List, [], ◌∷◌, ◌++◌, map, length, refl, ap, sym}
+use Rattle.std.proofs.Common.{arith, ◌≡◌, ◌∙◌, ◌≤◌, ◌<◌, ℕ, zero, suc, List, [], ◌∷◌, ◌++◌, map, length, refl, ap, sym, inr}
 use Rattle.std.specs.Prelude.{Result, Ok, Err, IfOk, IfSome, slice_get, take}
 use Rattle.transition_system.specs.Plain.{plain_system}
 use Rattle.temporal_goals.specs.declared.scripts.Script.{Script}
@@ -12,6 +12,7 @@ use Rattle.posed_conditions.specs.Translated.{IsOfText}
 use Rattle.proof_reports.specs.declared.proofs.Report.{Report}
 use Rattle.proof_reports.specs.declared.proofs.StepReport.{StepReport}
 use Rattle.explanations.specs.Explained.{IsOutlined, count_in, name_of, named_in}
+use Rattle.explanations.specs.Refused.{AreRefused, IsNoScript}
 
 -- one more of a list
 pub take-more : (ns : List ℕ) (i n : ℕ) → i < length ns → IfSome (slice_get ns i) (λ m. n ≡ m) → take (suc i) ns ≡ take i ns ++ n ∷ []
@@ -25,6 +26,10 @@ take-whole [] zero few = refl
 take-whole [] (suc k) few = refl
 take-whole (x ∷ xs) zero few = absurd (omega (arith, few))
 take-whole (x ∷ xs) (suc k) few = ap (λ (l : List ℕ). x ∷ l) (take-whole xs k (omega (arith, few)))
+
+-- a text that is no script over the program of another refuses both
+pub no-proof : (program proof : List ℕ) (x : TranslatedProgram) → IsOfText program x → IsNoScript x proof → AreRefused program proof
+no-proof program proof x of no = (no.0, no.1.0, inr (x, of, no.1.1))
 
 module _ (program proof : List ℕ) (x : TranslatedProgram) (s : Script) (of : IsOfText program x) (by : script_spelled x.names (plain_system x.system) proof ≡ Ok (plain_script s)) where
   pub outlined : {E : Type 0} (r : Result Report E) (told : List StepReport) (all : ℕ) → map named_in told ≡ map name_of s.steps.items

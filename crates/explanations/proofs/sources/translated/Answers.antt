@@ -1,2 +1,0 @@
-use Rattle.std.proofs.Common.{inl}
-use Rattle.explanations.proofs.sources.translated.Goals as goal

@@ -74,9 +74,6 @@ opens_stand x p k (v ∷ us) is all (suc i) u at = opens_stand x p k us is all.1
 pub open_stand : (x : TranslatedProgram) (p : PosedScript) (k : Setting) (us : List Undecided) → IsPosed x p → AreOpen k p.conditions.items us → AllStand p us
 open_stand x p k us is all = opens_stand x p k us is all
 
-pub none_stand : (p : PosedScript) → AllStand p []
-none_stand p i u at = absurd (cc)
-
 -- the first so many of those that stand do
 pub first_stand : (p : PosedScript) (n : ℕ) (us : List Undecided) → AllStand p us → AllStand p (take n us)
 first_stand p n us all i u at = all i u (in_whole n us i u at)

@@ -1,13 +1,20 @@
--- What a report tells of a proof over a program: the numbers of all conditions that aren't decided valid, and the first of them explained.
-use Rattle.std.specs.Prelude.{◌≡◌, ◌<◌, ℕ, ◌+◌, ◌-◌, ◌^◌, List, [], length, map, min, take, slice_get, Some, string_bytes}
+-- What a report tells of a proof over a program: the numbers of all conditions that are left open, and the first of them explained.
+use Rattle.std.specs.Prelude.{◌≡◌, ◌<◌, ℕ, ◌+◌, ◌-◌, ◌^◌, List, [], length, map, min, take, slice_get, Some, Ok, string_bytes}
 use Rattle.st_form.specs.declared.conditions.Condition.{Condition}
+use Rattle.transition_system.specs.Plain.{plain_system}
+use Rattle.temporal_goals.specs.declared.scripts.Script.{Script}
 use Rattle.temporal_goals.specs.declared.scripts.Step.{Step}
+use Rattle.temporal_goals.specs.Plain.{plain_script}
+use Rattle.script_laws.specs.Script.{script_list}
+use Rattle.condition_counts.specs.Counts.{counts_of}
+use Rattle.proof_script.specs.Script.{script_spelled}
 use Rattle.farkas_check.specs.Problem.{Setting}
 use Rattle.farkas_check.specs.PlainProblem.{setting}
 use Rattle.discharge.specs.declared.marks.Undecided.{Undecided}
 use Rattle.discharge.specs.Marked.{place_of}
 use Rattle.discharge.specs.Searched.{marks}
 use Rattle.open_conditions.specs.Open.{places_of_false}
+use Rattle.unclosed_conditions.specs.Unclosed.{LeavesOut}
 use Rattle.posed_conditions.specs.declared.translated.TranslatedProgram.{TranslatedProgram}
 use Rattle.posed_conditions.specs.declared.scripts.PosedScript.{PosedScript}
 use Rattle.posed_conditions.specs.Translated.{IsOfText}
@@ -43,6 +50,10 @@ name_of s = string_bytes s.name
 abbrev pub named_in : StepReport → List ℕ
 named_in r = string_bytes r.name
 
+-- how many conditions the step is said to have
+abbrev pub count_in : StepReport → ℕ
+count_in r = r.conditions
+
 -- a condition of a step stands at the place
 abbrev pub Stands : PosedScript → Undecided → Type 0
 Stands p u = (c : Condition) × (slice_get p.conditions.items u.place ≡ Some c) × (c.name.step < length p.script.steps.items)
@@ -51,7 +62,7 @@ abbrev pub AllStand : PosedScript → List Undecided → Type 0
 AllStand p us = (i : ℕ) (u : Undecided) → slice_get us i ≡ Some u → Stands p u
 
 -- the report tells of the proof that one text spells over the program of another: its steps, how many conditions it has, all of them
--- that aren't decided valid, how many they are, and the first so many of them explained
+-- that aren't decided valid without some that have a valid certificate, how many they are, and the first so many of them explained
 pub record IsExplained (program proof : List ℕ) (limit : ℕ) (r : Report) : Type 0 where
   pub source : TranslatedProgram
   pub posed : PosedScript
@@ -59,18 +70,22 @@ pub record IsExplained (program proof : List ℕ) (limit : ℕ) (r : Report) : T
   pub by : IsPosedBy proof source posed
   pub steps : map named_in r.steps.items ≡ map name_of posed.script.steps.items
   pub conditions : r.conditions ≡ length posed.conditions.items
-  pub all : r.numbers.items ≡ map number (open_places source posed)
+  pub places : List ℕ
+  pub left : LeavesOut (setting_of source) posed.conditions.items (open_places source posed) places
+  pub all : r.numbers.items ≡ map number places
   pub failing : r.failing ≡ length r.numbers.items
   pub first : map number_in r.failures.items ≡ take limit r.numbers.items
 
--- the report tells of the proof that one text spells over the program of another, and of no condition that fails
+-- the report tells of the proof that one text spells over the program of another: its steps, how many conditions each of them and all of
+-- them have, and of none that fails
 pub record IsOutlined (program proof : List ℕ) (r : Report) : Type 0 where
   pub source : TranslatedProgram
-  pub posed : PosedScript
+  pub script : Script
   pub of : IsOfText program source
-  pub by : IsPosedBy proof source posed
-  pub steps : map named_in r.steps.items ≡ map name_of posed.script.steps.items
-  pub conditions : r.conditions ≡ length posed.conditions.items
+  pub by : script_spelled source.names (plain_system source.system) proof ≡ Ok (plain_script script)
+  pub steps : map named_in r.steps.items ≡ map name_of script.steps.items
+  pub counts : map count_in r.steps.items ≡ counts_of (plain_system source.system) (plain_script script)
+  pub conditions : r.conditions ≡ length (script_list (plain_system source.system) (plain_script script))
   pub none : r.numbers.items ≡ []
   pub failing : r.failing ≡ 0
-  pub unexplained : map number_in r.failures.items ≡ []
+  pub unexplained : r.failures.items ≡ []

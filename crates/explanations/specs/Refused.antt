@@ -8,7 +8,8 @@ use Rattle.obligations.specs.declared.faults.ObligationFault.{ObligationFault}
 use Rattle.obligations.specs.declared.faults.ObligationFault.TheVariants as limits
 use Rattle.posed_conditions.specs.declared.faults.PosingFault.{PosingFault}
 use Rattle.posed_conditions.specs.declared.faults.PosingFault.TheVariants as faults
-use Rattle.posed_conditions.specs.Refused.{RefusesTexts}
+use Rattle.posed_conditions.specs.declared.translated.TranslatedProgram.{TranslatedProgram}
+use Rattle.posed_conditions.specs.Refused.{RefusesProof, RefusesTexts}
 
 -- a reader stops there
 abbrev pub IsSeen : {X : Type 0} → Option X → Type 0
@@ -47,3 +48,7 @@ IsOfTexts faults.Memory = ⊥
 -- one text is refused as a program, or the other as a proof over the program of the first
 abbrev pub AreRefused : List ℕ → List ℕ → Type 0
 AreRefused program proof = (fault : PosingFault) × IsOfTexts fault × RefusesTexts program proof fault
+
+-- the text is refused as a proof over the program
+abbrev pub IsNoScript : TranslatedProgram → List ℕ → Type 0
+IsNoScript x proof = (fault : PosingFault) × IsOfTexts fault × RefusesProof x proof fault

@@ -3,13 +3,13 @@
 ghost use Rattle.std.specs.Prelude.{◌≡◌, IfOk, IfSome, None, length, map, take};
 ghost use Rattle.discharge.specs.Marked.{place_of};
 ghost use Rattle.open_conditions.specs.Open.{AreOpen};
+ghost use Rattle.unclosed_conditions.specs.Unclosed.{LeavesOut};
 ghost use Rattle.posed_conditions.specs.Translated.{IsOfText, IsTranslated};
 ghost use Rattle.posed_conditions.specs.Posed.{IsPosed, IsPosedBy};
-ghost use Rattle.explanations.specs.Explained.{AllStand, IsExplained, IsOutlined, name_of, named_in, number_in, number_of, open_places, setting_of};
+ghost use Rattle.explanations.specs.Explained.{AllStand, IsExplained, name_of, named_in, number_in, number_of, open_places, setting_of};
 ghost use Rattle.explanations.specs.Refused.{AreRefused};
 
 use crate::sources::{Places, Sources, Texts, number, posed, raw_program};
-use open_conditions::{Undecided, open_conditions};
 use posed_conditions::PosedProof;
 use program_words::vocabulary;
 use proof_reports::{Failure, Report};
@@ -19,9 +19,10 @@ use spl_parser::RawProgram;
 use st_memory::Memory;
 use st_outside::Gate;
 use std::alloc::Global;
+use unclosed_conditions::{Undecided, unclosed_conditions};
 
 /// The version of the form of reports.
-const SCHEMA: &str = "milkhour.verify/1";
+pub(crate) const SCHEMA: &str = "milkhour.verify/1";
 
 /// The first so many.
 fn first(left: &[Undecided], limit: usize) -> &[Undecided]
@@ -81,7 +82,7 @@ fn report(
         conditions: sources.posed.conditions.len() as u64,
         failing: left.len() as u64,
         numbers: numbers(alloc, left)?,
-        steps: sources.step_reports(alloc, left)?,
+        steps: sources.steps_with(alloc, left)?,
         failures: failures(alloc, sources, first(left, limit))?,
     })
 }
@@ -128,16 +129,16 @@ fn reported(
     report(alloc, &sources, left, limit)
 }
 
-/// The conditions of what is posed that aren't decided valid.
+/// The conditions of what is posed that neither search closes.
 fn open_of<G: Gate>(alloc: Global, gate: &G, posed: &PosedProof) -> Result<Vec<Undecided>, Memory>
     requires translated { IsTranslated posed.now.source }
     requires posed { IsPosed posed.now.source posed.now.proof }
-    ensures all { IfOk result (λ v. map place_of v.items ≡ open_places posed.now.source posed.now.proof) }
+    ensures left { IfOk result (λ v. LeavesOut (setting_of posed.now.source) posed.now.proof.conditions.items (open_places posed.now.source posed.now.proof) (map place_of v.items)) }
     ensures right { IfOk result (λ v. AreOpen (setting_of posed.now.source) posed.now.proof.conditions.items v.items) }
 {
     let source = &posed.source;
     let variables = source.program.variables.as_slice();
-    open_conditions(
+    unclosed_conditions(
         alloc,
         gate,
         &source.components,
@@ -163,22 +164,8 @@ fn decided<G: Gate>(
     reported(alloc, texts, raw, posed, &left, limit)
 }
 
-/// The report of what is posed by two texts, no condition decided.
-fn outlined(
-    alloc: Global,
-    texts: &Texts<'_>,
-    raw: &RawProgram<'_>,
-    posed: &PosedProof,
-) -> Result<Report, Memory>
-    requires of { IsOfText texts.now.program.now posed.now.source }
-    requires by { IsPosedBy texts.now.proof.now posed.now.source posed.now.proof }
-    ensures { IfOk result (IsOutlined texts.now.program.now texts.now.proof.now) }
-{
-    reported(alloc, texts, raw, posed, &[], 0)
-}
-
-/// What is told of a proof that isn't proved: its steps, the numbers of all conditions that aren't decided valid, and the first so
-/// many of them explained. The gate is told of each condition that is decided. `None` where one of the texts is refused.
+/// What is told of a proof that isn't proved: its steps, the numbers of all conditions that neither search closes, and the first so
+/// many of them explained. The gate is told of each condition that the first search decides. `None` where one of the texts is refused.
 pub fn explain<G: Gate>(
     alloc: Global,
     gate: &G,
@@ -193,21 +180,6 @@ pub fn explain<G: Gate>(
     };
     match posed(alloc, texts)? {
         Some(posed) => Ok(Some(decided(alloc, gate, texts, &raw, &posed, limit)?)),
-        None => Ok(None),
-    }
-}
-
-/// What is told of a proof that is proved: its steps and their conditions. Nothing is decided. `None` where one of the texts is
-/// refused.
-pub fn outline(alloc: Global, texts: &Texts<'_>) -> Result<Option<Report>, Memory>
-    ensures told { IfOk result (λ o. IfSome o (IsOutlined texts.now.program.now texts.now.proof.now)) }
-    ensures refused { IfOk result (λ o. o ≡ None → AreRefused texts.now.program.now texts.now.proof.now) }
-{
-    let Some(raw) = raw_program(alloc, texts.program)? else {
-        return Ok(None);
-    };
-    match posed(alloc, texts)? {
-        Some(posed) => Ok(Some(outlined(alloc, texts, &raw, &posed)?)),
         None => Ok(None),
     }
 }

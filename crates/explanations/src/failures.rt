@@ -180,18 +180,12 @@ impl Sources<'_> {
         Ok(out)
     }
 
-    /// The states of a condition as a table.
-    fn state(
-        &self,
-        alloc: Global,
-        condition: &Condition,
-        passage: Passage<'_>,
-    ) -> Result<Vec<Row>, Memory> {
+    /// What a condition speaks of.
+    fn spoken_of(&self, alloc: Global, condition: &Condition) -> Result<Mentions, Memory> {
         let source = self.source;
         let variables = source.program.variables.len();
         let locations = source.system.locations as usize;
-        let mentions = Mentions::of_condition(alloc, variables, locations, condition)?;
-        self.table(alloc, passage, &mentions)
+        Mentions::of_condition(alloc, variables, locations, condition)
     }
 
     fn conjunction(&self, alloc: Global, forms: &[SharedForm]) -> Result<String, Memory> {
@@ -256,6 +250,7 @@ impl Sources<'_> {
     ) -> Result<Refutation, Memory> {
         let name = &condition.name;
         let after = self.behind(alloc, name, before)?;
+        let mentions = self.spoken_of(alloc, condition)?;
         let passage = Passage {
             before,
             after: match (&after, self.change(name)) {
@@ -265,10 +260,10 @@ impl Sources<'_> {
         };
         Ok(Refutation {
             broken: self.broken(alloc, step, name, passage.last())?,
-            state: self.state(alloc, condition, passage)?,
+            state: self.table(alloc, passage, &mentions)?,
             turn: self.turn(alloc, step, name, passage)?,
             alternatives: self.cases(alloc, step, name, passage)?,
-            excluded_by: self.excluding(alloc, name.step, step, before)?,
+            excluded_by: self.excluding(alloc, name.step, step, &mentions, before)?,
         })
     }
 

@@ -40,7 +40,8 @@ fn is_rule(fault: TypeFault) -> bool
     }
 }
 
-fn is_script(fault: ScriptFault) -> bool
+/// Whether a text breaks the grammar of proofs, or a rule or limit of it.
+pub(crate) fn is_script(fault: ScriptFault) -> bool
     ensures { result ≡ true → IsSeen (scripts.see fault) }
 {
     match fault {

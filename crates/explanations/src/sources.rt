@@ -1,20 +1,25 @@
 //! What explanations are made from: two texts, what is posed by them, and where things stand in them.
 
-ghost use Rattle.std.specs.Prelude.{◌≡◌, ℕ, List, IfOk, IfSome, None};
+ghost use Rattle.std.specs.Prelude.{◌≡◌, ℕ, List, IfOk, IfSome, None, Ok};
+ghost use Rattle.transition_system.specs.Plain.{plain_system};
+ghost use Rattle.temporal_goals.specs.Plain.{plain_script};
+ghost use Rattle.proof_script.specs.Script.{script_spelled};
 ghost use Rattle.posed_conditions.specs.Translated.{IsOfText};
 ghost use Rattle.posed_conditions.specs.Posed.{IsPosedBy};
 ghost use Rattle.explanations.specs.Explained.{number_of};
-ghost use Rattle.explanations.specs.Refused.{AreRefused};
+ghost use Rattle.explanations.specs.Refused.{AreRefused, IsNoScript};
 
-use crate::refusing::{is_of_texts, is_stop};
+use crate::refusing::{is_of_texts, is_script, is_stop};
 use formula_words::Vocabulary;
 use open_conditions::Undecided;
-use posed_conditions::{PosedProof, PosedScript, TranslatedProgram, pose};
+use posed_conditions::{PosedProof, PosedScript, TranslatedProgram, pose, translate_text};
+use proof_script::read_script;
 use source_lines::Lines;
 use source_places::{StatementPlace, StepPlaces};
 use spl_parser::{RawProgram, parse_program};
 use st_memory::Memory;
 use std::alloc::Global;
+use temporal_goals::Script;
 
 /// A program and a proof, each with the name of its file.
 #[derive(Clone, Copy)]
@@ -55,6 +60,47 @@ pub(crate) fn raw_program<'a>(
         Ok(raw) => Ok(Some(raw)),
         Err(fault) => {
             if is_stop(fault) {
+                Ok(None)
+            } else {
+                Err(Memory)
+            }
+        }
+    }
+}
+
+/// The program of a text, translated: `None` where the text is refused.
+pub(crate) fn translated(alloc: Global, text: &[u8]) -> Result<Option<TranslatedProgram>, Memory>
+    ensures read { IfOk result (λ o. IfSome o (IsOfText text.now)) }
+    ensures refused { IfOk result (λ o. o ≡ None → (proof : List ℕ) → AreRefused text.now proof) }
+{
+    match translate_text(alloc, text) {
+        Ok(source) => Ok(Some(source)),
+        Err(fault) => {
+            if is_of_texts(fault) {
+                Ok(None)
+            } else {
+                Err(Memory)
+            }
+        }
+    }
+}
+
+/// The script that a text spells over a program, its conditions not made: `None` where the text is refused.
+pub(crate) fn spelled(
+    alloc: Global,
+    source: &TranslatedProgram,
+    text: &[u8],
+) -> Result<Option<Script>, Memory>
+    ensures read { IfOk result (λ o. IfSome o (λ s. script_spelled source.now.names (plain_system source.now.system) text.now ≡ Ok (plain_script s))) }
+    ensures refused { IfOk result (λ o. o ≡ None → IsNoScript source.now text.now) }
+{
+    if 4194304 < text.len() {
+        return Ok(None);
+    }
+    match read_script(alloc, text, &source.names, &source.system) {
+        Ok(script) => Ok(Some(script)),
+        Err(fault) => {
+            if is_script(fault) {
                 Ok(None)
             } else {
                 Err(Memory)

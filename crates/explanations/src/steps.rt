@@ -1,12 +1,14 @@
 //! The steps of a proof, each with its rule and how many of its conditions hold.
 
-ghost use Rattle.std.specs.Prelude.{◌≡◌, IfOk, map};
-ghost use Rattle.explanations.specs.Explained.{name_of, named_in};
+ghost use Rattle.std.specs.Prelude.{◌≡◌, IfOk, IfSome, length, map, slice_get};
+ghost use Rattle.explanations.specs.Explained.{count_in, name_of, named_in};
 
 use crate::sources::Sources;
-use formula_words::sum;
+use formula_words::{Vocabulary, sum};
 use open_conditions::{Condition, Undecided};
 use proof_reports::StepReport;
+use source_lines::Lines;
+use source_places::StepPlaces;
 use st_memory::Memory;
 use st_tokens::Tokens;
 use std::alloc::Global;
@@ -68,13 +70,23 @@ fn kind(goal: &Goal) -> &'static str {
     }
 }
 
-impl Sources<'_> {
+/// The steps of a proof, with what is told of each.
+#[derive(Clone, Copy)]
+pub(crate) struct Steps<'a> {
+    pub text: &'a [u8],
+    pub lines: &'a Lines<'a>,
+    pub places: &'a [StepPlaces],
+    pub words: &'a Vocabulary,
+    pub steps: &'a [Step],
+}
+
+impl Steps<'_> {
     /// What a rule is called: the word behind `by` where that names one.
     fn rule(&self, alloc: Global, number: usize, goal: &Goal) -> Result<String, Memory> {
-        let text = match self.places.steps.get(number) {
+        let text = match self.places.get(number) {
             Some(places) => {
                 let whole = places.whole.from as usize..places.whole.to as usize;
-                rule_word(self.texts.proof.get(whole).unwrap_or(&[]))
+                rule_word(self.text.get(whole).unwrap_or(&[]))
             }
             None => b"".as_slice(),
         };
@@ -91,7 +103,7 @@ impl Sources<'_> {
     fn using(&self, alloc: Global, step: &Step) -> Result<Vec<String>, Memory> {
         let mut out = Vec::new(alloc);
         for cited in &step.cited {
-            if let Some(other) = self.posed.script.steps.get(*cited as usize) {
+            if let Some(other) = self.steps.get(*cited as usize) {
                 out.push(other.name.clone()?)?;
             }
         }
@@ -107,8 +119,8 @@ impl Sources<'_> {
     }
 
     fn step_line(&self, number: usize) -> u64 {
-        match self.places.steps.get(number) {
-            Some(places) => self.proof.position(places.whole.from).line as u64,
+        match self.places.get(number) {
+            Some(places) => self.lines.position(places.whole.from).line as u64,
             None => 0,
         }
     }
@@ -121,7 +133,8 @@ impl Sources<'_> {
         conditions: u64,
         failing: u64,
     ) -> Result<StepReport, Memory>
-        ensures { IfOk result (λ r. named_in r ≡ name_of step.now) }
+        ensures name { IfOk result (λ r. named_in r ≡ name_of step.now) }
+        ensures count { IfOk result (λ r. count_in r ≡ conditions) }
     {
         let verdict = if failing == 0 { "proved" } else { "not proved" };
         Ok(StepReport {
@@ -136,38 +149,57 @@ impl Sources<'_> {
             verdict: String::from_str(alloc, verdict)?,
         })
     }
+}
 
+/// The number at a place, 0 where there is none.
+fn at(counts: &[u64], place: usize) -> u64
+    ensures { IfSome (slice_get counts.now place) (λ n. result ≡ n) }
+{
+    match counts.get(place) {
+        Some(count) => *count,
+        None => 0,
+    }
+}
+
+/// The steps, with how many conditions each has, and how many of them are left.
+pub(crate) fn step_reports(
+    alloc: Global,
+    told: &Steps<'_>,
+    all: &[u64],
+    left: &[u64],
+) -> Result<Vec<StepReport>, Memory>
+    ensures names { IfOk result (λ v. map named_in v.items ≡ map name_of told.now.steps.now) }
+
+    // Each step is said to have as many as it has, where all their numbers are given.
+    ensures counts { IfOk result (λ v. length all.now ≡ length told.now.steps.now → map count_in v.items ≡ all.now) }
+{
+    let mut out = Vec::new(alloc);
+    for (number, step) in told.steps.iter().enumerate() {
+        let conditions = at(all, number);
+        let failing = at(left, number);
+        out.push(told.step_report(alloc, number, step, conditions, failing)?)?;
+    }
+    Ok(out)
+}
+
+impl Sources<'_> {
     /// All steps, with these conditions open.
-    pub(crate) fn step_reports(
+    pub(crate) fn steps_with(
         &self,
         alloc: Global,
         open: &[Undecided],
     ) -> Result<Vec<StepReport>, Memory>
         ensures { IfOk result (λ v. map named_in v.items ≡ map name_of self.now.posed.now.script.steps.items) }
     {
-        let steps = &self.posed.script.steps;
-        let all = counts(alloc, steps.len(), &self.posed.conditions)?;
-        let left = failing(alloc, steps.len(), &self.posed.conditions, open)?;
-        reports(alloc, self, steps, &all, &left)
+        let told = Steps {
+            text: self.texts.proof,
+            lines: self.proof,
+            places: &self.places.steps,
+            words: self.words,
+            steps: &self.posed.script.steps,
+        };
+        let all = counts(alloc, told.steps.len(), &self.posed.conditions)?;
+        let left = failing(alloc, told.steps.len(), &self.posed.conditions, open)?;
+        step_reports(alloc, &told, &all, &left)
     }
-}
-
-/// The steps, with how many conditions each has, and how many of them are left.
-fn reports(
-    alloc: Global,
-    sources: &Sources<'_>,
-    steps: &[Step],
-    all: &[u64],
-    left: &[u64],
-) -> Result<Vec<StepReport>, Memory>
-    ensures { IfOk result (λ v. map named_in v.items ≡ map name_of steps.now) }
-{
-    let mut out = Vec::new(alloc);
-    for step in steps {
-        let number = out.len();
-        let conditions = all.get(number).copied().unwrap_or(0);
-        let failing = left.get(number).copied().unwrap_or(0);
-        out.push(sources.step_report(alloc, number, step, conditions, failing)?)?;
-    }
-    Ok(out)
 }

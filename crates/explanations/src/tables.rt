@@ -28,7 +28,8 @@ impl<'a> Passage<'a> {
     }
 }
 
-fn place_of(state: &Picture, component: u32) -> Option<Alternative> {
+/// What a component is at in a state, if it runs.
+pub(crate) fn place_of(state: &Picture, component: u32) -> Option<Alternative> {
     for (listed, place) in &state.control {
         if *listed == component {
             return Some(*place);

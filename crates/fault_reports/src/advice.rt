@@ -15,6 +15,8 @@ const COMMENT: &str = "a comment begins with `%`";
 
 const AT_LEAST: &str = "at least is `>=`";
 
+const AT_MOST: &str = "at most is `<=`";
+
 const IMPLIES: &str = "implies is `->`";
 
 const NO_JUMPS: &str = "there are no jumps";
@@ -24,9 +26,10 @@ const NO_QUANTIFIERS: &str = "there are no quantifiers";
 const NO_DIVISION: &str = "there is no division: the language is linear";
 
 /// What stands before a token at which a text breaks off, the token, and the help.
-const PAIRS: [(&str, &str, &str); 13] = [
+const PAIRS: [(&str, &str, &str); 14] = [
     ("=", "=", "equality is `=`, one sign"),
-    ("=", ">", IMPLIES),
+    ("=", ">", "implies is `->`, and at least is `>=`"),
+    ("=", "<", AT_MOST),
     ("<", ">", "unequal is `!=`"),
     (
         "<",
@@ -49,8 +52,12 @@ const PAIRS: [(&str, &str, &str); 13] = [
 ];
 
 /// Tokens at which a text breaks off, whatever stands before them, and the help.
-const WORDS: [(&str, &str); 18] = [
+const WORDS: [(&str, &str); 19] = [
     ("and", AND),
+    (
+        "or",
+        "or is `\\/`; `or` stands between the branches of a selection",
+    ),
     ("not", NOT),
     ("mod", NO_DIVISION),
     ("div", NO_DIVISION),
@@ -139,7 +146,7 @@ const BYTES: [(&str, &str); 26] = [
     ("\\", "and is `/\\`, or is `\\/`"),
     ("^", "there are no powers: the language is linear"),
     ("\u{2265}", AT_LEAST),
-    ("\u{2264}", "at most is `<=`"),
+    ("\u{2264}", AT_MOST),
     ("\u{2260}", "unequal is `!=`"),
     ("\u{2227}", AND),
     ("\u{2228}", OR),

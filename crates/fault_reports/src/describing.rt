@@ -4,8 +4,9 @@ ghost use Rattle.std.specs.Prelude.{◌≡◌, IfOk, Some};
 ghost use Rattle.fault_reports.specs.Told.{first_spot};
 
 use crate::advice::help_for_bytes;
+use crate::comments::{NO_REMAINDER, remainder_before, remainder_in_sum};
 use crate::lemmas::{declared, is_boolean, labelled, steps};
-use crate::meant::help_for_name;
+use crate::meant::{COMPARED, help_for_name};
 use crate::names::{labels_like, nearest};
 use crate::refusal::{Kind, Refusal};
 use crate::source::{Source, broken_at, word_of};
@@ -85,6 +86,20 @@ fn line_before(
     Ok(())
 }
 
+/// A `%` that was meant for a remainder.
+fn remainder(
+    alloc: Global,
+    setting: &Setting,
+    span: Span,
+    fault: &mut Fault,
+) -> Result<(), Memory> {
+    let source = setting.source;
+    fault
+        .spots
+        .push(source.spot(alloc, span, "a comment begins here")?)?;
+    helped(alloc, fault, NO_REMAINDER)
+}
+
 fn syntax(
     alloc: Global,
     setting: &Setting,
@@ -95,6 +110,9 @@ fn syntax(
     let words = syntax_words(alloc, &setting.reader, setting.source, before, place)?;
     fault.sentence = words.sentence;
     fault.expected = words.expected;
+    if let Some(span) = remainder_before(setting.source, place) {
+        return remainder(alloc, setting, span, fault);
+    }
     line_before(alloc, setting, place, fault)?;
     match words.help {
         Some(help) => helped(alloc, fault, &help),
@@ -224,6 +242,24 @@ fn twice(alloc: Global, setting: &Setting, place: u64, fault: &mut Fault) -> Res
     Ok(())
 }
 
+/// The help for a number that is compared with nothing.
+fn no_comparison(
+    alloc: Global,
+    setting: &Setting,
+    place: u64,
+    fault: &mut Fault,
+) -> Result<(), Memory> {
+    let source = setting.source;
+    if let Some(span) = remainder_in_sum(source, place) {
+        return remainder(alloc, setting, span, fault);
+    }
+    if source.word(source.index_at(place).saturating_add(1)) == ":=" {
+        return helped(alloc, fault, COMPARED);
+    }
+    let help = format!(in alloc; "write a comparison, as `{} = 1`", source.word_at(place))?;
+    helped(alloc, fault, &help)
+}
+
 /// What a variable of the wrong type is, and what is wanted.
 fn wrong_variable(
     alloc: Global,
@@ -251,8 +287,7 @@ fn wrong_variable(
             fault.sentence = format!(in alloc;
                 "`{word}` is a number, and a truth value is wanted"
             )?;
-            let help = format!(in alloc; "write a comparison, as `{word} = 1`")?;
-            helped(alloc, fault, &help)
+            no_comparison(alloc, setting, place, fault)
         }
         None => wrong_list(alloc, setting, place, fault),
     }

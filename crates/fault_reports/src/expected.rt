@@ -93,11 +93,11 @@ struct Ahead {
     operator: bool,
 }
 
-/// Whether the text before a place goes on with this word.
+/// Whether the text before a place goes on with this word, which a line feed parts from it, as a comment may stand there.
 fn goes_on(alloc: Global, reader: &Reader, before: &[u8], word: &str) -> Result<bool, Memory> {
     let mut text = Vec::new(alloc);
     text.extend_from_slice(before)?;
-    text.extend_from_slice(b" ".as_slice())?;
+    text.extend_from_slice(b"\n".as_slice())?;
     text.extend_from_slice(word.as_bytes())?;
     text.extend_from_slice(b"\n".as_slice())?;
     let place = (before.len() as u64).saturating_add(1);

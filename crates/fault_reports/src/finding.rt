@@ -40,9 +40,14 @@ fn is_later(faults: &[Fault], place: u64) -> bool {
     }
 }
 
-/// Whether a response is `by find` at a place, which is no fault where a proof is looked for.
-fn asks_for_chain(source: &Source, place: u64) -> bool {
-    source.word_at(place) == "by" && source.word(source.index_at(place).saturating_add(1)) == "find"
+/// Whether a step is `by find` at a place, which is no fault where a proof is looked for: of a response the reader stops at `by`, of a
+/// waiting-for at `find`.
+fn is_by_find(source: &Source, place: u64) -> bool {
+    match source.word_at(place) {
+        "by" => source.word(source.index_at(place).saturating_add(1)) == "find",
+        "find" => source.word_before(place, 1) == "by",
+        _ => false,
+    }
 }
 
 /// The bytes before a place.
@@ -74,7 +79,7 @@ fn with_further(
             break;
         };
         let there = unmended(whole, &text, found);
-        if !is_later(&out, there.place) || asks_for_chain(source, there.place) {
+        if !is_later(&out, there.place) || is_by_find(source, there.place) {
             break;
         }
         out.push(described(alloc, setting, before(&text, found.place), there)?)?;

@@ -4,9 +4,13 @@
 
 mod accepted;
 mod advice;
+mod asking;
+mod claims;
+mod comments;
 mod describing;
 mod expected;
 mod finding;
+mod goals;
 mod lemmas;
 mod meant;
 mod mending;
@@ -23,5 +27,6 @@ mod units;
 
 pub use accepted::warnings;
 pub use finding::{faults_of_program, faults_of_proof, faults_of_schedule};
+pub use goals::{goals_refused, uncited};
 pub use proof_reports::{Fault, Severity};
 pub use source::TextFile;

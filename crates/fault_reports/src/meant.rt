@@ -12,6 +12,12 @@ const GIVEN_BACK: &str = "a semaphore is given back by `release s`";
 
 const DECLARED: &str = "a variable is declared `local x: integer where x = 0;`";
 
+/// What is said of `:=` where a comparison is wanted.
+pub(crate) const COMPARED: &str = "`:=` assigns: a comparison is `=`";
+
+const NO_RANGES: &str =
+    "there are no ranges: `where` bounds a variable at the start, and an invariant says what holds later";
+
 const EVENTUALLY: &str = "eventually is claimed by `p leads q within N`";
 
 const BY_FIND: &str =
@@ -23,7 +29,7 @@ pub(crate) fn help_for_name(before: &str, name: &str) -> Option<&'static str> {
         (_, "not") => Some("not is `~`"),
         ("leads", "to") => Some("it is `leads`, without `to`"),
         ("by", "find") => Some(
-            "`by find` is for responses: `milkhour find` proves an invariance that has no `by`",
+            "`by find` is for `milkhour find`, of responses and waiting-fors; an invariance has no `by` there",
         ),
         _ => None,
     }
@@ -79,13 +85,30 @@ fn instead_of_colons(words: Around) -> Option<&'static str> {
 
 /// Where a name began a statement.
 fn instead_of_assignment(words: Around) -> Option<&'static str> {
-    if words.found != "(" {
-        return None;
+    match (words.found, words.before) {
+        ("+" | "-", _) => Some("a variable is raised by `x := x + 1`"),
+        ("(", "P" | "acquire" | "down" | "lock") => Some(TAKEN),
+        ("(", "V" | "signal" | "unlock" | "up") => Some(GIVEN_BACK),
+        ("(", _) => Some(NO_CALLS),
+        _ => None,
     }
-    match words.before {
-        "P" | "acquire" | "down" | "lock" => Some(TAKEN),
-        "V" | "signal" | "unlock" | "up" => Some(GIVEN_BACK),
-        _ => Some(NO_CALLS),
+}
+
+fn begins_with_digit(word: &str) -> bool {
+    match word.as_bytes().first() {
+        Some(first) => first.is_ascii_digit(),
+        None => false,
+    }
+}
+
+/// What is written between two statements or declarations.
+fn instead_of_semicolon(words: Around) -> Option<&'static str> {
+    match (words.before, words.found) {
+        (_, "(") => Some(NO_CALLS),
+        ("integer" | "boolean", ":=") => None,
+        (_, ":=") => Some(COMPARED),
+        ("integer", found) if begins_with_digit(found) => Some(NO_RANGES),
+        _ => None,
     }
 }
 
@@ -110,8 +133,8 @@ fn in_program(words: Around, wanted: &[String]) -> Option<&'static str> {
         instead_of_statement(words)
     } else if wants(wanted, "`local`") && matches!(words.found, "integer" | "boolean") {
         Some(DECLARED)
-    } else if wants(wanted, "`;`") && words.found == "(" {
-        Some(NO_CALLS)
+    } else if wants(wanted, "`;`") {
+        instead_of_semicolon(words)
     } else {
         None
     }
@@ -154,6 +177,13 @@ fn in_proof(words: Around, wanted: &[String]) -> Option<&'static str> {
     }
 }
 
+fn in_schedule(words: Around) -> Option<&'static str> {
+    match words.found {
+        ":=" => Some("a value is given by `=`"),
+        _ => None,
+    }
+}
+
 /// The help for what is found where something else is wanted.
 pub(crate) fn help_instead(
     reader: &Reader,
@@ -165,6 +195,6 @@ pub(crate) fn help_instead(
     match reader {
         Reader::Program => in_program(words, wanted),
         Reader::Proof(_) => in_proof(words, wanted),
-        Reader::Schedule(_) => None,
+        Reader::Schedule(_) => in_schedule(words),
     }
 }

@@ -124,4 +124,10 @@ impl<'a> Source<'a> {
         let from = self.file.text.len().min(place as usize);
         self.file.text.split_at(from).1
     }
+    /// The bytes of a stretch.
+    pub(crate) fn stretch(&self, span: Span) -> &'a [u8] {
+        let rest = self.rest(span.from);
+        let length = span.to.saturating_sub(span.from) as usize;
+        rest.split_at(rest.len().min(length)).0
+    }
 }

@@ -55,8 +55,21 @@ fn sentence(alloc: Global, found: &str, wanted: &[String]) -> Result<String, Mem
     Ok(format!(in alloc; "expected {listed}, found {found}")?)
 }
 
+/// What is said of a text without tokens.
+fn empty(source: &Source) -> &'static str {
+    let text = source.file.text;
+    if text.contains(&b'\r') && !text.contains(&b'\n') {
+        "its lines end with carriage returns alone, so its comment goes on to the end of the text"
+    } else {
+        "the text is empty"
+    }
+}
+
 /// Whether the two texts may have been exchanged.
 fn exchanged(reader: &Reader, source: &Source, place: u64) -> Option<&'static str> {
+    if source.tokens.is_empty() {
+        return Some(empty(source));
+    }
     if source.index_at(place) != 0 {
         let first = matches!(source.word(1), "::");
         return match reader {
@@ -67,15 +80,18 @@ fn exchanged(reader: &Reader, source: &Source, place: u64) -> Option<&'static st
         };
     }
     match (reader, source.word(0)) {
-        (_, "") => Some("the text is empty"),
         (Reader::Program, "invariant" | "waiting" | "response") => Some(
             "this looks like a proof: the words are program, then proof",
         ),
         (Reader::Proof(_), "in" | "local" | "out") => Some(
             "this looks like a program: the words are program, then proof",
         ),
+        (Reader::Proof(_), "version") => Some(
+            "this looks like certificates: the words are program, proof, certificates",
+        ),
         (Reader::Proof(_), _) => match source.word(1) {
             "::" => Some("this looks like a program: the words are program, then proof"),
+            "=" => Some("this looks like a schedule: the words are program, proof, schedule"),
             _ => None,
         },
         _ => None,
@@ -123,6 +139,9 @@ fn separated(
 ) -> Option<&'static str> {
     if wants(wanted, "`within`") {
         return Some("a response has a bound: `within N`");
+    }
+    if wants(wanted, "`then`") {
+        return Some("a choice is `if .. then .. else .. fi`");
     }
     if !wants(wanted, "`;`") {
         return None;

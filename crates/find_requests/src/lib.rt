@@ -4,7 +4,9 @@
 mod outline;
 mod reading;
 mod responses;
+mod waits;
 
 pub use outline::{Asks, Extent, step_extents};
 pub use reading::{Request, Wanted, read_request, script_around};
 pub use responses::Leading;
+pub use waits::Staying;

@@ -15,6 +15,8 @@ pub enum Asks {
     Invariance,
     /// That a chain be found for its response, which is `by find`.
     Chain,
+    /// That levels be found for its waiting-for, which is `by find`, or has neither `by` nor `using`.
+    Levels,
 }
 
 /// Where a step stands in its text: byte offsets from 0.
@@ -45,6 +47,8 @@ struct Seen {
     rule: bool,
     behind_by: bool,
     find: bool,
+    /// Whether `by find` were the last two tokens.
+    ends_by_find: bool,
 }
 
 impl Seen {
@@ -56,9 +60,9 @@ impl Seen {
             self.depth = self.depth.saturating_sub(1);
         } else if is(sign, Mark::By) || is(sign, Mark::Using) {
             self.rule = true;
-        } else if self.behind_by && text == b"find".as_slice() {
-            self.find = true;
         }
+        self.ends_by_find = self.behind_by && text == b"find".as_slice();
+        self.find = self.find || self.ends_by_find;
         self.behind_by = is(sign, Mark::By);
     }
 
@@ -68,6 +72,8 @@ impl Seen {
             Asks::Invariance
         } else if is(claim, Mark::Response) && self.find {
             Asks::Chain
+        } else if is(claim, Mark::Waiting) && (!self.rule || self.ends_by_find) {
+            Asks::Levels
         } else {
             Asks::Nothing
         }
@@ -75,7 +81,7 @@ impl Seen {
 }
 
 /// The byte behind a token.
-fn end_of(token: &Token<'_>) -> usize {
+pub(crate) fn end_of(token: &Token<'_>) -> usize {
     (token.start as usize).saturating_add(token.text.len())
 }
 
@@ -89,6 +95,7 @@ fn next_step<'a>(tokens: &mut Tokens<'a>, most: usize) -> Option<Extent<'a>> {
         rule: false,
         behind_by: false,
         find: false,
+        ends_by_find: false,
     };
     let mut body = end_of(&first);
     for _ in 0..most {

@@ -22,8 +22,8 @@ pub struct Leading {
     pub rule: usize,
 }
 
-/// The name of the response.
-fn own_name(alloc: Global, tokens: &mut Tokens<'_>) -> Result<String, ScriptFault> {
+/// The name of the step.
+pub(crate) fn own_name(alloc: Global, tokens: &mut Tokens<'_>) -> Result<String, ScriptFault> {
     let word = name(tokens)?;
     match text_of(word.text) {
         Some(text) => Ok(String::from_str(alloc, text)?),
@@ -45,7 +45,7 @@ fn most_rounds(
 }
 
 /// The word that stands for a rule; another name is a fault of the grammar.
-fn expect_find(tokens: &mut Tokens<'_>) -> Result<(), ScriptFault> {
+pub(crate) fn expect_find(tokens: &mut Tokens<'_>) -> Result<(), ScriptFault> {
     let word = name(tokens)?;
     if word.text == b"find".as_slice() {
         Ok(())

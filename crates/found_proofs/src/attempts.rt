@@ -1,6 +1,8 @@
 //! The attempts at a proof, in turn: cubes alone, which find most, mostly with the shortest text; with the linear equations of the program,
 //! if it has some, where cubes alone come to no end; and without equations in front of arrows, where the joint conditions of a text are too
-//! wide. Where a program has equations, cubes alone may go on for long to no end, so there the first two are made with few queries before.
+//! wide. Where a program has equations, either of the first two may go on for long to no end while the other needs little, so there both are
+//! made with few queries before, and then with more; and cubes alone then without states to which runs come, which lead to a proof with
+//! counters that grow where these lead past it.
 
 /// What an attempt takes.
 #[derive(Clone, Copy, Debug, PartialEq, Eq)]
@@ -9,35 +11,54 @@ pub struct Attempt {
     pub(crate) equations: bool,
     /// No equation stands in front of an arrow.
     pub(crate) plain: bool,
+    /// States to which runs come are looked for first.
+    pub(crate) explores: bool,
     /// It is made only where the program has equations, and asks at most so many queries.
     pub(crate) early: Option<u64>,
 }
 
 /// The attempts, in the order in which they are made.
-pub const ATTEMPTS: [Attempt; 5] = [
+pub const ATTEMPTS: [Attempt; 7] = [
     Attempt {
         equations: false,
         plain: false,
-        early: Some(8_000),
+        explores: true,
+        early: Some(1_450),
     },
     Attempt {
         equations: true,
         plain: false,
+        explores: true,
+        early: Some(460),
+    },
+    Attempt {
+        equations: false,
+        plain: false,
+        explores: false,
+        early: Some(6_000),
+    },
+    Attempt {
+        equations: true,
+        plain: false,
+        explores: true,
         early: Some(24_000),
     },
     Attempt {
         equations: false,
         plain: false,
+        explores: true,
         early: None,
     },
     Attempt {
         equations: true,
         plain: false,
+        explores: true,
         early: None,
     },
     Attempt {
         equations: false,
         plain: true,
+        explores: true,
         early: None,
     },
 ];

@@ -10,11 +10,11 @@ use crate::steps::joint_claim;
 use crate::subject::Subject;
 use control_cubes::{CubeFault, negation};
 use invariant_search::{Allowed, Answer, Entry, Search};
-use response_search::Chain;
 use st_form::{Form, SharedForm};
 use st_memory::Memory;
 use std::alloc::Global;
 use transition_system::Fts;
+use waiting_search::Levels;
 
 /// How a goal holds: whether it follows from lemmas in each state, or is kept by each step with them; and the lemmas.
 #[derive(Drop)]
@@ -36,12 +36,18 @@ pub(crate) struct Needs {
 pub(crate) struct Ground<'a> {
     pub(crate) search: Search<'a>,
     pub(crate) candidates: Vec<Candidate>,
-    numbers: Vec<u32>,
-    system: &'a Fts,
+    pub(crate) numbers: Vec<u32>,
+    pub(crate) system: &'a Fts,
+    /// Of each part of a chain the lemmas because of which it was kept when that was asked last.
+    pub(crate) cores: Vec<Option<Vec<u32>>>,
 }
 
 /// The numbers at the places that lemmas with these numbers have.
-fn places_of(alloc: Global, numbers: &[u32], lemmas: &[u32]) -> Result<Vec<usize>, Memory> {
+pub(crate) fn places_of(
+    alloc: Global,
+    numbers: &[u32],
+    lemmas: &[u32],
+) -> Result<Vec<usize>, Memory> {
     let mut places = Vec::with_capacity(alloc, lemmas.len())?;
     for lemma in lemmas {
         if let Some(place) = numbers.iter().position(|number| number == lemma) {
@@ -206,11 +212,12 @@ impl<'a> Ground<'a> {
             candidates,
             numbers,
             system: &subject.system,
+            cores: Vec::new(alloc),
         })
     }
 
     /// The marks of the search's lemmas at the numbers of candidates that are marked, but one.
-    fn marks(
+    pub(crate) fn marks(
         &self,
         alloc: Global,
         allowed: &[bool],
@@ -245,15 +252,15 @@ impl<'a> Ground<'a> {
         }
     }
 
-    /// Which of the candidates that are allowed a chain uses.
-    fn show_chain(
+    /// Which of the candidates that are allowed the levels of a waiting-for use.
+    fn show_levels(
         &mut self,
         alloc: Global,
-        chain: &Chain,
+        levels: &Levels,
         allowed: &[bool],
     ) -> Result<Option<Shown>, CubeFault> {
         let marks = self.marks(alloc, allowed, None)?;
-        match chain.kept_by(alloc, &mut self.search, self.system, Allowed::Among(&marks))? {
+        match levels.kept_by(alloc, &mut self.search, Allowed::Among(&marks))? {
             Some(lemmas) => Ok(Some(Shown {
                 by_true: false,
                 uses: places_of(alloc, &self.numbers, &lemmas)?,
@@ -272,6 +279,7 @@ impl<'a> Ground<'a> {
         match claim {
             Claim::Invariance(form) => self.show_invariance(alloc, form, allowed),
             Claim::Response(chain) => self.show_chain(alloc, chain, allowed),
+            Claim::Waiting(levels) => self.show_levels(alloc, levels, allowed),
         }
     }
 

@@ -4,9 +4,11 @@
 //! fails. What is found is checked by who calls: a text by `verify`, a run by `trace`.
 #![tactic(auto)]
 
+mod answering;
 mod answers;
 mod attempts;
 mod candidates;
+mod chain_parts;
 mod chain_rules;
 mod choosing;
 mod claims;
@@ -16,12 +18,14 @@ mod ground;
 mod insertions;
 mod joining;
 mod layers;
+mod level_rules;
 mod naming;
 mod progress;
 mod proving;
 mod responding;
 mod schedules;
 mod shortening;
+mod staying;
 mod steps;
 mod subject;
 mod writing;

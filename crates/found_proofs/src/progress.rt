@@ -7,12 +7,11 @@ use crate::attempts::Attempt;
 use crate::insertions::{Insertion, between, ending, inserted, place_above, starts_line};
 use crate::naming::Naming;
 use crate::proving::{Proof, Task, Tried, prove};
-use crate::responding::{Responded, respond};
 use crate::schedules::schedule_text;
 use crate::steps::Citable;
 use crate::subject::Subject;
 use control_cubes::CubeFault;
-use find_requests::{Extent, Leading, Request, Wanted};
+use find_requests::{Extent, Request, Wanted};
 use invariant_search::{Observer, Run, Why};
 use st_form::Form;
 use st_memory::Memory;
@@ -32,20 +31,20 @@ struct Waiting<'t> {
 /// How far a text is done.
 #[derive(Drop)]
 pub(crate) struct Progress<'s, 't> {
-    subject: &'s Subject,
-    text: &'t [u8],
-    attempt: Attempt,
+    pub(crate) subject: &'s Subject,
+    pub(crate) text: &'t [u8],
+    pub(crate) attempt: Attempt,
     /// How many queries may be asked still.
-    left: u64,
-    known: Vec<Citable>,
+    pub(crate) left: u64,
+    pub(crate) known: Vec<Citable>,
     insertions: Vec<Insertion>,
-    naming: Naming,
+    pub(crate) naming: Naming,
     /// The byte behind the last step that is done.
     behind: usize,
     waiting: Waiting<'t>,
 }
 
-fn unfound(why: Why) -> Unfound {
+pub(crate) fn unfound(why: Why) -> Unfound {
     match why {
         Why::Budget => Unfound::Budget,
         Why::Wide => Unfound::Wide,
@@ -251,12 +250,12 @@ impl<'s, 't> Progress<'s, 't> {
         }
     }
 
-    /// Puts the chain of a response in the place of what asks for it.
-    fn take_chain(
+    /// Puts a found rule in the place of what stands in a step from a byte on.
+    pub(crate) fn take_rule(
         &mut self,
         alloc: Global,
         extent: Extent<'t>,
-        leading: &Leading,
+        from: usize,
         rule: Vec<u8>,
         proof: Proof,
     ) -> Result<(), Memory> {
@@ -269,7 +268,7 @@ impl<'s, 't> Progress<'s, 't> {
             push_text(&mut text, &end)?;
         }
         self.insertions.push(Insertion {
-            from: leading.rule,
+            from,
             to: extent.body,
             text,
         })?;
@@ -277,53 +276,23 @@ impl<'s, 't> Progress<'s, 't> {
         Ok(())
     }
 
-    /// The answer that no chain is found for a response, with a state in which nothing helps, if one was shown.
-    fn chainless(
+    /// The answer that nothing is known of the goal with a name that is asked for next.
+    pub(crate) fn unknown(
         &self,
         alloc: Global,
-        leading: &Leading,
+        name: &str,
+        why: Unfound,
         left: Option<Vec<u8>>,
     ) -> Result<Found, Memory> {
         Ok(Found::NotFound(Missing {
-            goal: leading.name.clone()?,
-            why: Unfound::Chain,
+            goal: String::from_str(alloc, name)?,
+            why,
             left,
             so_far: self.text_to(alloc, self.behind)?,
         }))
     }
 
-    /// Looks for the chain of a response; an answer where none is found. Queries count as for goals.
-    fn answer(
-        &mut self,
-        alloc: Global,
-        extent: Extent<'t>,
-        leading: &Leading,
-    ) -> Result<Option<Found>, Memory> {
-        let task = Task {
-            subject: self.subject,
-            attempt: self.attempt,
-            known: &self.known,
-            budget: self.left,
-        };
-        let response = match respond(alloc, task, leading, &mut self.naming) {
-            Ok(response) => response,
-            Err(CubeFault::TooLarge) => {
-                self.left = 0;
-                return Ok(Some(self.chainless(alloc, leading, None)?));
-            }
-            Err(CubeFault::Memory) => return Err(Memory),
-        };
-        self.left = self.left.saturating_sub(response.queries);
-        match response.responded {
-            Responded::Chained(rule, proof) => {
-                self.take_chain(alloc, extent, leading, rule, proof)?;
-                Ok(None)
-            }
-            Responded::Unfound(left) => Ok(Some(self.chainless(alloc, leading, left)?)),
-        }
-    }
-
-    /// Goes over a step that has its own place in the script, or asks for a chain.
+    /// Goes over a step that has its own place in the script, or asks for a chain or for levels.
     fn pass<O: Observer>(
         &mut self,
         alloc: Global,
@@ -347,7 +316,13 @@ impl<'s, 't> Progress<'s, 't> {
                 if let Some(answer) = self.settle(alloc, observer)? {
                     return Ok(Some(answer));
                 }
-                self.answer(alloc, extent, leading)
+                self.chain(alloc, extent, leading)
+            }
+            (Wanted::Levels(staying), _) => {
+                if let Some(answer) = self.settle(alloc, observer)? {
+                    return Ok(Some(answer));
+                }
+                self.levels(alloc, extent, staying, observer)
             }
             (Wanted::Nothing | Wanted::Proof, None) => Ok(None),
         }
@@ -358,7 +333,7 @@ impl<'s, 't> Progress<'s, 't> {
 fn is_scripted(wanted: &Wanted) -> bool {
     match wanted {
         Wanted::Nothing | Wanted::Proof => true,
-        Wanted::Chain(_) => false,
+        Wanted::Chain(_) | Wanted::Levels(_) => false,
     }
 }
 
@@ -369,6 +344,7 @@ fn first_goal(alloc: Global, request: &Request<'_>) -> Result<String, Memory> {
         match wanted {
             Wanted::Nothing => next = next.saturating_add(1),
             Wanted::Chain(leading) => return Ok(leading.name.clone()?),
+            Wanted::Levels(staying) => return Ok(staying.name.clone()?),
             Wanted::Proof => {
                 return match request.script.steps.get(next) {
                     Some(step) => Ok(step.name.clone()?),

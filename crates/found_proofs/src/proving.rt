@@ -20,7 +20,7 @@ use st_memory::Memory;
 use std::alloc::Global;
 
 /// Which part of the queries is kept for the text when lemmas are looked for: one in so many.
-const KEPT: u64 = 8;
+pub(crate) const KEPT: u64 = 8;
 
 /// What came of some goals.
 #[derive(Drop)]
@@ -104,7 +104,7 @@ pub(crate) struct Task<'t> {
 }
 
 /// What is given for a task: the known claims, and equations where the attempt has them.
-fn given_candidates(alloc: Global, task: Task<'_>) -> Result<Vec<Candidate>, Memory> {
+pub(crate) fn given_candidates(alloc: Global, task: Task<'_>) -> Result<Vec<Candidate>, Memory> {
     let mut given = known_candidates(alloc, task.known)?;
     if task.attempt.equations {
         push_equations(alloc, task.subject, &mut given)?;
@@ -113,7 +113,7 @@ fn given_candidates(alloc: Global, task: Task<'_>) -> Result<Vec<Candidate>, Mem
 }
 
 /// Tells a search what it may speak of, and what is given.
-fn prepare(
+pub(crate) fn prepare(
     alloc: Global,
     search: &mut Search<'_>,
     goals: &[Form],
@@ -136,6 +136,9 @@ pub(crate) fn begun<'t>(
     let most = task.budget.saturating_sub(task.budget / KEPT);
     let mut search = task.subject.search(alloc, most)?;
     prepare(alloc, &mut search, goals, &given)?;
+    if task.attempt.explores {
+        search.explore(alloc)?;
+    }
     Ok((search, given))
 }
 

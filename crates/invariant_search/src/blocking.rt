@@ -78,8 +78,8 @@ impl Queue {
 }
 
 impl Search<'_> {
-    /// Whether a lemma of the level blocks the cube.
-    fn is_covered(&self, cube: &Cube, level: u32) -> bool {
+    /// Whether a lemma of the level or above has the cube in its own.
+    pub fn is_covered(&self, cube: &Cube, level: u32) -> bool {
         for lemma in &self.lemmas {
             if lemma.stands
                 && lemma.level >= level
@@ -90,6 +90,24 @@ impl Search<'_> {
             }
         }
         false
+    }
+
+    /// A run into the first cube through the one with a number, where a state to which runs come is in it.
+    fn run_into(
+        &self,
+        alloc: Global,
+        queue: &Queue,
+        number: u32,
+        cube: &Cube,
+    ) -> Result<Option<Blocking>, CubeFault> {
+        match (self.reach.way_into(alloc, cube)?, self.reach.first()) {
+            (Some(mut steps), Some(first)) => {
+                let mut more = queue.steps_from(alloc, number)?;
+                steps.append(&mut more)?;
+                Ok(Some(Blocking::Run(first.copy(alloc)?, steps)))
+            }
+            _ => Ok(None),
+        }
     }
 
     /// What is known of a cube in whose states a run may begin.
@@ -103,6 +121,9 @@ impl Search<'_> {
         let Some(obligation) = queue.obligations.get(number as usize) else {
             return Ok(None);
         };
+        if let Some(run) = self.run_into(alloc, queue, number, &obligation.cube)? {
+            return Ok(Some(run));
+        }
         match self.solver.begins_in(alloc, &obligation.cube)? {
             Answer::Never(_) => Ok(None),
             Answer::State(state) => {

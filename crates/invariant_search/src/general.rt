@@ -110,8 +110,11 @@ fn enriched(alloc: Global, cube: &Cube, dead: &[PlaceSet]) -> Result<Cube, CubeF
 }
 
 impl Search<'_> {
-    /// Whether a run may begin in the cube.
+    /// Whether a run may begin in the cube, or is known to come to it.
     fn may_begin_in(&mut self, alloc: Global, cube: &Cube) -> Result<bool, CubeFault> {
+        if self.reach.meets(cube) {
+            return Ok(true);
+        }
         let answer = self.solver.begins_in(alloc, cube)?;
         Ok(!matches!(answer, Answer::Never(_)))
     }

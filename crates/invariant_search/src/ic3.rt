@@ -10,7 +10,7 @@ use crate::step::Step;
 use control_cubes::{Cube, CubeFault, State, negation};
 use st_form::{Form, SharedForm};
 use st_memory::Memory;
-use st_program::{Datum, Program, Variable};
+use st_program::{Datum, Variable};
 use std::alloc::Global;
 
 /// There are at most so many levels.
@@ -67,9 +67,8 @@ impl Search<'_> {
     /// The run that begins in a state and goes on by these steps.
     fn run_of(&self, alloc: Global, state: &State, steps: &[u32]) -> Result<Run, Memory> {
         let setting = &self.solver.setting;
-        let program: &Program = setting.program;
         Ok(Run {
-            store: store_of(alloc, &program.variables, state)?,
+            store: store_of(alloc, setting.variables, state)?,
             moves: moves_of(alloc, &setting.steps, steps)?,
         })
     }
@@ -80,6 +79,18 @@ impl Search<'_> {
         forms.push(self.solver.setting.initial.share()?)?;
         forms.push(denied.share()?)?;
         self.solve(alloc, forms, Allowed::From(ALWAYS))
+    }
+
+    /// Whether the goal is false in a state to which runs are known to come.
+    fn within_reach(&self, alloc: Global, goal: &Form) -> Result<Option<Outcome>, CubeFault> {
+        let steps = self.reach.way_out_of(alloc, &self.solver.setting, goal)?;
+        match (steps, self.reach.first()) {
+            (Some(steps), Some(first)) => {
+                let run = self.run_of(alloc, first, &steps)?;
+                Ok(Some(Outcome::Refuted(run)))
+            }
+            _ => Ok(None),
+        }
     }
 
     /// Whether the goal is false in a first state.
@@ -270,6 +281,9 @@ impl Search<'_> {
         denied: &SharedForm,
         observer: &O,
     ) -> Result<Outcome, CubeFault> {
+        if let Some(outcome) = self.within_reach(alloc, goal)? {
+            return Ok(outcome);
+        }
         if let Some(outcome) = self.before_all(alloc, denied)? {
             return Ok(outcome);
         }

@@ -30,8 +30,8 @@ const MOST_PROBLEMS: u32 = 4_000;
 /// The hint of the formula that holds at the beginning.
 pub(crate) const INITIAL_HINT: u32 = 2;
 
-/// The hint of the first mode.
-pub(crate) const FIRST_HINT: u32 = 8;
+/// The hint of the first mode; each other has the next one.
+pub const FIRST_HINT: u32 = 8;
 
 /// A number as one of 32 bits, or the largest of these.
 pub(crate) fn narrowed(number: usize) -> u32 {

@@ -1,11 +1,13 @@
-//! The search over one program.
+//! The search over one machine, mostly a program.
 
 use crate::answer::{Answer, Counts, Entry, Outcome};
 use crate::lemma::{ALWAYS, Allowed, Lemma};
+use crate::machine::Machine;
 use crate::moving::behind_step;
 use crate::observing::Observer;
 use crate::pool::Pool;
 use crate::prover::{FIRST_HINT, narrowed};
+use crate::reached::Reach;
 use crate::setting::Setting;
 use crate::solver::Solver;
 use crate::step::Step;
@@ -25,13 +27,14 @@ pub struct Search<'a> {
     pub(crate) pool: Pool,
     pub(crate) level: u32,
     pub(crate) obligations: u64,
+    pub(crate) reach: Reach,
 }
 
-/// The rows of a system: those of its beginning and of its modes.
-fn pool_of(alloc: Global, system: &Fts, steps: &[Step<'_>]) -> Result<Pool, CubeFault> {
+/// The rows of a machine: those of its beginning and of its modes.
+fn pool_of(alloc: Global, machine: &Machine<'_>) -> Result<Pool, CubeFault> {
     let mut pool = Pool::new(alloc);
-    pool.push_form(alloc, &system.initial)?;
-    for step in steps {
+    pool.push_form(alloc, machine.initial)?;
+    for step in &machine.steps {
         pool.push_step(alloc, step)?;
     }
     pool.push_comparisons(alloc)?;
@@ -48,14 +51,21 @@ impl<'a> Search<'a> {
         components: &'a Components,
         budget: u64,
     ) -> Result<Search<'a>, CubeFault> {
-        let setting = Setting::new(alloc, program, system, components)?;
-        let pool = pool_of(alloc, system, &setting.steps)?;
+        let machine = Machine::of_program(alloc, program, system, components)?;
+        Search::over(alloc, machine, budget)
+    }
+
+    /// The same over a machine.
+    pub fn over(alloc: Global, machine: Machine<'a>, budget: u64) -> Result<Search<'a>, CubeFault> {
+        let pool = pool_of(alloc, &machine)?;
+        let setting = Setting::new(alloc, machine)?;
         Ok(Search {
             solver: Solver::new(alloc, setting, budget)?,
             lemmas: Vec::new(alloc),
             pool,
             level: 0,
             obligations: 0,
+            reach: Reach::new(alloc),
         })
     }
 
@@ -87,6 +97,27 @@ impl<'a> Search<'a> {
     /// All lemmas by number.
     pub fn lemmas(&self) -> &[Lemma] {
         self.lemmas.as_slice()
+    }
+
+    /// States to which runs come; none before `explore`, and where no first state is shown.
+    pub fn reach(&self) -> &Reach {
+        &self.reach
+    }
+
+    /// Looks for states to which runs come, where that wasn't done. Then no larger cube that has one is tried, and one may end a search
+    /// with a run.
+    pub fn explore(&mut self, alloc: Global) -> Result<(), CubeFault> {
+        if !self.reach.states().is_empty() {
+            return Ok(());
+        }
+        let initial = vec![in alloc; self.solver.setting.initial.share()?]?;
+        match self
+            .solver
+            .solve(alloc, &[], initial, Allowed::From(ALWAYS))?
+        {
+            Answer::State(first) => Ok(self.reach.begin(alloc, &self.solver.setting, first)?),
+            Answer::Never(_) | Answer::Unknown(_) => Ok(()),
+        }
     }
 
     /// How much was done.

@@ -1,38 +1,24 @@
 //! What is known of a program before anything is searched: its places, its modes, and where its runs begin.
 
+use crate::machine::Machine;
 use crate::prover::INITIAL_HINT;
-use crate::step::{Step, all_steps};
+use crate::step::Step;
 use control_cubes::{CubeFault, Layout, Place, PlaceSet};
 use control_states::Components;
-use st_form::SharedForm;
+use st_form::{SharedForm, Variable};
 use st_memory::Memory;
-use st_program::Program;
 use std::alloc::Global;
-use transition_system::Fts;
 
 /// A program's places, its modes, the places that no chain of steps leads to, where control is at the beginning, and what holds then.
 #[derive(Drop)]
 pub(crate) struct Setting<'a> {
-    pub(crate) program: &'a Program,
+    pub(crate) variables: &'a [Variable],
     pub(crate) components: &'a Components,
     pub(crate) layout: Layout,
     pub(crate) steps: Vec<Step<'a>>,
     pub(crate) dead: Vec<PlaceSet>,
     pub(crate) first: Vec<Place>,
     pub(crate) initial: SharedForm,
-}
-
-/// Where control of each process is at the beginning.
-fn first_places(alloc: Global, layout: &Layout, program: &Program) -> Result<Vec<Place>, Memory> {
-    let mut out = Vec::new(alloc);
-    for process in &program.processes {
-        if let Some(statement) = process.body.first()
-            && let Some(place) = layout.of_location(statement.loc)
-        {
-            out.push(place)?;
-        }
-    }
-    Ok(out)
 }
 
 /// The places that are live at the beginning: the first of each process, and of each child that it isn't active.
@@ -122,26 +108,19 @@ fn dead_places(
 }
 
 impl<'a> Setting<'a> {
-    /// What is known of a program. `TooLarge` where a component has more than 128 places.
-    pub(crate) fn new(
-        alloc: Global,
-        program: &'a Program,
-        system: &'a Fts,
-        components: &'a Components,
-    ) -> Result<Setting<'a>, CubeFault> {
-        let layout = Layout::new(alloc, components)?;
-        let steps = all_steps(alloc, &layout, system)?;
-        let first = first_places(alloc, &layout, program)?;
-        let live = first_live(alloc, components, &layout, &first)?;
-        let dead = dead_places(alloc, &layout, &steps, live)?;
-        let initial = SharedForm::new(alloc, system.initial.copy(alloc)?, INITIAL_HINT)?;
+    /// What is known of a machine.
+    pub(crate) fn new(alloc: Global, machine: Machine<'a>) -> Result<Setting<'a>, CubeFault> {
+        let layout = machine.layout;
+        let live = first_live(alloc, machine.components, &layout, &machine.first)?;
+        let dead = dead_places(alloc, &layout, &machine.steps, live)?;
+        let initial = SharedForm::new(alloc, machine.initial.copy(alloc)?, INITIAL_HINT)?;
         Ok(Setting {
-            program,
-            components,
+            variables: machine.variables,
+            components: machine.components,
             layout,
-            steps,
+            steps: machine.steps,
             dead,
-            first,
+            first: machine.first,
             initial,
         })
     }

@@ -11,7 +11,6 @@ use crate::setting::Setting;
 use control_cubes::{Cube, CubeFault, State};
 use st_form::{Condition, SharedForm};
 use st_memory::Memory;
-use st_program::Program;
 use std::alloc::Global;
 
 /// A program, who answers questions about it, and states and steps that were found.
@@ -28,13 +27,7 @@ impl<'a> Solver<'a> {
         setting: Setting<'a>,
         budget: u64,
     ) -> Result<Solver<'a>, CubeFault> {
-        let program: &'a Program = setting.program;
-        let prover = Prover::new(
-            alloc,
-            setting.components,
-            program.variables.as_slice(),
-            budget,
-        )?;
+        let prover = Prover::new(alloc, setting.components, setting.variables, budget)?;
         Ok(Solver {
             setting,
             prover,

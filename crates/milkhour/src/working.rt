@@ -8,8 +8,9 @@ use crate::listing::list_conditions;
 use crate::listing_moves::{asks_for_moves, trace_moves};
 use crate::streams::Streams;
 use crate::trouble::Trouble;
+use fault_reports::{TextFile, goals_refused};
 use milkhour_run::Question;
-use milkhour_words::{Task, Work};
+use milkhour_words::{Options, Task, Work};
 use std::alloc::Global;
 use std::rt::Runtime;
 use std::thread::Threads;
@@ -61,6 +62,21 @@ fn no_proof(alloc: Global, name: &str) -> Result<Trouble, Trouble> {
     Ok(Trouble::Words(text))
 }
 
+/// Refuses names of goals that are no steps of the proof.
+fn refuse_goals(alloc: Global, given: &Given<'_>, options: &Options<'_>) -> Result<(), Trouble> {
+    let (Some(goals), Some(proof)) = (options.goals, given.texts().proof) else {
+        return Ok(());
+    };
+    let proof = TextFile {
+        name: given.proof_name(),
+        text: proof,
+    };
+    match goals_refused(alloc, proof, goals)? {
+        Some(refusal) => Err(Trouble::Words(refusal)),
+        None => Ok(()),
+    }
+}
+
 /// Does a task, and answers the status.
 pub fn work<R: Runtime + AllocGlobal + Threads + Sync>(
     rt: &R,
@@ -74,6 +90,7 @@ pub fn work<R: Runtime + AllocGlobal + Threads + Sync>(
     if lacks_proof(work.task, &given) {
         return Err(no_proof(rt.alloc(), given.program.name)?);
     }
+    refuse_goals(rt.alloc(), &given, &work.options)?;
     match own_work(rt, streams, work, &mut given)? {
         Some(status) => Ok(status),
         None => answer_question(

@@ -1,8 +1,8 @@
 //! The commands. Help is made of this table, and so can be completions and a man page.
 
 use crate::options::{
-    BUDGET, CHECK, COLOUR, DRAWING, FIRST, FORMAT, FOUND_FORMAT, FROM, JUDGES, LIMIT, ONLY, OUTPUT,
-    OptionRow, SMT, STEP, WORKERS,
+    BUDGET, CHECK, COLOUR, DRAWING, FIRST, FORMAT, FOUND_FORMAT, FROM, GOALS, JUDGES, LIMIT, ONLY,
+    OUTPUT, OptionRow, SMT, STEP, WORKERS,
 };
 
 /// The version of the program. The changelog has its date.
@@ -91,9 +91,11 @@ pub static QUESTIONS: [CommandRow; 5] = [
         name: "verify",
         about: "Search for a proof of each condition, and explain those that have none",
         files: SOURCE,
-        options: &[FIRST, LIMIT, FORMAT, DRAWING, COLOUR, OUTPUT, WORKERS],
+        options: &[
+            FIRST, LIMIT, GOALS, FORMAT, DRAWING, COLOUR, OUTPUT, WORKERS,
+        ],
         usage: "milkhour verify [OPTIONS] PROGRAM [PROOF]",
-        example: "Examples:\n  milkhour verify peterson.spl peterson.proof\n  milkhour verify peterson.spl --first\n  milkhour verify - peterson.proof --format json < peterson.spl",
+        example: "Examples:\n  milkhour verify peterson.spl peterson.proof\n  milkhour verify peterson.spl --first\n  milkhour verify peterson.spl peterson.proof --goals mutex,enter\n  milkhour verify - peterson.proof --format json < peterson.spl",
     },
     CommandRow {
         name: "check",

@@ -64,3 +64,11 @@ pub fn command_meant(word: &str) -> Option<&'static CommandRow> {
     let (_, name) = SYNONYMS.iter().find(|synonym| synonym.0 == word)?;
     command_named(name)
 }
+
+/// The command that stands behind another word, where the first should be.
+pub(crate) fn command_behind(words: &[String]) -> Option<&'static CommandRow> {
+    words
+        .iter()
+        .skip(2)
+        .find_map(|word| command_named(word.as_str()))
+}

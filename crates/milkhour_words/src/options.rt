@@ -87,6 +87,13 @@ pub const DRAWING: OptionRow = OptionRow {
     help: "Show this drawing on the page of --format html, as dot -Tsvg makes it of what draw writes",
 };
 
+pub const GOALS: OptionRow = OptionRow {
+    long: "goals",
+    short: None,
+    value: OptionValue::Word("NAMES"),
+    help: "Warn of each step that these, with commas between, don't need",
+};
+
 pub const ONLY: OptionRow = OptionRow {
     long: "only",
     short: None,

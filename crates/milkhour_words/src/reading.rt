@@ -1,7 +1,7 @@
 //! The reader of words.
 
 use crate::definition::command_line;
-use crate::meant::command_meant;
+use crate::meant::{command_behind, command_meant};
 use crate::request::{Colour, FileNames, Format, Layout, Options, Request, Task, Work};
 use clap::error::ErrorKind;
 use clap::{ArgMatches, Command, Error};
@@ -44,6 +44,7 @@ fn options_of<'a>(matches: &ArgMatches<'a>) -> Options<'a> {
         limit,
         workers: number(matches, "workers", 1).clamp(1, 64),
         budget: number(matches, "budget", 200_000) as u64,
+        goals: matches.get_str("goals"),
         only: matches.get_str("only"),
         smt: matches.get_flag("smt"),
         from: matches.get_str("from"),
@@ -154,23 +155,36 @@ fn first_word(words: &[String]) -> &str {
     }
 }
 
-/// A refusal of the first word that names the command which does what the word means; as it is where it is of anything else.
+/// What is meant by a first word that is no command: what another tool calls so, or the command that stands behind it.
+fn tip(alloc: Global, words: &[String]) -> Result<Option<String>, AllocError> {
+    let word = first_word(words);
+    if word == "version" {
+        return Ok(Some(String::from_str(alloc, "'--version' may be meant")?));
+    }
+    if let Some(row) = command_meant(word) {
+        return Ok(Some(format!(in alloc; "'{}' may be meant: {}", row.name, row.about)?));
+    }
+    match command_behind(words) {
+        Some(row) => Ok(Some(format!(in alloc; "the command comes first: {}", row.usage)?)),
+        None => Ok(None),
+    }
+}
+
+/// A refusal of the first word with a tip, where there is one; as it is where it is of anything else.
 fn advised<'a>(
     alloc: Global,
     line: &mut Command<'a>,
-    word: &str,
+    words: &[String],
     refusal: Error,
 ) -> Result<Error, AllocError> {
     if refusal.kind() != ErrorKind::InvalidSubcommand {
         return Ok(refusal);
     }
-    let Some(row) = command_meant(word) else {
+    let Some(tip) = tip(alloc, words)? else {
         return Ok(refusal);
     };
-    let message = format!(in alloc;
-        "unrecognized subcommand '{word}'\n\n  tip: '{}' may be meant: {}",
-        row.name, row.about
-    )?;
+    let word = first_word(words);
+    let message = format!(in alloc; "unrecognized subcommand '{word}'\n\n  tip: {tip}")?;
     line.error(ErrorKind::InvalidSubcommand, message.as_str())
 }
 
@@ -188,7 +202,7 @@ pub fn read_words<'a>(alloc: Global, words: &'a [String]) -> Result<Request<'a>,
     let mut line = command_line(alloc)?;
     let matches = match line.try_get_matches_from_mut(words) {
         Ok(matches) => matches,
-        Err(refusal) => return Err(advised(alloc, &mut line, first_word(words), refusal)?),
+        Err(refusal) => return Err(advised(alloc, &mut line, words, refusal)?),
     };
     match request_in(&matches) {
         Some(request) => Ok(request),

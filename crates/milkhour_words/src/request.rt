@@ -69,6 +69,8 @@ pub struct Options<'a> {
     pub workers: u32,
     /// The most questions that a search puts to the prover.
     pub budget: u64,
+    /// The steps that are goals, with commas between; else all may be.
+    pub goals: Option<&'a str>,
     /// The condition that is listed, or the first words of some; else all are.
     pub only: Option<&'a str>,
     /// Whether conditions are written as SMT-LIB 2.

@@ -276,6 +276,18 @@ Each text is the file `program` of `step invariants program`.
       l2: (a, b, c, d, e) := (1073741819*c + 23*b, 1073741818*d + 29*e, 1073741817*a + 31*d, 1073741816*b + 37*a, 1073741815*c + 41*b) ] ]
     > wide: invariants
 
+## Warnings
+
+What `milkhour verify`, `check` and `prove` warn of, whatever the status is.
+
+**`NoStart`**: no state satisfies what stands behind `where`. So there is no run, and each goal holds of none. Look for formulas that contradict each other, as `x = 1 /\ x = 2`.
+
+**`NoSteps`**: a proof without a step. It has no goal, so nothing is proved.
+
+**`Empty`**: a claim that says nothing of the program. Every state satisfies an invariance, as `x < 5 \/ x >= 5` or `true`; or what a waiting-for or a response ends with holds wherever it begins. The search is asked for it without a lemma, so a claim that follows from others isn't meant.
+
+**`Uncited`**: a step that is none of the goals that `--goals` names, and that none of them needs, through what is cited. Leave it out, cite it by `using`, or name it a goal.
+
 ## Limits
 
 `limit: KIND NUMBER` is told where a limit is the first fault of a text, or of the conditions. What to do is mostly to split: a program into fewer statements by groups, a claim into several steps, a proof text into several.

@@ -27,7 +27,7 @@ pub map_append : {A B : Type 0} (f : A → B) (xs ys : List A) → map f (xs ++ 
 map_append f [] ys = refl
 map_append f (x ∷ xs) ys = ap (λ zs. f x ∷ zs) (map_append f xs ys)
 
-known_append : (n : ℕ) (vs ws : List Declared) → known n (vs ++ ws) ≡ known n vs ++ known (n + length vs) ws
+pub known_append : (n : ℕ) (vs ws : List Declared) → known n (vs ++ ws) ≡ known n vs ++ known (n + length vs) ws
 known_append n [] ws = ap (λ m. known m ws) (plus_zero n)
   where
     plus_zero : (i : ℕ) → i ≡ i + 0
@@ -37,7 +37,7 @@ known_append n (v ∷ vs) ws = ap (λ ks. record { name = v.0; var = n; truth = 
     moves : (i j : ℕ) → suc i + j ≡ i + suc j
     moves i j = omega arith
 
-take_front : {A : Type 0} (xs ys : List A) → take (length xs) (xs ++ ys) ≡ xs
+pub take_front : {A : Type 0} (xs ys : List A) → take (length xs) (xs ++ ys) ≡ xs
 take_front [] ys = refl
 take_front (x ∷ xs) ys = ap (λ zs. x ∷ zs) (take_front xs ys)
 
@@ -92,7 +92,7 @@ pub labels_declared : (vs : List Declared) → labels_among (map variable_entry 
 labels_declared [] = refl
 labels_declared (v ∷ vs) = labels_declared vs
 
-variables_labelled : (ls : Labels) → variables_among (entries ls) ≡ []
+pub variables_labelled : (ls : Labels) → variables_among (entries ls) ≡ []
 variables_labelled [] = refl
 variables_labelled (l ∷ ls) = variables_labelled ls
 
@@ -127,10 +127,10 @@ grown_both h k l vs ws fs gs a b = record {
 grown_none : (h : Heading) → Grown h h [] []
 grown_none h = record { scope = sym (append-nil h.scope); variables = sym (append-nil h.variables); names = sym (append-nil h.state.names); initial = sym (append-nil h.initial); processes = refl }
 
-abbrev Declares : Label → Mark → State → State → Type 0
+abbrev pub Declares : Label → Mark → State → State → Type 0
 Declares n m st st1 = st1.names ≡ st.names ++ record { name = n.text; mark = m } ∷ []
 
-declares : (n : Label) (m : Mark) (st : State) → Holds (Declares n m st) (declared_as n m st)
+pub declares : (n : Label) (m : Mark) (st : State) → Holds (Declares n m st) (declared_as n m st)
 declares n m st = unless_err (Declares n m st) (is_declared n.text st.names) (with_name n m st) _ refl
 
 abbrev one_of : Bool → Bool → Label → Declared

@@ -47,10 +47,10 @@ labels_listed done (e ∷ es) =
     (λ name i. weaker (λ ls. ls ≡ with_label e.mark name done ++ labels_among es) (λ ls. ls ≡ done ++ labels_among (e ∷ es)) (labels_of (with_label e.mark name done) es) (labels_listed (with_label e.mark name done) es)
     (λ ls h. h ∙ label_step e.mark name done (labels_among es) ∙ ap (λ n. done ++ first_label e.mark n (labels_among es)) i))
 
-abbrev Listed : List Entry → Names → Type 0
+abbrev pub Listed : List Entry → Names → Type 0
 Listed es names = (names.variables ≡ variables_among es) × (names.labels ≡ labels_among es)
 
-names_listed : (es : List Entry) → Holds (Listed es) (names_of es)
+pub names_listed : (es : List Entry) → Holds (Listed es) (names_of es)
 names_listed es =
     bound (λ vs. vs ≡ variables_among es) (Listed es) (variables_of [] es) _ (variables_listed [] es)
     (λ vs e. anyway (Listed es) (few_names vs) _ (λ few. bound (λ ls. ls ≡ labels_among es) (Listed es) (labels_of [] es) _ (labels_listed [] es) (λ ls i. (e, i))))

@@ -194,13 +194,14 @@ impl Chain {
         Ok(found.is_none())
     }
 
-    /// Whether the items are a chain by their places, by the lemmas that are allowed; those because of which they are one are appended to
-    /// those used.
+    /// Whether the wait begins at the goal or at an item, and the items from a number on are as their places say, by the lemmas that are
+    /// allowed; those because of which it is so are appended to those used.
     fn is_kept_by_places(
         &self,
         alloc: Global,
         search: &mut Search<'_>,
         system: &Fts,
+        first: usize,
         allowed: Allowed<'_>,
         used: &mut Vec<u32>,
     ) -> Result<bool, CubeFault> {
@@ -208,12 +209,77 @@ impl Chain {
         if !is_never(alloc, search, gap, allowed, used)? {
             return Ok(false);
         }
-        for number in 0..self.items.len() {
+        for number in first..self.items.len() {
             if !self.is_kept(alloc, search, system, number, allowed, used)? {
                 return Ok(false);
             }
         }
         Ok(true)
+    }
+
+    /// Whether the wait begins at the goal or at an item, and the items from a number on are as they should be, by all lemmas that hold
+    /// always.
+    pub(crate) fn is_kept_from(
+        &self,
+        alloc: Global,
+        search: &mut Search<'_>,
+        system: &Fts,
+        first: usize,
+    ) -> Result<bool, CubeFault> {
+        let allowed = Allowed::From(ALWAYS);
+        let mut used = Vec::new(alloc);
+        self.is_kept_by_places(alloc, search, system, first, allowed, &mut used)
+    }
+
+    /// In how many parts it is asked because of what this is a chain.
+    pub fn parts(&self) -> usize {
+        match &self.ranks {
+            Some(_) => 1,
+            None => self.items.len().saturating_add(1),
+        }
+    }
+
+    /// Whether a part is as it should be: that the wait begins at the goal or at an item, or an item, or all where there are ranks.
+    fn is_part_kept(
+        &self,
+        alloc: Global,
+        search: &mut Search<'_>,
+        system: &Fts,
+        part: usize,
+        allowed: Allowed<'_>,
+        used: &mut Vec<u32>,
+    ) -> Result<bool, CubeFault> {
+        match (&self.ranks, part) {
+            (Some(ranks), _) => {
+                self.is_kept_by_ranks(alloc, search, system, ranks, allowed, used)
+            }
+            (None, 0) => {
+                let gap = self.gap(alloc, &self.start)?;
+                is_never(alloc, search, gap, allowed, used)
+            }
+            (None, part) => {
+                let number = part.saturating_sub(1);
+                self.is_kept(alloc, search, system, number, allowed, used)
+            }
+        }
+    }
+
+    /// The lemmas because of which the part with a number is as it should be; `None` where that isn't known with those that are allowed.
+    pub fn part_kept_by(
+        &self,
+        alloc: Global,
+        search: &mut Search<'_>,
+        system: &Fts,
+        part: usize,
+        allowed: Allowed<'_>,
+    ) -> Result<Option<Vec<u32>>, CubeFault> {
+        let mut used = Vec::new(alloc);
+        if !self.is_part_kept(alloc, search, system, part, allowed, &mut used)? {
+            return Ok(None);
+        }
+        used.sort()?;
+        used.dedup();
+        Ok(Some(used))
     }
 
     /// Whether the items are a chain by ranks.
@@ -248,7 +314,7 @@ impl Chain {
             Some(ranks) => {
                 self.is_kept_by_ranks(alloc, search, system, ranks, allowed, &mut used)?
             }
-            None => self.is_kept_by_places(alloc, search, system, allowed, &mut used)?,
+            None => self.is_kept_by_places(alloc, search, system, 0, allowed, &mut used)?,
         };
         if !kept {
             return Ok(None);

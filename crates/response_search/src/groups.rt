@@ -49,7 +49,7 @@ impl Saturation<'_> {
         let mut used = Vec::new(alloc);
         let system = self.setting.system;
         let allowed = Allowed::From(ALWAYS);
-        let found = astray_by_steps(alloc, search, system, trial, around, allowed, &mut used)?;
+        let found = astray_by_steps(alloc, search, system, trial, around, allowed, &mut used, 0)?;
         Ok(found.is_none())
     }
 

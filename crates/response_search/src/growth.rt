@@ -10,6 +10,7 @@ use crate::items::Denied;
 use crate::literals::literals;
 use crate::loops::take_loop;
 use crate::saturation::Saturation;
+use crate::witnesses::states_of_all;
 use control_cubes::{CubeFault, State, negation};
 use invariant_search::{ALWAYS, Allowed, Outcome, Search, Unobserved};
 use st_form::{Form, SharedForm, Variable};
@@ -126,6 +127,7 @@ impl Saturation<'_> {
             return self.settle(alloc, search);
         }
         self.give_up(alloc);
+        self.see_settled(alloc, search)?;
         Ok(Round::On)
     }
 
@@ -158,6 +160,20 @@ impl Saturation<'_> {
     }
 }
 
+/// Whether a chain is still one without an item that stood at a place. Those nearer to the goal are as they were.
+fn is_still_one(
+    alloc: Global,
+    search: &mut Search<'_>,
+    setting: Setting<'_>,
+    chain: &Chain,
+    place: usize,
+) -> Result<bool, CubeFault> {
+    if chain.is_refuted(alloc, search, place)? {
+        return Ok(false);
+    }
+    chain.is_kept_from(alloc, search, setting.system, place)
+}
+
 /// Leaves the item with a number out of a chain that is one without it.
 fn prune(
     alloc: Global,
@@ -170,8 +186,7 @@ fn prune(
         return Ok(());
     }
     let item = chain.items.remove(number);
-    let kept = chain.kept_by(alloc, search, setting.system, Allowed::From(ALWAYS))?;
-    if kept.is_none() && number <= chain.items.len() {
+    if !is_still_one(alloc, search, setting, chain, number)? && number <= chain.items.len() {
         chain.items.insert(number, item)?;
     }
     Ok(())
@@ -219,7 +234,8 @@ fn begun<'s>(
     let just = bases(alloc, setting, search, wait, Fairness::Just)?;
     let regions = bases(alloc, setting, search, wait, Fairness::Compassionate)?;
     let chain = empty_chain(alloc, search, start, goal)?;
-    Ok(Saturation {
+    let holding = states_of_all(alloc, search, &just)?;
+    let mut saturation = Saturation {
         setting,
         start,
         goal,
@@ -228,11 +244,15 @@ fn begun<'s>(
         literals,
         chain,
         failed: BTreeMap::new(alloc),
+        holding,
+        settled: Vec::new(alloc),
         asked: false,
         opened: Vec::new(alloc),
         tried: 0,
         groups: 0,
-    })
+    };
+    saturation.see_settled(alloc, search)?;
+    Ok(saturation)
 }
 
 /// A chain of one item or two for the response from `start` to `goal`, if there is one by the lemmas of the search that hold always.

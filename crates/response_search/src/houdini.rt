@@ -119,7 +119,12 @@ struct Tried {
     core: Vec<u32>,
 }
 
-/// Takes the cubes in which no run begins for lemmas.
+/// Whether a cube may be a lemma's: no run is known to come to it, and no lemma has it in its own.
+fn may_be_learned(search: &Search<'_>, cube: &Cube) -> bool {
+    !search.reach().meets(cube) && !search.is_covered(cube, ALWAYS)
+}
+
+/// Takes the cubes in which no run begins for lemmas, but those that needn't or can't be.
 fn taken(
     alloc: Global,
     search: &mut Search<'_>,
@@ -127,7 +132,9 @@ fn taken(
 ) -> Result<Vec<Tried>, CubeFault> {
     let mut out = Vec::with_capacity(alloc, cubes.len())?;
     for cube in cubes {
-        if let Answer::Never(_) = search.begins_in(alloc, &cube)? {
+        if may_be_learned(search, &cube)
+            && let Answer::Never(_) = search.begins_in(alloc, &cube)?
+        {
             let clause = cube.clause(alloc, search.components(), search.layout())?;
             let number = search.give(alloc, clause)?;
             out.push(Tried {
@@ -288,12 +295,14 @@ pub fn learn(
     learn_of(alloc, search, singles)
 }
 
-/// Gives the search what is inductive of the clauses of one literal at two places.
+/// Gives the search what is inductive of the clauses of one literal at two places, and before it of those that say nothing but places.
 pub fn learn_more(
     alloc: Global,
     search: &mut Search<'_>,
     variables: &[Variable],
 ) -> Result<(), CubeFault> {
+    let places = pairs(alloc, search, Vec::new(alloc))?;
+    learn_of(alloc, search, places)?;
     let literals = literal_cubes(alloc, search, variables)?;
     let pairs = pairs(alloc, search, literals)?;
     learn_of(alloc, search, pairs)

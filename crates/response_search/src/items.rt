@@ -263,7 +263,7 @@ fn is_free(search: &Search<'_>, number: usize, trial: &Trial) -> bool {
     }
 }
 
-/// Checks all modes from an item.
+/// Checks the modes from a number on from an item.
 pub(crate) fn astray_by_steps(
     alloc: Global,
     search: &mut Search<'_>,
@@ -272,8 +272,9 @@ pub(crate) fn astray_by_steps(
     around: Around<'_>,
     allowed: Allowed<'_>,
     used: &mut Vec<u32>,
+    first: usize,
 ) -> Result<Option<Astray>, CubeFault> {
-    for number in 0..search.steps().len() {
+    for number in first..search.steps().len() {
         let found = if is_free(search, number, trial) {
             astray_in_group(alloc, search, system, number, trial, around, allowed, used)?
         } else {
@@ -303,5 +304,5 @@ pub(crate) fn item_astray(
     if found.is_some() {
         return Ok(found);
     }
-    astray_by_steps(alloc, search, system, trial, around, allowed, used)
+    astray_by_steps(alloc, search, system, trial, around, allowed, used, 0)
 }

@@ -21,8 +21,10 @@ mod literals;
 mod loops;
 mod measures;
 mod ranks;
+mod refuting;
 mod said;
 mod saturation;
+mod witnesses;
 
 pub use bases::Setting;
 pub use chain::{Chain, ChainItem, Measure};

@@ -1,14 +1,15 @@
 //! A chain that grows: valid items are added until the wait can begin nowhere else.
 //!
 //! Candidates that are near to where the wait begins come first, and fewer literals before more. What fails by a step to some state is left
-//! alone until that state is in the chain.
+//! alone until that state is in the chain, and the steps that were asked of before it aren't asked of again.
 
 use crate::bases::{Base, Setting};
 use crate::candidates::{Candidate, Width, widths};
 use crate::chain::{Chain, ChainItem, nearer};
 use crate::groups::Opened;
-use crate::items::{Around, Astray, Group, Trial, item_astray};
+use crate::items::{Around, Astray, Group, Trial, astray_by_steps, item_astray};
 use crate::said::{Said, both_forms};
+use crate::witnesses::Witness;
 use control_cubes::{CubeFault, State};
 use invariant_search::{ALWAYS, Allowed, Answer, Search};
 use st_form::{Form, SharedForm};
@@ -28,8 +29,12 @@ pub(crate) struct Saturation<'s> {
     pub(crate) regions: Vec<Base>,
     pub(crate) literals: Vec<Said>,
     pub(crate) chain: Chain,
-    /// What failed: for good, or until a state is in the chain.
-    pub(crate) failed: BTreeMap<Candidate, Option<State>>,
+    /// What failed, and how.
+    pub(crate) failed: BTreeMap<Candidate, Failure>,
+    /// Of each base that is in no group the numbers of the states to which runs come in which it holds.
+    pub(crate) holding: Vec<Vec<usize>>,
+    /// Of each state to which runs come whether the goal or the chain holds there.
+    pub(crate) settled: Vec<bool>,
     /// Whether it was asked if what is left never comes.
     pub(crate) asked: bool,
     /// The group that grows, if one does.
@@ -40,19 +45,19 @@ pub(crate) struct Saturation<'s> {
     pub(crate) groups: usize,
 }
 
+/// How a candidate failed: for good, or until a state is in the chain. Steps below a number don't lead astray from it.
+#[derive(Drop)]
+pub(crate) struct Failure {
+    until: Option<State>,
+    passed: usize,
+}
+
 /// A candidate as an item: its text without what it says of variables, its text with it, and what is to be checked.
 #[derive(Drop)]
 struct Proposed {
     base: Vec<u8>,
     text: Vec<u8>,
     trial: Trial,
-}
-
-/// Whether a candidate is an item, and if not, the state that has to be in the chain before it may be one.
-#[derive(Drop)]
-struct Judged {
-    valid: bool,
-    behind: Option<State>,
 }
 
 impl Saturation<'_> {
@@ -87,7 +92,7 @@ impl Saturation<'_> {
     }
 
     /// What a candidate says beside its base, as one; nothing where that is nothing.
-    fn tail(&self, alloc: Global, width: Width) -> Result<Vec<Said>, Memory> {
+    pub(crate) fn tail(&self, alloc: Global, width: Width) -> Result<Vec<Said>, Memory> {
         let mut out = Vec::new(alloc);
         match width {
             Width::None => {}
@@ -109,7 +114,7 @@ impl Saturation<'_> {
     }
 
     /// Whether a state is in the goal or in the chain.
-    fn has(&self, search: &Search<'_>, state: &State) -> bool {
+    pub(crate) fn has(&self, search: &Search<'_>, state: &State) -> bool {
         let layout = search.layout();
         state.satisfies(layout, self.goal)
             || self
@@ -123,8 +128,10 @@ impl Saturation<'_> {
     fn is_left_alone(&self, search: &Search<'_>, candidate: Candidate) -> bool {
         match self.failed.get(&candidate) {
             None => false,
-            Some(None) => true,
-            Some(Some(state)) => !self.has(search, state),
+            Some(failure) => match &failure.until {
+                Some(state) => !self.has(search, state),
+                None => true,
+            },
         }
     }
 
@@ -140,13 +147,22 @@ impl Saturation<'_> {
         Ok(matches!(answer, Answer::State(_)))
     }
 
-    /// Checks an item behind the first ones of the chain.
+    /// How many steps, by number, are known not to lead astray from a candidate.
+    fn passed(&self, candidate: Candidate) -> usize {
+        match self.failed.get(&candidate) {
+            Some(failure) => failure.passed,
+            None => 0,
+        }
+    }
+
+    /// Checks an item behind the first ones of the chain, where steps below a number are known not to lead astray.
     fn checked(
         &self,
         alloc: Global,
         search: &mut Search<'_>,
         trial: &Trial,
         number: usize,
+        passed: usize,
     ) -> Result<Option<Astray>, CubeFault> {
         let nearer = nearer(alloc, &self.chain.items, number)?;
         let mut group = Vec::new(alloc);
@@ -160,28 +176,28 @@ impl Saturation<'_> {
         };
         let mut used = Vec::new(alloc);
         let system = self.setting.system;
-        item_astray(
-            alloc,
-            search,
-            system,
-            trial,
-            around,
-            Allowed::From(ALWAYS),
-            &mut used,
-        )
+        let allowed = Allowed::From(ALWAYS);
+        if passed == 0 {
+            item_astray(alloc, search, system, trial, around, allowed, &mut used)
+        } else {
+            astray_by_steps(
+                alloc, search, system, trial, around, allowed, &mut used, passed,
+            )
+        }
     }
 
-    /// What a candidate says, where that adds something to the chain: most add nothing, and one question says it.
+    /// What a candidate says, where that is known to add something to the chain, or one question says it.
     fn adding(
         &self,
         alloc: Global,
         search: &mut Search<'_>,
         candidate: Candidate,
+        adds: bool,
         out: &mut Vec<Said>,
     ) -> Result<(), CubeFault> {
         if let Some(base) = self.bases().get(candidate.base) {
             let said = self.said(alloc, &base.said, candidate.width)?;
-            if self.adds(alloc, search, &said.form)? {
+            if adds || self.adds(alloc, search, &said.form)? {
                 out.push(said)?;
             }
         }
@@ -208,18 +224,22 @@ impl Saturation<'_> {
         Ok(())
     }
 
-    /// Judges an item that would be the farthest.
-    fn judged(
+    /// How an item fails that would be the farthest, if it does.
+    fn failure(
         &self,
         alloc: Global,
         search: &mut Search<'_>,
         trial: &Trial,
-    ) -> Result<Judged, CubeFault> {
-        let found = self.checked(alloc, search, trial, self.chain.items.len())?;
-        Ok(Judged {
-            valid: found.is_none(),
-            behind: state_behind(alloc, search, found)?,
-        })
+        passed: usize,
+    ) -> Result<Option<Failure>, CubeFault> {
+        let farthest = self.chain.items.len();
+        match self.checked(alloc, search, trial, farthest, passed)? {
+            Some(astray) => Ok(Some(Failure {
+                until: state_behind(alloc, search, &astray)?,
+                passed: astray.step as usize,
+            })),
+            None => Ok(None),
+        }
     }
 
     /// Whether the item with a number has the helper and the group of another.
@@ -263,7 +283,7 @@ impl Saturation<'_> {
         let mut joint = Vec::new(alloc);
         self.joint(alloc, search, number, proposed, &mut joint)?;
         for trial in joint {
-            let found = self.checked(alloc, search, &trial, number)?;
+            let found = self.checked(alloc, search, &trial, number, 0)?;
             if found.is_none()
                 && let Some(item) = self.chain.items.get_mut(number)
             {
@@ -321,31 +341,55 @@ impl Saturation<'_> {
         let mut all = Vec::new(alloc);
         self.proposed(alloc, search, candidate, said, &mut all)?;
         for proposed in all {
-            let judged = self.judged(alloc, search, &proposed.trial)?;
-            if judged.valid {
+            let passed = self.passed(candidate);
+            let failure = self.failure(alloc, search, &proposed.trial, passed)?;
+            let Some(failure) = failure else {
                 self.add(alloc, search, proposed)?;
+                self.see_settled(alloc, search)?;
                 return Ok(true);
-            }
-            self.failed.insert(candidate, judged.behind)?;
+            };
+            self.failed.insert(candidate, failure)?;
         }
         Ok(false)
     }
 
-    /// Adds a candidate, if it adds something and is valid.
+    /// Leaves a candidate alone, for good or until a state is in the chain.
+    fn leave(&mut self, candidate: Candidate, until: Option<State>) -> Result<bool, Memory> {
+        let passed = self.passed(candidate);
+        self.failed.insert(candidate, Failure { until, passed })?;
+        Ok(false)
+    }
+
+    /// Adds a candidate, if it adds something and is valid. Nothing is asked where states to which runs come say that it isn't.
     fn is_added(
         &mut self,
         alloc: Global,
         search: &mut Search<'_>,
         candidate: Candidate,
     ) -> Result<bool, CubeFault> {
+        match self.witness(alloc, search, candidate)? {
+            Witness::Idle => Ok(self.leave(candidate, None)?),
+            Witness::Astray(number) => {
+                let until = state_at(alloc, search, number)?;
+                Ok(self.leave(candidate, until)?)
+            }
+            Witness::Fits(adds) => self.is_added_if_valid(alloc, search, candidate, adds),
+        }
+    }
+
+    /// Adds a candidate, if it is valid and adds something, which may be known.
+    fn is_added_if_valid(
+        &mut self,
+        alloc: Global,
+        search: &mut Search<'_>,
+        candidate: Candidate,
+        adds: bool,
+    ) -> Result<bool, CubeFault> {
         let mut adding = Vec::new(alloc);
-        self.adding(alloc, search, candidate, &mut adding)?;
+        self.adding(alloc, search, candidate, adds, &mut adding)?;
         match adding.pop() {
             Some(said) => self.is_taken(alloc, search, candidate, said),
-            None => {
-                self.failed.insert(candidate, None)?;
-                Ok(false)
-            }
+            None => Ok(self.leave(candidate, None)?),
         }
     }
 
@@ -417,13 +461,18 @@ impl Saturation<'_> {
 fn state_behind(
     alloc: Global,
     search: &Search<'_>,
-    found: Option<Astray>,
+    astray: &Astray,
 ) -> Result<Option<State>, CubeFault> {
-    match found {
-        Some(astray) => match &astray.from {
-            Some(state) => search.state_behind(alloc, state, astray.step),
-            None => Ok(None),
-        },
+    match &astray.from {
+        Some(state) => search.state_behind(alloc, state, astray.step),
+        None => Ok(None),
+    }
+}
+
+/// The state with a number to which runs come.
+fn state_at(alloc: Global, search: &Search<'_>, number: usize) -> Result<Option<State>, Memory> {
+    match search.reach().states().get(number) {
+        Some(state) => Ok(Some(state.copy(alloc)?)),
         None => Ok(None),
     }
 }

@@ -1,5 +1,5 @@
 -- Items of a fair rule, and claims of invariance.
-use Rattle.std.proofs.Common.{◌≡◌, ℕ, ◌+◌, Bool, true, false, List, [], ◌∷◌, ◌++◌, Option, Some, None, Ok, Err, refl, sym, ap, ◌∙◌}
+use Rattle.std.proofs.Common.{◌≡◌, ℕ, ◌+◌, Bool, true, false, List, ◌++◌, Option, Ok, refl, ap}
 use Rattle.std.specs.Prelude.{not, ◌||◌, nat_lt}
 use Rattle.st_tokens.specs.Stream.{Lexeme, Stream}
 use Rattle.st_reading.specs.declared.mark.Mark.{Mark}
@@ -20,13 +20,12 @@ use Rattle.st_reading.proofs.JudgedParts.{judged_as, judged_map}
 use Rattle.st_form.specs.Formula.{Formula}
 use Rattle.temporal_goals.specs.Texts.{PlainGoal, PlainRule, invariant}
 use Rattle.expression_parser.specs.Calm.{calm, calm_but, calm_but2}
-use Rattle.expression_parser.proofs.FormulaTheorems.{quiet}
 use Rattle.expression_parser.proofs.Quiet.{and_parts, but_calm, but2_but}
 use Rattle.expression_typer.specs.Naming.{names_of}
 use Rattle.assertions.specs.Reading.{truth_of}
 use Rattle.proof_script.specs.Listing.{Setting, formula_of, just_of, optional}
 use Rattle.proof_script.specs.Rules.{fair_of, helper_of}
-use Rattle.proof_script.specs.Steps.{invariance_of, invariance_rule}
+use Rattle.proof_script.specs.Steps.{invariance_of, invariance_rule, is_invariance}
 use Rattle.script_grammar.specs.RawScripts.{RawUnit, RawTransition, RawFair, RawClaim, raw_invariance}
 use Rattle.script_grammar.specs.Sizes.{optional_size, transition_size, fair_size, claim_size}
 use Rattle.script_grammar.specs.Grammar.{IsRawFair, IsRawInvariance, spells_fair, spells_invariance}
@@ -41,6 +40,7 @@ use Rattle.script_grammar.proofs.UnitLaws.{forms, judged_form, typed_unit}
 use Rattle.script_grammar.proofs.JudgedPairs.{both_of, short_pair, short_after, judge_map, judged_pair, pairs}
 use Rattle.script_grammar.proofs.JudgedItems.{listed_is}
 use Rattle.script_grammar.proofs.JudgedOptions.{SameThere, judged_option, open_lawful}
+use Rattle.script_grammar.proofs.Judges.{Judges, pair_so, made_so, seen_so, optional_so}
 use Rattle.script_grammar.proofs.PartLaws.{stops_at_first}
 
 -- what follows an item whose helper may be left out
@@ -165,26 +165,21 @@ abbrev pub invariance_lawful : LawfulPhrase Breach RawClaim anything by_next
 invariance_lawful = as_lawful anything by_next invariance_parts (IsRawInvariance Forms Sums) to_invariance from_invariance
 
 module _ (g : Setting) where
-  abbrev invariances : Reader (PlainGoal × PlainRule)
-  invariances = then_reads (formula_of g) (λ p. then_reads (optional marks.By (formula_of g)) (λ f. gives (invariance_with p f)))
+  form_so : Judges calm (formula_of g) (raw forms) (λ u. u.size) (form_rules g) (λ u f. typed_unit (truth_of (names_of g.names)) u ≡ Ok f)
+  form_so = record { judged = λ at s. judged_form g at s }
 
-  invariance_is : (s : Stream) → invariance_of g s ≡ invariances s
+  abbrev pub IsOne : {B : Type 0} → B → PlainGoal × PlainRule → Type 0
+  IsOne b x = is_invariance x.0 ≡ true
+
+  by_form_so : (p : Formula) → Judges by_next (then_reads (optional marks.By (formula_of g)) (λ f. gives (invariance_with p f))) by_option.phrase.reader (optional_size (λ u. u.size)) (optional_rules (form_rules g)) IsOne
+  by_form_so p = made_so (invariance_with p) IsOne (λ o x m. refl) (optional_so marks.By by_next by_calm (raw_lawful forms) (wider (λ g h. refl)) form_so)
+
+  pub invariance_parts_so : Judges by_next (invariance_of g) (pairs (raw forms) by_option.phrase.reader) (λ p. p.0.size + optional_size (λ u. u.size) p.1) (λ at p. form_rules g at p.0 ++ optional_rules (form_rules g) (at + p.0.size) p.1) IsOne
   unfolding invariance_of
-  invariance_is s = refl
+  invariance_parts_so = pair_so {makes = IsOne} (either_calm marks.By by_next by_calm_so by_calm) by_option (wider (or_next marks.By anything calm by_next by_clear by_calm (raw_lawful forms) by_quiet)) form_so (λ u p m. by_form_so p)
 
-  judged_by_form : (p : Formula) (at : ℕ) (s : Stream) → JudgedAt IsSyntactic by_next at (then_reads (optional marks.By (formula_of g)) (λ f. gives (invariance_with p f))) by_option.phrase.reader (optional_size (λ u. u.size)) (optional_rules (form_rules g) at) (λ o x. Unit {0}) s
-  judged_by_form p at s =
-      judge_map by_next at (optional marks.By (formula_of g)) by_option.phrase.reader (optional_size (λ u. u.size)) (optional_rules (form_rules g) at) SameThere (invariance_with p) (λ o x. Unit {0}) (λ o x m. tt) s
-      (judged_option marks.By calm by_next by_calm (formula_of g) (raw forms) (λ u. u.size) (form_rules g) _ (short_after anything calm (raw_lawful forms) (wider (λ g h. refl))) at (λ m. judged_form g (at + 1) m) s)
-
-  pub judged_invariance : (at : ℕ) (s : Stream) → JudgedAt IsSyntactic by_next at (invariance_of g) invariance_lawful.phrase.reader claim_size (claim_rules g at) (λ r x. Unit {0}) s
-  judged_invariance at s =
-      judged_as IsSyntactic by_next at invariances invariance_lawful.phrase.reader claim_size (claim_rules g at) (λ r x. Unit {0}) (invariance_of g) invariance_lawful.phrase.reader s (λ after h. invariance_is after) (λ after h. refl)
-      (judged_map IsSyntactic by_next at invariances (pairs (raw forms) by_option.phrase.reader) (λ p. p.0.size + optional_size (λ u. u.size) p.1) (λ p. form_rules g at p.0 ++ optional_rules (form_rules g) (at + p.0.size) p.1) (λ p x. Unit {0})
-      the_invariance claim_size (claim_rules g at) (λ r x. Unit {0}) (λ p. refl) (λ p. refl) (λ p x m. tt) s
-      (judged_pair calm by_next (formula_of g) (raw forms) (λ u. u.size) (form_rules g) (λ u f. typed_unit (truth_of (names_of g.names)) u ≡ Ok f) (λ p. then_reads (optional marks.By (formula_of g)) (λ f. gives (invariance_with p f))) by_option.phrase.reader (optional_size (λ u. u.size)) (optional_rules (form_rules g)) (λ p x. Unit {0})
-      (short_pair calm (optional_front marks.By anything calm by_next by_clear by_calm (raw_lawful forms) by_quiet) by_next (either_calm marks.By by_next by_calm_so by_calm) by_option (wider (or_next marks.By anything calm by_next by_clear by_calm (raw_lawful forms) by_quiet)))
-      at s (judged_form g at s) (λ b p made at2 m. judged_by_form p at2 m)))
+  invariance_so : Judges by_next (invariance_of g) invariance_lawful.phrase.reader claim_size (claim_rules g) IsOne
+  invariance_so = seen_so the_invariance claim_size (claim_rules g) IsOne (λ p. refl) (λ at p. refl) (λ p x m. m) invariance_parts_so
 
 pub invariances_first_fault : InvariancesFirstFault
-invariances_first_fault g = stops_at_first anything by_next by_quiet invariance_lawful (claim_rules g 0) (invariance_of g) claim_size (λ r x. Unit {0}) (judged_invariance g 0)
+invariances_first_fault g = stops_at_first anything by_next by_quiet invariance_lawful (claim_rules g 0) (invariance_of g) claim_size (IsOne g) ((invariance_so g).judged 0)

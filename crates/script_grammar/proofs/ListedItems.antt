@@ -66,7 +66,7 @@ module _ (g : Setting) (before : ℕ) (over : nat_lt before 64 ≡ false) {A B R
       (pair_so {count2 = count} {rules2 = λ b at c. []} {makes = Whatever} meets q fits (record { judged = λ at s. judged_many g before over at s }) (λ b a m. absurd (never b a m)))
 
 -- by whether there are fewer
-by_count : {A R : Type 0} (next : Sign → Bool) (before : ℕ) (r : Reader A) (plain : Reader R) (size : R → ℕ) (form : R → RawUnit) (rules : ℕ → R → List (Broken Breach)) → (nat_lt before 64 ≡ true → Judges next r plain size rules Whatever) → (nat_lt before 64 ≡ false → Judges next r plain size (λ at x. one_too_many_rules at (form x)) Whatever)
+pub by_count : {A R : Type 0} (next : Sign → Bool) (before : ℕ) (r : Reader A) (plain : Reader R) (size : R → ℕ) (form : R → RawUnit) (rules : ℕ → R → List (Broken Breach)) → (nat_lt before 64 ≡ true → Judges next r plain size rules Whatever) → (nat_lt before 64 ≡ false → Judges next r plain size (λ at x. one_too_many_rules at (form x)) Whatever)
     → Judges next r plain size (λ at x. cond (nat_lt before 64) (rules at x) (one_too_many_rules at (form x))) Whatever
 by_count next before r plain size form rules few over = at_test (nat_lt before 64) refl
   where

@@ -1,7 +1,7 @@
 -- The first fault of a part of a script that is read as a whole text: a rule that is broken in what begins it, or else where the
 -- grammar doesn't go on.
 use Rattle.std.specs.Prelude.{◌≡◌, ◌↔◌, ℕ, true, nat_lt, List, Err}
-use Rattle.st_tokens.specs.Stream.{Lexeme, Stream}
+use Rattle.st_tokens.specs.Stream.{Lexeme, Stream, text_stream}
 use Rattle.st_reading.specs.Reading.{Stop, syntax, broken, other, whole}
 use Rattle.st_reading.specs.declared.mark.Mark.TheVariants as marks
 use Rattle.st_reading.specs.Spelling.{OneName}
@@ -14,14 +14,15 @@ use Rattle.diagram_reader.specs.Drawing.{diagram_of, known_of, new_number_of}
 use Rattle.diagram_reader.specs.Drawn as diagrams
 use Rattle.proof_script.specs.Faults.{drawn}
 use Rattle.proof_script.specs.Listing.{Setting, behind_mark, bracketed, compassionate_of, formula_of, just_of, listed_formula_of, sum_of, transition_of}
-use Rattle.proof_script.specs.Rules.{fair_of, helped_of, ranked_of}
-use Rattle.proof_script.specs.Steps.{cited_of, earlier_of, invariance_of, new_name_of, step_of}
+use Rattle.proof_script.specs.Rules.{fair_of, helped_of, nested_node_of, node_of, ranked_of, rule_of}
+use Rattle.proof_script.specs.Script.{script_spelled}
+use Rattle.proof_script.specs.Steps.{cited_of, earlier_of, invariance_of, new_name_of, response_of, step_of}
 use Rattle.proof_script.specs.declared.steps.Claim.TheVariants as claims
 use Rattle.script_grammar.specs.Drawings.{IsNumeral, IsRawDrawing, IsReference, IsUnit}
-use Rattle.script_grammar.specs.Grammar.{InBrackets, IsRawFair, IsRawHelped, IsRawInvariance, IsRawNamed, IsRawRanked}
-use Rattle.script_grammar.specs.Sizes.{fair_size, helped_size, ranked_size}
+use Rattle.script_grammar.specs.Grammar.{InBrackets, IsRawFair, IsRawHelped, IsRawInvariance, IsRawNamed, IsRawNestedNode, IsRawNode, IsRawRanked, IsRawResponse, IsRawRule, IsRawScript, IsRawWaiting}
+use Rattle.script_grammar.specs.Sizes.{fair_size, helped_size, nested_node_size, node_size, ranked_size}
 use Rattle.script_grammar.specs.Breaking.{listed_rules}
-use Rattle.script_grammar.specs.Rules.{cited_rules, claim_rules, drawing_rules, fair_rules, form_rules, group_rules, helped_rules, helper_rules, known_rules, listed_form_rules, name_rules, new_number_rules, ranked_rules, step_rules, sum_rules, transition_rules}
+use Rattle.script_grammar.specs.Rules.{broken_rules, cited_rules, claim_rules, drawing_rules, fair_rules, form_rules, group_rules, helped_rules, helper_rules, known_rules, listed_form_rules, name_rules, nested_node_rules, new_number_rules, node_rules, ranked_rules, rule_rules, step_rules, sum_rules, transition_rules}
 use Rattle.script_grammar.specs.Theorems.{Forms, Sums}
 
 -- a fault that the grammar alone has
@@ -82,6 +83,21 @@ RankingsFirstFault = (g : Setting) → StopsAtFirst (InBrackets (IsRawRanked For
 abbrev pub FairListsFirstFault : Type 0
 FairListsFirstFault = (g : Setting) → StopsAtFirst (InBrackets (IsRawFair Forms Sums)) (listed_rules (λ x. x.form) fair_size (fair_rules g) 0 0) (bracketed (fair_of g))
 
+-- the nodes of a net, and those of a nested one: that a node lacks a helper is found at the token behind it
+abbrev pub NetsFirstFault : Type 0
+NetsFirstFault = (g : Setting) → StopsAtFirst (InBrackets (IsRawNode Forms Sums)) (listed_rules (λ n. n.form) node_size (node_rules g) 0 0) (bracketed (node_of g))
+
+abbrev pub NestedNetsFirstFault : Type 0
+NestedNetsFirstFault = (g : Setting) → StopsAtFirst (InBrackets (IsRawNestedNode Forms Sums)) (listed_rules (λ n. n.form) nested_node_size (nested_node_rules g) 0 0) (bracketed (nested_node_of g))
+
+-- the rule of a response
+abbrev pub RulesFirstFault : Type 0
+RulesFirstFault = (g : Setting) → StopsAtFirst (IsRawRule Forms Sums) (rule_rules g 0) (rule_of g)
+
+-- the claim of a response, with its rule
+abbrev pub ResponsesFirstFault : Type 0
+ResponsesFirstFault = (g : Setting) → StopsAtFirst (IsRawResponse Forms Sums) (claim_rules g 0) (response_of g)
+
 -- the claim of an invariance, with the formula by which it is shown
 abbrev pub InvariancesFirstFault : Type 0
 InvariancesFirstFault = (g : Setting) → StopsAtFirst (IsRawInvariance Forms Sums) (claim_rules g 0) (invariance_of g)
@@ -109,6 +125,19 @@ NewNamesFirstFault = (before : List PlainStep) → StopsAtFirst OneName (name_ru
 abbrev pub InvarianceStepsFirstFault : Type 0
 InvarianceStepsFirstFault = (g : Setting) (before : List PlainStep)
     → StopsAtFirst (After marks.Invariant (IsRawNamed (IsRawInvariance Forms Sums))) (step_rules g before 0) (behind_mark marks.Invariant (step_of g claims.Invariant (earlier_of before)))
+
+-- a step that claims a waiting-for, whose levels are counted at the token behind them, and one that claims a response
+abbrev pub WaitingStepsFirstFault : Type 0
+WaitingStepsFirstFault = (g : Setting) (before : List PlainStep)
+    → StopsAtFirst (After marks.Waiting (IsRawNamed (IsRawWaiting Forms Sums))) (step_rules g before 0) (behind_mark marks.Waiting (step_of g claims.Waiting (earlier_of before)))
+
+abbrev pub ResponseStepsFirstFault : Type 0
+ResponseStepsFirstFault = (g : Setting) (before : List PlainStep)
+    → StopsAtFirst (After marks.Response (IsRawNamed (IsRawResponse Forms Sums))) (step_rules g before 0) (behind_mark marks.Response (step_of g claims.Response (earlier_of before)))
+
+-- A text is refused as a script exactly for its first fault.
+abbrev pub ScriptsFirstFault : Type 0
+ScriptsFirstFault = (g : Setting) (text : List ℕ) (f : Stop Breach) → (script_spelled g.names g.system text ≡ Err f) ↔ IsFirstFault (IsRawScript Forms Sums) (broken_rules g) (text_stream text) f
 
 -- a drawing of this kind, with this highest level, and its faults as a script tells them
 abbrev pub DrawingsFirstFault : Type 0

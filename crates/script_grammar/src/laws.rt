@@ -2,7 +2,8 @@
 
 ghost use Rattle.script_grammar.specs.FirstFaults.{TransitionsFirstFault, HelpersFirstFault, GroupsFirstFault, NewNamesFirstFault, CitationsFirstFault};
 ghost use Rattle.script_grammar.specs.FirstFaults.{FormulasFirstFault, SumsFirstFault, ListedFormulasFirstFault, HelpedFirstFault, RankedFirstFault, FairFirstFault, InvariancesFirstFault, KnownNumbersFirstFault, NewNumbersFirstFault};
-ghost use Rattle.script_grammar.specs.FirstFaults.{ChainsFirstFault, RankingsFirstFault, FairListsFirstFault, InvarianceStepsFirstFault, DrawingsFirstFault};
+ghost use Rattle.script_grammar.specs.FirstFaults.{ChainsFirstFault, RankingsFirstFault, FairListsFirstFault, NetsFirstFault, NestedNetsFirstFault, DrawingsFirstFault};
+ghost use Rattle.script_grammar.specs.FirstFaults.{RulesFirstFault, ResponsesFirstFault, InvarianceStepsFirstFault, WaitingStepsFirstFault, ResponseStepsFirstFault, ScriptsFirstFault};
 ghost use Rattle.script_grammar.specs.Theorems.{ScriptsAreLawful, DiagramsAreLawful};
 
 /// A text is read as a script exactly where its tokens spell a tree that breaks no rule, and the script is what the tree means.
@@ -102,9 +103,45 @@ pub fn fair_lists_first_fault()
     ensures { FairListsFirstFault }
 {}
 
+/// So is one of nodes of a net: that a node has neither a group nor a helper is found at the token behind it.
+pub fn nets_first_fault()
+    ensures { NetsFirstFault }
+{}
+
+/// So is one of nodes of a nested net, of which one may lack levels and a helper.
+pub fn nested_nets_first_fault()
+    ensures { NestedNetsFirstFault }
+{}
+
+/// The rule of a response, of each manner, is refused exactly for its first fault.
+pub fn rules_first_fault()
+    ensures { RulesFirstFault }
+{}
+
+/// So is the claim of a response, with its rule.
+pub fn responses_first_fault()
+    ensures { ResponsesFirstFault }
+{}
+
 /// A step that claims an invariance is refused exactly for its first fault.
 pub fn invariance_steps_first_fault()
     ensures { InvarianceStepsFirstFault }
+{}
+
+/// So is one that claims a waiting-for, whose levels are counted at the token behind them.
+pub fn waiting_steps_first_fault()
+    ensures { WaitingStepsFirstFault }
+{}
+
+/// So is one that claims a response.
+pub fn response_steps_first_fault()
+    ensures { ResponseStepsFirstFault }
+{}
+
+/// A text is refused as a script exactly for its first fault: the first rule that is broken in what begins it, at the token at
+/// which that is found, or else where the grammar doesn't go on.
+pub fn scripts_first_fault()
+    ensures { ScriptsFirstFault }
 {}
 
 /// A drawing of each kind is refused exactly for its first fault.

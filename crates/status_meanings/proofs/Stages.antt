@@ -16,6 +16,7 @@ use Rattle.spl_typer.specs.Programs.{Typed, typing}
 use Rattle.spl_typer.specs.ProgramRules.{program_faults}
 use Rattle.typing_laws.specs.Laws.{TellsLeast, ReadIsTyped, TypedIsWell}
 use Rattle.proof_grammar.specs.Theorems.{SpelledScriptsAreRead, ReadScriptsAreSpelled}
+use Rattle.script_grammar.specs.FirstFaults.{ScriptsFirstFault}
 use Rattle.step_report.specs.declared.refusals.FileRole.{FileRole}
 use Rattle.step_plan.specs.Limits.{length_limit, too_long, limited}
 use Rattle.step_plan.specs.Outcome.{Outcome}
@@ -40,6 +41,7 @@ pub record TextLaws : Type 0 where
   pub well : TypedIsWell
   pub scripts_spelled : ReadScriptsAreSpelled
   pub scripts_read : SpelledScriptsAreRead
+  pub scripts_first : ScriptsFirstFault
 
 pub some_is : (p o : Outcome) → ◌≡◌ {A = Option Outcome} (Some p) (Some o) → p ≡ o
 some_is p o e = cc
@@ -158,7 +160,7 @@ module _ (law : TextLaws) (told : Told) (p : Typed) (qt : List ℕ) (wrap : Plan
   script_gone steps is = ap (λ (q : Plan ⊥). outcome_of told q) (ap wrap (script_read p qt (Ok steps) is) ∙ goes steps)
 
   off_it : (f : Stop Breach) → steps_spelled p qt ≡ Err f → IsOffScript p qt f
-  off_it f e = record { refused = e; none = λ steps h. ok_is (steps_spelled p qt) steps f (law.scripts_read (words_over p) qt steps h) e }
+  off_it f e = record { none = λ steps h. ok_is (steps_spelled p qt) steps f (law.scripts_read (words_over p) qt steps h) e; first = (law.scripts_first (words_over p) qt f).0 e }
 
   module _ (behind : (steps : List PlainStep) (o : Outcome) → outcome_of told (next steps) ≡ Some o → Next steps o) where
     by_script : (o : Outcome) (r : Result (List PlainStep) (Stop Breach)) → steps_spelled p qt ≡ r → outcome_of told (wrap (script_of_text p qt)) ≡ Some o → ScriptGoes p qt Next o
@@ -169,7 +171,7 @@ module _ (law : TextLaws) (told : Told) (p : Typed) (qt : List ℕ) (wrap : Plan
     script_to o e = by_script o (steps_spelled p qt) refl e
 
   pub script_from : ((steps : List PlainStep) (o : Outcome) → Next steps o → outcome_of told (next steps) ≡ Some o) → (o : Outcome) → ScriptGoes p qt Next o → outcome_of told (wrap (script_of_text p qt)) ≡ Some o
-  script_from behind o (off_script f h) = script_ended f h.refused
+  script_from behind o (off_script f h) = script_ended f ((law.scripts_first (words_over p) qt f).1 h.first)
   script_from behind o (is_script steps q h n) = script_gone steps (law.scripts_read (words_over p) qt steps h) ∙ behind steps q n
 
 -- CONDITIONS

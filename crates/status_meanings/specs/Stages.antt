@@ -16,6 +16,10 @@ use Rattle.expression_typer.specs.Placed.{IsLeast}
 use Rattle.spl_typer.specs.Programs.{Typed}
 use Rattle.spl_typer.specs.ProgramRules.{program_faults}
 use Rattle.proof_grammar.specs.Grammar.{SpellsScript}
+use Rattle.script_grammar.specs.Grammar.{IsRawScript}
+use Rattle.script_grammar.specs.Rules.{broken_rules}
+use Rattle.script_grammar.specs.Theorems.{Forms, Sums}
+use Rattle.script_grammar.specs.FirstFaults.{IsFirstFault}
 use Rattle.step_report.specs.declared.refusals.FileRole.{FileRole}
 use Rattle.step_report.specs.declared.refusals.FileRole.TheVariants.{Program, Proof}
 use Rattle.step_plan.specs.Limits.{length_limit, too_long, limited}
@@ -23,7 +27,7 @@ use Rattle.step_plan.specs.Outcome.{Outcome}
 use Rattle.step_plan.specs.Plan.{Told}
 use Rattle.step_run.specs.Refusals.{of_stop, of_rule}
 use Rattle.step_run.specs.Outcome.{program_refused, script_refused}
-use Rattle.step_run.specs.Conditions.{Posed, words_over, steps_spelled, conditions_of, passes_limit, limit_of}
+use Rattle.step_run.specs.Conditions.{Posed, words_over, conditions_of, passes_limit, limit_of}
 use Rattle.step_run.specs.Traced.{Scripted}
 use Rattle.step_run.specs.WellFormed.{IsProgram}
 
@@ -46,10 +50,11 @@ pub data ProgramGoes (pt : List ℕ) (Next : Typed → Outcome → Type 0) : Out
   breaks_rule : (x : raw.Program) (f : TypeFault) → Spells pt x → IsLeast f (program_faults x) → ProgramGoes pt Next (program_refused (of_rule f))
   is_program : (p : Typed) (o : Outcome) → IsProgram pt p → Next p o → ProgramGoes pt Next o
 
--- no script is spelled over the program, and the text is read up to this fault
+-- no script is spelled over the program, and this is the first fault: a rule that is broken in what begins the text, or else
+-- where the grammar doesn't go on
 pub record IsOffScript (p : Typed) (qt : List ℕ) (f : Stop Breach) : Type 0 where
-  pub refused : steps_spelled p qt ≡ Err f
   pub none : (steps : List PlainStep) → SpellsScript (words_over p) qt steps → ⊥
+  pub first : IsFirstFault (IsRawScript Forms Sums) (broken_rules (words_over p)) (text_stream qt) f
 
 pub data ScriptGoes (p : Typed) (qt : List ℕ) (Next : List PlainStep → Outcome → Type 0) : Outcome → Type 0 where
   off_script : (f : Stop Breach) → IsOffScript p qt f → ScriptGoes p qt Next (script_refused f)

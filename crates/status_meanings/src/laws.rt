@@ -13,6 +13,7 @@ use proof_grammar::laws::{read_scripts_are_spelled, spelled_scripts_are_read};
 use schedule_grammar::laws::{
     read_schedules_are_spelled, schedules_first_fault, spelled_schedules_are_read,
 };
+use script_grammar::laws::scripts_first_fault;
 use spl_parser::laws::{first_fault, what_is_read_is_spelled, what_is_spelled_is_read};
 use trace_laws::laws::{made_schedules_are_runs, schedules_stop_where_runs_do};
 use typing_laws::laws::{read_is_typed, typed_is_well};
@@ -30,6 +31,7 @@ pub fn runs_end_so()
     typed_is_well();
     read_scripts_are_spelled();
     spelled_scripts_are_read();
+    scripts_first_fault();
     spelled_is_read();
     header_is_read();
     read_is_spelled();

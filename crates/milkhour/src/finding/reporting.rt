@@ -84,7 +84,7 @@ fn unfound_report(alloc: Global, goal: &str, reason: &str) -> Result<FindReport,
 fn reason_of(alloc: Global, unfound: Unfound, budget: u64) -> Result<String, AllocError> {
     match unfound {
         Unfound::Budget => format!(in alloc;
-            "the budget of {budget} questions is spent: --budget N allows more"
+            "the budget of {budget} questions is spent: --budget N allows more; try `milkhour invariants` first"
         ),
         Unfound::Wide => String::from_str(
             alloc,

@@ -4,7 +4,7 @@ use super::Account;
 use super::data::{Told, file};
 use crate::trouble::Trouble;
 use explanations::Report;
-use fault_reports::warnings;
+use fault_reports::{uncited, warnings};
 use milkhour_run::{Question, Status};
 use milkhour_words::Format;
 use proof_reports::{EquationReport, Fault};
@@ -32,18 +32,21 @@ pub fn warned_of(alloc: Global, account: &Account<'_>) -> Result<Vec<Fault>, Mem
     }
     let given = account.given;
     let texts = given.texts();
-    warnings(
-        alloc,
-        file(given.program.name, texts.program),
-        file(given.proof_name(), texts.proof),
-    )
+    let program = file(given.program.name, texts.program);
+    let proof = file(given.proof_name(), texts.proof);
+    let mut found = warnings(alloc, program, proof)?;
+    if let Some(goals) = account.options.goals {
+        found.append(&mut uncited(alloc, program, proof, goals)?)?;
+    }
+    Ok(found)
 }
 
-/// Whether the first failure that is explained is another one than `step` names. The status is `step`'s all the same.
+/// Whether a condition is shown as open before the one that `step` names, which is the first that its search leaves open, or none at all.
+/// The status is `step`'s all the same.
 fn disagrees(status: Status, report: &Report) -> bool {
     match status {
-        Status::NotProved(number) => match report.failures.first() {
-            Some(failure) => failure.number != number as u64,
+        Status::NotProved(number) => match report.numbers.first() {
+            Some(first) => *first < number as u64,
             None => true,
         },
         _ => false,

@@ -12,6 +12,7 @@ returns c =
       well = c.typed_is_well.ensures;
       scripts_spelled = c.read_scripts_are_spelled.ensures;
       scripts_read = c.spelled_scripts_are_read.ensures;
+      scripts_first = c.scripts_first_fault.ensures;
     })
     (record {
       read = c.spelled_is_read.ensures;

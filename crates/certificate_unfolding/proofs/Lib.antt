@@ -1,0 +1,3 @@
+pub mod Unfolding
+pub mod Counting
+pub mod Spelling

@@ -1,0 +1,11 @@
+pub mod Passing
+pub mod Names
+pub mod Acts
+pub mod Parts
+pub mod Composing
+pub mod Standing
+pub mod Walks
+pub mod Headings
+pub mod Weighed
+pub mod Declared
+pub mod Whole

@@ -1,0 +1,5 @@
+use Rattle.script_grammar.proofs.JudgedSteps as proved
+use Rattle.script_grammar.proofs.laws.response_steps_first_fault.Goals as goal
+
+pub returns : goal.returns
+returns c = proved.response_steps_first_fault

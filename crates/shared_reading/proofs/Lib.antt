@@ -1,0 +1,5 @@
+pub mod Splitting
+pub mod Loops
+pub mod Values
+pub mod Placing
+pub mod Cutting

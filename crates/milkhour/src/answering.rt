@@ -1,9 +1,10 @@
 //! The five tasks of `step`. The status is that of `step`, but where it leaves a condition open for which the stronger search finds a
 //! certificate.
 
+use crate::beside::{self, Beside, Saying};
 use crate::facts::with_facts;
 use crate::given::{Given, GivenText};
-use crate::reports::{Account, Shown, shown_of, warned_of};
+use crate::reports::{Account, Shown, shown_of};
 use crate::streams::{Streams, Target, style_of, write_remark, write_result};
 use crate::trouble::Trouble;
 use milkhour_run::{Answer, Question, Status, Texts};
@@ -90,6 +91,11 @@ fn write_shown<R: Runtime + AllocGlobal>(
     }
 }
 
+/// Whether both texts were read and their conditions decided, so that something can be said of what the claims are worth.
+fn is_decided(status: Status) -> bool {
+    matches!(status, Status::Proved | Status::NotProved(_))
+}
+
 /// Tells an answer in another form than that of `step`.
 fn tell<R: Runtime + AllocGlobal, G: Gate>(
     rt: &R,
@@ -99,6 +105,7 @@ fn tell<R: Runtime + AllocGlobal, G: Gate>(
     given: &Given<'_>,
     options: &Options<'_>,
     answer: &Answer,
+    begun: Option<Saying>,
 ) -> Result<(), Trouble> {
     if answer.status == Status::ReadFault {
         tell_unreadable(rt, given)?;
@@ -115,8 +122,12 @@ fn tell<R: Runtime + AllocGlobal, G: Gate>(
         style: style_of(rt, streams, target, options.colour),
         remark_style: style_of(rt, streams, Target::Remark, options.colour),
     };
-    let warnings = warned_of(rt.alloc(), &account)?;
-    let shown = shown_of(rt.alloc(), gate, &account, warnings.as_slice())?;
+    let beside = if is_decided(answer.status) {
+        beside::finish(rt, begun, question, given, options)?
+    } else {
+        Beside::nothing(rt.alloc())
+    };
+    let shown = shown_of(rt.alloc(), gate, &account, beside)?;
     write_shown(rt, target, &shown)
 }
 
@@ -150,12 +161,15 @@ pub fn answer_question<R: Runtime + AllocGlobal + Threads + Sync>(
     given: &Given<'_>,
     options: &Options<'_>,
 ) -> Result<u8, Trouble> {
+    let begun = beside::begin(rt, question, given, options)?;
     let progress = Progress::new(rt, Watch::begin(rt, streams.is_error_terminal));
     let answer = shown_answer(rt, question, options, &given.texts(), &progress)?;
     if options.format == Format::Plain {
         write_result(rt, options.output, answer.text.as_slice())?;
     } else {
-        tell(rt, &progress, streams, question, given, options, &answer)?;
+        tell(
+            rt, &progress, streams, question, given, options, &answer, begun,
+        )?;
     }
     Ok(answer.status.number())
 }

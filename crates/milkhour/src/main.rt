@@ -2,6 +2,7 @@
 #![tactic(auto)]
 
 mod answering;
+mod beside;
 mod drawing;
 mod explaining;
 mod facts;

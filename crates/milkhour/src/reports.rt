@@ -6,14 +6,13 @@ mod pages;
 mod remarks;
 mod texts;
 
+use crate::beside::Beside;
 use crate::given::Given;
 use crate::trouble::Trouble;
 use data::told_of;
 pub use documents::document;
 use milkhour_run::{Answer, Question};
 use milkhour_words::{Format, Options};
-use proof_reports::Fault;
-pub use remarks::warned_of;
 use screens::Style;
 use st_outside::Gate;
 use std::alloc::Global;
@@ -41,12 +40,13 @@ pub fn shown_of<G: Gate>(
     alloc: Global,
     gate: &G,
     account: &Account<'_>,
-    warnings: &[Fault],
+    beside: Beside,
 ) -> Result<Shown, Trouble> {
-    let told = told_of(alloc, gate, account)?;
-    let remark = remarks::remark_of(alloc, account, &told, warnings)?;
+    let Beside { outline, warnings } = beside;
+    let told = told_of(alloc, gate, account, outline)?;
+    let remark = remarks::remark_of(alloc, account, &told, &warnings)?;
     let text = match account.options.format {
-        Format::Json => documents::document_of(alloc, &told, warnings)?,
+        Format::Json => documents::document_of(alloc, &told, &warnings)?,
         Format::Html => pages::page_of(alloc, account, &told)?,
         Format::Text | Format::Plain => texts::text_of(alloc, account, &told)?,
     };

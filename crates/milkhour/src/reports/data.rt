@@ -3,7 +3,7 @@
 use super::Account;
 use crate::given::Given;
 use equation_reports::report_equations;
-use explanations::{Report, Texts, explain, outline};
+use explanations::{Report, Texts, explain};
 use fault_reports::{Fault, TextFile, faults_of_program, faults_of_proof, faults_of_schedule};
 use milkhour_run::{Answer, Question, Status};
 use milkhour_words::Options;
@@ -48,7 +48,7 @@ fn headline(answer: &Answer) -> &str {
 }
 
 /// A text of the request, by its name.
-pub fn file<'b>(name: &'b str, bytes: Option<&'b [u8]>) -> TextFile<'b> {
+fn file<'b>(name: &'b str, bytes: Option<&'b [u8]>) -> TextFile<'b> {
     TextFile {
         name,
         text: bytes.unwrap_or(b"".as_slice()),
@@ -89,6 +89,7 @@ fn proof_report<G: Gate>(
     alloc: Global,
     gate: &G,
     account: &Account<'_>,
+    outline: Option<Report>,
 ) -> Result<Option<Report>, Memory> {
     let given = account.given;
     let held = given.texts();
@@ -102,7 +103,7 @@ fn proof_report<G: Gate>(
         proof,
     };
     match (account.question, account.answer.status) {
-        (Question::Verify | Question::Check, Status::Proved) => outline(alloc, &texts),
+        (Question::Verify | Question::Check, Status::Proved) => Ok(outline),
         (Question::Verify | Question::Prove, Status::NotProved(_)) => explain(
             alloc,
             gate,
@@ -118,8 +119,9 @@ fn proof_told<G: Gate>(
     alloc: Global,
     gate: &G,
     account: &Account<'_>,
+    outline: Option<Report>,
 ) -> Result<Option<Told>, Memory> {
-    let Some(mut report) = proof_report(alloc, gate, account)? else {
+    let Some(mut report) = proof_report(alloc, gate, account, outline)? else {
         return Ok(None);
     };
     report.status = account.answer.status.number();
@@ -205,18 +207,26 @@ fn report_told<G: Gate>(
     alloc: Global,
     gate: &G,
     account: &Account<'_>,
+    outline: Option<Report>,
 ) -> Result<Option<Told>, Memory> {
     match account.question {
         Question::Trace if asks_for_moves(account.options) => moves_told(alloc, account),
         Question::Trace => run_told(alloc, account),
         Question::Invariants => equations_told(alloc, account),
-        Question::Verify | Question::Check | Question::Prove => proof_told(alloc, gate, account),
+        Question::Verify | Question::Check | Question::Prove => {
+            proof_told(alloc, gate, account, outline)
+        }
     }
 }
 
-/// What is told of an answer.
-pub fn told_of<G: Gate>(alloc: Global, gate: &G, account: &Account<'_>) -> Result<Told, Memory> {
-    match report_told(alloc, gate, account)? {
+/// What is told of an answer; of a proof whose claims were all proved it is the outline.
+pub fn told_of<G: Gate>(
+    alloc: Global,
+    gate: &G,
+    account: &Account<'_>,
+    outline: Option<Report>,
+) -> Result<Told, Memory> {
+    match report_told(alloc, gate, account, outline)? {
         Some(told) => Ok(told),
         None => refusal_told(alloc, account),
     }

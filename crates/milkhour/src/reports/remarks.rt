@@ -1,45 +1,17 @@
-//! What is said beside a report: warnings, and what would be lost without it.
+//! What is written beside a report: warnings, and what would be lost without it.
 
 use super::Account;
-use super::data::{Told, file};
+use super::data::Told;
 use crate::trouble::Trouble;
 use explanations::Report;
-use fault_reports::{uncited, warnings};
-use milkhour_run::{Question, Status};
+use milkhour_run::Status;
 use milkhour_words::Format;
 use proof_reports::{EquationReport, Fault};
 use screens::{equations_screen, faults_screen};
-use st_memory::Memory;
 use std::alloc::Global;
 
 const AT_ODDS: &str =
     "milkhour: this explanation is at odds with the answer of step, whose status counts\n";
-
-/// Whether both texts were read and their conditions decided, so that something can be said of what the claims are worth.
-fn is_decided(account: &Account<'_>) -> bool {
-    let is_of_claims = matches!(
-        account.question,
-        Question::Verify | Question::Check | Question::Prove
-    );
-    let is_decided = matches!(account.answer.status, Status::Proved | Status::NotProved(_));
-    is_of_claims && is_decided
-}
-
-/// The warnings on texts that are accepted and yet say little.
-pub fn warned_of(alloc: Global, account: &Account<'_>) -> Result<Vec<Fault>, Memory> {
-    if !is_decided(account) {
-        return Ok(Vec::new(alloc));
-    }
-    let given = account.given;
-    let texts = given.texts();
-    let program = file(given.program.name, texts.program);
-    let proof = file(given.proof_name(), texts.proof);
-    let mut found = warnings(alloc, program, proof)?;
-    if let Some(goals) = account.options.goals {
-        found.append(&mut uncited(alloc, program, proof, goals)?)?;
-    }
-    Ok(found)
-}
 
 /// Whether a condition is shown as open before the one that `step` names, which is the first that its search leaves open, or none at all.
 /// The status is `step`'s all the same.

@@ -54,17 +54,16 @@ fn begins_nowhere(alloc: Global, program: &[u8]) -> Result<bool, Memory> {
 }
 
 /// The warning on a program that no state begins.
-fn of_program(alloc: Global, program: TextFile) -> Result<Option<Fault>, Memory> {
-    let source = Source::new(alloc, program)?;
+fn of_program(alloc: Global, source: &Source) -> Result<Option<Fault>, Memory> {
     let Some(first) = source.tokens.iter().find(|token| word_of(token) == "where") else {
         return Ok(None);
     };
-    if begins_plainly(alloc, &source)? || !begins_nowhere(alloc, program.text)? {
+    if begins_plainly(alloc, source)? || !begins_nowhere(alloc, source.file.text)? {
         return Ok(None);
     }
     Ok(Some(warning(
         alloc,
-        &source,
+        source,
         Span::of(first),
         "NoStart",
         "no state satisfies what stands behind `where`: there is no run, and each goal holds of none",
@@ -87,7 +86,7 @@ fn no_steps(alloc: Global, source: &Source) -> Result<Fault, Memory> {
 /// The warnings on a proof that is read.
 fn of_proof(
     alloc: Global,
-    program: TextFile,
+    program: &Source,
     proof: TextFile,
     out: &mut Vec<Fault>,
 ) -> Result<(), Memory> {
@@ -96,7 +95,7 @@ fn of_proof(
     if steps.is_empty() {
         out.push(no_steps(alloc, &source)?)?;
     }
-    for empty in &empty_claims(alloc, program.text, &source, &steps)? {
+    for empty in &empty_claims(alloc, program, &source, &steps)? {
         out.push(warning(
             alloc,
             &source,
@@ -112,9 +111,10 @@ fn of_proof(
 /// The warnings on a program and a proof that are read.
 pub fn warnings(alloc: Global, program: TextFile, proof: TextFile) -> Result<Vec<Fault>, Memory> {
     let mut out = Vec::new(alloc);
-    if let Some(fault) = of_program(alloc, program)? {
+    let source = Source::new(alloc, program)?;
+    if let Some(fault) = of_program(alloc, &source)? {
         out.push(fault)?;
     }
-    of_proof(alloc, program, proof, &mut out)?;
+    of_proof(alloc, &source, proof, &mut out)?;
     Ok(out)
 }

@@ -1,16 +1,18 @@
 //! Claims that say nothing: an invariance whose formula every state satisfies, a waiting-for or a response whose last formula holds
 //! wherever it begins. Whether a formula holds in every state is asked of the search, without a lemma: it is made the claim of an
-//! invariance `by true`, the first condition of which says that it follows from `true`.
+//! invariance `by true`, the first condition of which says that it follows from `true`. Most claims fall at a glance, and aren't asked about.
 
 ghost use Rattle.posed_conditions.specs.Translated.{IsTranslated};
 ghost use Rattle.posed_conditions.specs.Posed.{IsPosed};
 
 use crate::asking::{open_of, posed};
+use crate::glancing::{Label, falls_plainly, plain_labels};
 use crate::source::Source;
 use posed_conditions::PosedProof;
-use source_places::{Span, StepPlaces};
+use source_places::{Span, StepPlaces, tokens_of};
 use st_form::Premise;
 use st_memory::Memory;
+use st_tokens::Token;
 use std::alloc::Global;
 
 /// A claim that says nothing, and why.
@@ -61,13 +63,45 @@ fn push_question(out: &mut Vec<u8>, source: &Source, step: &StepPlaces) -> Resul
     Ok(())
 }
 
-/// The invariances that ask it of each step.
-fn questions(alloc: Global, source: &Source, steps: &[StepPlaces]) -> Result<Vec<u8>, Memory> {
-    let mut out = Vec::new(alloc);
-    for step in steps {
-        push_question(&mut out, source, step)?;
+/// The tokens of the formula that a question claims: those between its name and `by true`.
+fn asked_of<'a, 'b>(question: &'b [Token<'a>]) -> &'b [Token<'a>] {
+    match question {
+        [_, _, _, formula @ .., _, _, _] => formula,
+        _ => question,
     }
-    Ok(out)
+}
+
+/// Whether it is seen at a glance that a question is denied.
+fn is_denied_plainly(
+    alloc: Global,
+    question: &[u8],
+    labels: &Option<Vec<Label>>,
+) -> Result<bool, Memory> {
+    match labels {
+        Some(labels) => falls_plainly(alloc, asked_of(&tokens_of(alloc, question)?), labels),
+        None => Ok(false),
+    }
+}
+
+/// The invariances that ask it of the steps of which it isn't seen at a glance, and the numbers of these.
+fn questions(
+    alloc: Global,
+    program: &Source,
+    source: &Source,
+    steps: &[StepPlaces],
+) -> Result<(Vec<u8>, Vec<usize>), Memory> {
+    let labels = plain_labels(alloc, program)?;
+    let mut text = Vec::new(alloc);
+    let mut numbers = Vec::new(alloc);
+    for (number, step) in steps.iter().enumerate() {
+        let mut question = Vec::new(alloc);
+        push_question(&mut question, source, step)?;
+        if !is_denied_plainly(alloc, &question, &labels)? {
+            text.append(&mut question)?;
+            numbers.push(number)?;
+        }
+    }
+    Ok((text, numbers))
 }
 
 /// The numbers of the questions that the search doesn't affirm.
@@ -89,18 +123,24 @@ fn denied(alloc: Global, asked: &PosedProof) -> Result<Vec<usize>, Memory>
 /// The claims of a proof that say nothing, in their order.
 pub(crate) fn empty_claims(
     alloc: Global,
-    program: &[u8],
+    program: &Source,
     source: &Source,
     steps: &[StepPlaces],
 ) -> Result<Vec<Emptiness>, Memory> {
     let mut out = Vec::new(alloc);
-    let questions = questions(alloc, source, steps)?;
-    let Some(asked) = posed(alloc, program, &questions)? else {
+    let (questions, numbers) = questions(alloc, program, source, steps)?;
+    if numbers.is_empty() {
+        return Ok(out);
+    }
+    let Some(asked) = posed(alloc, program.file.text, &questions)? else {
         return Ok(out);
     };
     let denied = denied(alloc, &asked)?;
-    for (number, step) in steps.iter().enumerate() {
-        if let (false, Some(span)) = (denied.contains(&number), target(source, step)) {
+    for (place, number) in numbers.iter().enumerate() {
+        let Some(step) = steps.get(*number) else {
+            continue;
+        };
+        if let (false, Some(span)) = (denied.contains(&place), target(source, step)) {
             out.push(Emptiness {
                 span,
                 sentence: sentence_of(source.word_at(step.whole.from)),

@@ -1,7 +1,8 @@
 //! Programs that some state begins, as is seen at a glance: where each variable is spoken of once at most, by itself or beside a number,
-//! each part can be met for itself, and so all of them together. Of other programs the search has to be asked, which is dearer than
-//! all else that a warning costs.
+//! each part can be met for itself, and so all of them together; or a state in which all variables are equal is one. Of other programs
+//! the search has to be asked, which is dearer than all else that a warning costs.
 
+use crate::glancing::begins_equally;
 use crate::source::{Source, word_of};
 use st_memory::Memory;
 use std::alloc::Global;
@@ -93,8 +94,8 @@ fn is_plain<'a>(
     Ok(false)
 }
 
-/// Whether it is seen at a glance that some state begins the program, which is read and typed.
-pub(crate) fn begins_plainly(alloc: Global, source: &Source) -> Result<bool, Memory> {
+/// Whether each part that is said of the variables can be met for itself.
+fn begins_in_parts(alloc: Global, source: &Source) -> Result<bool, Memory> {
     let mut names = Vec::new(alloc);
     for (number, token) in source.tokens.iter().enumerate() {
         if word_of(token) == "where" && !is_plain(source, number.saturating_add(1), &mut names)? {
@@ -102,4 +103,9 @@ pub(crate) fn begins_plainly(alloc: Global, source: &Source) -> Result<bool, Mem
         }
     }
     Ok(true)
+}
+
+/// Whether it is seen at a glance that some state begins the program, which is read and typed.
+pub(crate) fn begins_plainly(alloc: Global, source: &Source) -> Result<bool, Memory> {
+    Ok(begins_in_parts(alloc, source)? || begins_equally(alloc, &source.tokens)?)
 }

@@ -97,7 +97,7 @@ fn is_decided(status: Status) -> bool {
 }
 
 /// Tells an answer in another form than that of `step`.
-fn tell<R: Runtime + AllocGlobal, G: Gate>(
+fn tell<R: Runtime + AllocGlobal + Threads, G: Gate>(
     rt: &R,
     gate: &G,
     streams: Streams,

@@ -2,7 +2,9 @@
 
 use crate::definition::command_line;
 use crate::meant::{command_behind, command_meant};
-use crate::request::{Colour, FileNames, Format, Layout, Options, Request, Task, Work};
+use crate::request::{
+    Colour, FileNames, Format, Layout, Options, QUESTIONS, Request, SHOWN, Task, Work,
+};
 use clap::error::ErrorKind;
 use clap::{ArgMatches, Command, Error};
 use std::alloc::{AllocError, Global};
@@ -36,14 +38,14 @@ fn options_of<'a>(matches: &ArgMatches<'a>) -> Options<'a> {
     let limit = if matches.get_flag("first") {
         1
     } else {
-        number(matches, "limit", 20)
+        number(matches, "limit", SHOWN)
     };
     Options {
         format: format_named(matches.get_str("format")),
         colour: colour_named(matches.get_str("color")),
         limit,
         workers: number(matches, "workers", 1).clamp(1, 64),
-        budget: number(matches, "budget", 200_000) as u64,
+        budget: number(matches, "budget", QUESTIONS) as u64,
         goals: matches.get_str("goals"),
         only: matches.get_str("only"),
         smt: matches.get_flag("smt"),
@@ -138,6 +140,45 @@ fn request_in<'a>(matches: &ArgMatches<'a>) -> Option<Request<'a>> {
     }
 }
 
+/// Whether a word is no option, and no name of standard input.
+fn is_plain_name(word: &String) -> bool {
+    match word.as_bytes().first() {
+        Some(first) => *first != b'-',
+        None => false,
+    }
+}
+
+/// The request of words that need no table: a search over one file or two, without options.
+fn plain_request<'a>(words: &'a [String]) -> Option<Request<'a>> {
+    let [_, command, files @ ..] = words else {
+        return None;
+    };
+    let (program, proof) = match files {
+        [program] => (program, None),
+        [program, proof] => (program, Some(proof.as_str())),
+        _ => return None,
+    };
+    let task = match command.as_str() {
+        "verify" => Task::Verify,
+        "prove" => Task::Prove,
+        _ => return None,
+    };
+    if !files.iter().all(|file| is_plain_name(file)) {
+        return None;
+    }
+    let files = FileNames {
+        program: program.as_str(),
+        proof,
+        third: None,
+        drawing: None,
+    };
+    Some(Request::Work(Work {
+        task,
+        files,
+        options: Options::unsaid(),
+    }))
+}
+
 /// Whether the words ask for a language server, with what editors add.
 fn asks_to_serve(words: &[String]) -> bool {
     match words {
@@ -198,6 +239,9 @@ pub fn read_words<'a>(alloc: Global, words: &'a [String]) -> Result<Request<'a>,
     }
     if asks_to_serve(words) {
         return Ok(Request::Serve);
+    }
+    if let Some(request) = plain_request(words) {
+        return Ok(request);
     }
     let mut line = command_line(alloc)?;
     let matches = match line.try_get_matches_from_mut(words) {

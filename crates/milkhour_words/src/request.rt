@@ -83,6 +83,31 @@ pub struct Options<'a> {
     pub output: Option<&'a str>,
 }
 
+/// The most conditions that are shown, where nothing else is said.
+pub(crate) const SHOWN: u32 = 20;
+
+/// The most questions that a search puts, where nothing else is said.
+pub(crate) const QUESTIONS: u32 = 200_000;
+
+impl Options<'_> {
+    /// The options of words that have none.
+    pub(crate) fn unsaid<'a>() -> Options<'a> {
+        Options {
+            format: Format::Text,
+            colour: Colour::Auto,
+            limit: SHOWN,
+            workers: 1,
+            budget: QUESTIONS as u64,
+            goals: None,
+            only: None,
+            smt: false,
+            from: None,
+            step: false,
+            output: None,
+        }
+    }
+}
+
 /// A task over files.
 #[derive(Clone, Copy, Debug, PartialEq, Eq)]
 pub struct Work<'a> {

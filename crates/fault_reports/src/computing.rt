@@ -2,16 +2,9 @@
 //! *Algol 60 translation*, 1961). No recursion, so nesting takes no stack; what isn't understood has no value.
 
 use crate::source::word_of;
+use crate::trials::{Trial, Value};
 use st_memory::Memory;
-use st_tokens::Token;
 use std::alloc::Global;
-
-/// The value of a part of a formula.
-#[derive(Clone, Copy)]
-pub(crate) enum Value {
-    Truth(bool),
-    Number(i64),
-}
 
 /// A sign that waits for what stands behind it.
 #[derive(Clone, Copy, PartialEq, Eq)]
@@ -167,19 +160,15 @@ impl Stacks {
     }
 }
 
-/// What a formula's tokens come to, where each part has its value by its place; `None` where it isn't understood.
-pub(crate) fn computed<F: Fn(usize) -> Option<Value>>(
-    alloc: Global,
-    tokens: &[Token],
-    value_at: F,
-) -> Result<Option<Value>, Memory> {
+/// What a claim comes to in a state that is tried; `None` where it isn't understood.
+pub(crate) fn computed(alloc: Global, trial: &Trial<'_, '_>) -> Result<Option<Value>, Memory> {
     let mut stacks = Stacks {
         values: Vec::new(alloc),
         signs: Vec::new(alloc),
     };
     let mut is_asked = true;
     let mut is_label = false;
-    for (place, token) in tokens.iter().enumerate() {
+    for (place, token) in trial.tokens.iter().enumerate() {
         let word = word_of(token);
         if !is_asked {
             match stacks.take_between(word)? {
@@ -191,7 +180,7 @@ pub(crate) fn computed<F: Fn(usize) -> Option<Value>>(
         } else if let (Some(sign), false) = (Sign::before(word), is_label) {
             stacks.signs.push(sign)?;
         } else {
-            match value_at(place) {
+            match trial.value(place) {
                 Some(value) => stacks.values.push(value)?,
                 None => return Ok(None),
             }

@@ -1,8 +1,9 @@
 //! Claims that some state falsifies, as is seen at a glance: a few states are tried, in which each process stands at a label that the claim
 //! names, or at its end. Of other claims the search has to be asked, which is dearer than all else that a warning costs.
 
-use crate::computing::{Value, computed};
+use crate::computing::computed;
 use crate::source::{Source, word_of};
+use crate::trials::{Numbers, Trial, Value, word_at};
 use st_memory::Memory;
 use st_tokens::Token;
 use std::alloc::Global;
@@ -59,14 +60,6 @@ pub(crate) fn plain_labels<'a>(
     Ok(Some(out))
 }
 
-/// What numbers the variables have in a state that is tried.
-#[derive(Clone, Copy)]
-enum Numbers {
-    All(i64),
-    /// Each another one.
-    Distinct,
-}
-
 /// Where the processes stand in a state that is tried: at their ends, or each at the first or at the last of its labels that a claim names.
 #[derive(Clone, Copy, PartialEq, Eq)]
 enum Places {
@@ -83,72 +76,6 @@ const NUMBERS: [Numbers; 4] = [
 ];
 
 const PLACES: [Places; 3] = [Places::First, Places::Last, Places::Ends];
-
-/// A state that is tried on a claim.
-#[derive(Drop)]
-struct Trial<'b> {
-    tokens: &'b [Token<'b>],
-    held: &'b [&'b str],
-    numbers: Numbers,
-    truth: bool,
-}
-
-fn word_at<'b>(tokens: &'b [Token<'b>], at: usize) -> &'b str {
-    match tokens.get(at) {
-        Some(token) => word_of(token),
-        None => "",
-    }
-}
-
-/// Whether a word stands beside numbers.
-fn is_of_numbers(word: &str) -> bool {
-    matches!(word, "=" | "!=" | "<" | "<=" | ">" | ">=" | "+" | "-" | "*")
-}
-
-/// The number that digits are; `None` where they are too many.
-fn number(word: &str) -> Option<i64> {
-    let mut found: i64 = 0;
-    for digit in word.bytes() {
-        found = found
-            .checked_mul(10)?
-            .checked_add((digit as i64).checked_sub(48)?)?;
-    }
-    Some(found)
-}
-
-impl Trial<'_> {
-    /// The place of a name's first occurrence in the claim.
-    fn first(&self, name: &str) -> usize {
-        self.tokens
-            .iter()
-            .position(|token| word_of(token) == name)
-            .unwrap_or(0)
-    }
-
-    /// What a name or a number at a place is worth.
-    fn value(&self, at: usize) -> Option<Value> {
-        let word = word_at(self.tokens, at);
-        let before = word_at(self.tokens, at.saturating_sub(1));
-        let behind = word_at(self.tokens, at.saturating_add(1));
-        if 0 < at && before == "at" {
-            return Some(Value::Truth(self.held.iter().any(|label| *label == word)));
-        }
-        let first = word.as_bytes().first().copied()?;
-        match word {
-            "true" => Some(Value::Truth(true)),
-            "false" => Some(Value::Truth(false)),
-            _ if first.is_ascii_digit() => Some(Value::Number(number(word)?)),
-            _ if !first.is_ascii_alphabetic() => None,
-            _ if is_of_numbers(behind) || 0 < at && is_of_numbers(before) => {
-                Some(Value::Number(match self.numbers {
-                    Numbers::All(number) => number,
-                    Numbers::Distinct => self.first(word) as i64,
-                }))
-            }
-            _ => Some(Value::Truth(self.truth)),
-        }
-    }
-}
 
 /// The labels that are held in a state that is tried; `None` where a label isn't the program's.
 fn held<'b>(
@@ -185,7 +112,11 @@ fn held<'b>(
 }
 
 /// Whether one of the states with these labels falsifies a claim.
-fn falls_at(alloc: Global, tokens: &[Token], held: &[&str]) -> Result<bool, Memory> {
+fn falls_at<'t, 'h>(
+    alloc: Global,
+    tokens: &'t [Token<'t>],
+    held: &'h [&'t str],
+) -> Result<bool, Memory> {
     for numbers in NUMBERS {
         for truth in [true, false] {
             let trial = Trial {
@@ -194,7 +125,7 @@ fn falls_at(alloc: Global, tokens: &[Token], held: &[&str]) -> Result<bool, Memo
                 numbers,
                 truth,
             };
-            let found = computed(alloc, tokens, |at| trial.value(at))?;
+            let found = computed(alloc, &trial)?;
             match found {
                 Some(Value::Truth(false)) => return Ok(true),
                 Some(Value::Truth(true)) => {}
@@ -239,20 +170,21 @@ fn starts<'b>(alloc: Global, tokens: &'b [Token<'b>]) -> Result<Vec<&'b [Token<'
 }
 
 /// Whether a state with these numbers and truth values in all variables satisfies all formulas.
-fn satisfies(
+fn satisfies<'t>(
     alloc: Global,
-    formulas: &[&[Token]],
+    formulas: &[&'t [Token<'t>]],
     numbers: Numbers,
     truth: bool,
 ) -> Result<bool, Memory> {
     for formula in formulas {
+        let formula: &'t [Token<'t>] = *formula;
         let trial = Trial {
             tokens: formula,
             held: &[],
             numbers,
             truth,
         };
-        let found = computed(alloc, formula, |at| trial.value(at))?;
+        let found = computed(alloc, &trial)?;
         if !matches!(found, Some(Value::Truth(true))) {
             return Ok(false);
         }
@@ -261,7 +193,7 @@ fn satisfies(
 }
 
 /// Whether it is seen at a glance that a state in which all variables of a kind are equal begins the program of these tokens.
-pub(crate) fn begins_equally(alloc: Global, tokens: &[Token]) -> Result<bool, Memory> {
+pub(crate) fn begins_equally<'t>(alloc: Global, tokens: &'t [Token<'t>]) -> Result<bool, Memory> {
     let formulas = starts(alloc, tokens)?;
     for number in [0, 1, 3] {
         for truth in [false, true] {

@@ -25,6 +25,7 @@ mod syntax;
 mod texts;
 mod told;
 mod transitions;
+mod trials;
 mod units;
 
 pub use accepted::warnings;

@@ -9,6 +9,7 @@ mod texts;
 use crate::beside::Beside;
 use crate::given::Given;
 use crate::trouble::Trouble;
+pub use data::moves_report;
 use data::told_of;
 pub use documents::document;
 use milkhour_run::{Answer, Question};

@@ -4,11 +4,12 @@
 use crate::answering::answer_question;
 use crate::given::Given;
 use crate::listing_moves::schedule_given;
+use crate::reports::moves_report;
 use crate::streams::{Streams, write_remark, write_result};
 use crate::trouble::Trouble;
 use milkhour_run::{Question, Status};
 use milkhour_words::{Format, Options};
-use possible_moves::{Choice, MoveTexts, MovesReport, choice_of, report_moves};
+use possible_moves::{Choice, MovesReport, choice_of};
 use std::alloc::Global;
 use std::io::{BufRead, ErrorKind};
 use std::rt::Runtime;
@@ -42,20 +43,6 @@ fn show<R: Runtime + AllocGlobal + Threads + Sync>(
     Ok(())
 }
 
-/// The state to which the schedule leads; `None` where it leads to none.
-fn report_of(alloc: Global, given: &Given<'_>) -> Result<Option<MovesReport>, Trouble> {
-    let held = given.texts();
-    let (Some(program), Some(schedule)) = (held.program, held.third) else {
-        return Ok(None);
-    };
-    let texts = MoveTexts {
-        program_name: given.program.name,
-        program,
-        schedule,
-    };
-    Ok(report_moves(alloc, &texts)?)
-}
-
 /// The next line; `None` at the end of the input.
 fn next_line<I: BufRead + Drop>(
     alloc: Global,
@@ -87,7 +74,7 @@ fn advance<R: Runtime + AllocGlobal + Threads + Sync>(
     let alloc = rt.alloc();
     given.third = Some(schedule_given(alloc, schedule)?);
     show(rt, table, given)?;
-    if let Some(report) = report_of(alloc, given)? {
+    if let Some(report) = moves_report(alloc, given)? {
         session.before.push(session.now.schedule.clone()?)?;
         session.now = report;
     }
@@ -107,7 +94,7 @@ fn retreat<R: Runtime + AllocGlobal + Threads + Sync>(
     };
     given.third = Some(schedule_given(alloc, &schedule)?);
     show(rt, table, given)?;
-    if let Some(report) = report_of(alloc, given)? {
+    if let Some(report) = moves_report(alloc, given)? {
         session.now = report;
     }
     Ok(())
@@ -186,7 +173,7 @@ pub fn step_through<R: Runtime + AllocGlobal + Threads + Sync>(
 ) -> Result<u8, Trouble> {
     let alloc = rt.alloc();
     let table = Table { streams, options };
-    let Some(report) = report_of(alloc, given)? else {
+    let Some(report) = moves_report(alloc, given)? else {
         return answer_question(rt, streams, Question::Trace, given, options);
     };
     show(rt, table, given)?;

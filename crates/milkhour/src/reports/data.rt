@@ -163,9 +163,8 @@ fn asks_for_moves(options: &Options<'_>) -> bool {
     options.step || options.from.is_some()
 }
 
-/// The report of a state to which a schedule leads.
-fn moves_report(alloc: Global, account: &Account<'_>) -> Result<Option<MovesReport>, Memory> {
-    let given = account.given;
+/// The report of the state to which a schedule leads; `None` where it leads to none.
+pub fn moves_report(alloc: Global, given: &Given<'_>) -> Result<Option<MovesReport>, Memory> {
     let held = given.texts();
     let (Some(program), Some(schedule)) = (held.program, held.third) else {
         return Ok(None);
@@ -182,7 +181,7 @@ fn moves_told(alloc: Global, account: &Account<'_>) -> Result<Option<Told>, Memo
     if account.answer.status != Status::Proved {
         return Ok(None);
     }
-    let Some(mut report) = moves_report(alloc, account)? else {
+    let Some(mut report) = moves_report(alloc, account.given)? else {
         return Ok(None);
     };
     report.status = account.answer.status.number();

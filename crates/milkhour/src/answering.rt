@@ -7,6 +7,7 @@ use crate::given::{Given, GivenText};
 use crate::reports::{Account, Shown, shown_of};
 use crate::streams::{Streams, Target, style_of, write_remark, write_result};
 use crate::trouble::Trouble;
+use crate::versions::{asks_for_certificates, in_version, tell_unfolding};
 use milkhour_run::{Answer, Question, Status, Texts};
 use milkhour_words::{Format, Options};
 use progress_lines::{Progress, Watch};
@@ -163,13 +164,18 @@ pub fn answer_question<R: Runtime + AllocGlobal + Threads + Sync>(
 ) -> Result<u8, Trouble> {
     let begun = beside::begin(rt, question, given, options)?;
     let progress = Progress::new(rt, Watch::begin(rt, streams.is_error_terminal));
-    let answer = shown_answer(rt, question, options, &given.texts(), &progress)?;
+    let found = shown_answer(rt, question, options, &given.texts(), &progress)?;
+    let are_looked_at = asks_for_certificates(found.status);
+    let answer = in_version(rt.alloc(), question, given, options, found)?;
     if options.format == Format::Plain {
         write_result(rt, options.output, answer.text.as_slice())?;
     } else {
         tell(
             rt, &progress, streams, question, given, options, &answer, begun,
         )?;
+        if are_looked_at {
+            tell_unfolding(rt, given)?;
+        }
     }
     Ok(answer.status.number())
 }

@@ -1,6 +1,7 @@
 //! The texts that a request names, each read once and before anything is done with them.
 
 use crate::trouble::Trouble;
+use crate::versions::{Unfolding, unfold};
 use host_outside::{file_text, input_text};
 use milkhour_run::Texts;
 use milkhour_words::{FileNames, Task};
@@ -45,6 +46,8 @@ pub struct Given<'a> {
     pub program: GivenText<'a>,
     pub proof: Option<GivenText<'a>>,
     pub third: Option<GivenText<'a>>,
+    /// Why certificates of version 3 aren't unfolded; where they are, their text of version 2 stands in their place.
+    pub unfolding: Option<Unfolding>,
     /// What a page shows beside the texts.
     pub drawing: Option<GivenText<'a>>,
 }
@@ -111,6 +114,11 @@ fn read_most<'a, R: Runtime + AllocGlobal>(rt: &R, name: &'a str, most: u64) -> 
         name,
         bytes: file_text(rt, rt.alloc(), name, most),
     }
+}
+
+/// A text of certificates.
+pub fn read_certificates<'a, R: Runtime + AllocGlobal>(rt: &R, name: &'a str) -> GivenText<'a> {
+    read_most(rt, name, MOST_OF_CERTIFICATES)
 }
 
 fn is_input(name: Option<&str>) -> bool {
@@ -204,9 +212,13 @@ pub fn read_files<'a, R: Runtime + AllocGlobal>(
         Some(name) => (program, Some(read_text(rt, name))),
         None => parting(alloc, program)?,
     };
-    let third = match files.third {
+    let mut third = match files.third {
         Some(name) => Some(read_most(rt, name, most_of_third(task))),
         None => None,
+    };
+    let unfolding = match &mut third {
+        Some(text) if task == Task::Check => unfold(alloc, text)?,
+        _ => None,
     };
     Ok(Given {
         task,
@@ -214,6 +226,7 @@ pub fn read_files<'a, R: Runtime + AllocGlobal>(
         program,
         proof,
         third,
+        unfolding,
         drawing: read_drawing(rt, files.drawing)?,
     })
 }

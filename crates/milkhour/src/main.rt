@@ -18,6 +18,7 @@ mod stepping_through;
 mod streams;
 mod titles;
 mod trouble;
+mod versions;
 mod working;
 
 use host_outside::given_words;
@@ -40,6 +41,7 @@ fn run<R: Runtime + AllocGlobal + Threads + Sync>(rt: &R, streams: Streams) -> R
         Ok(Request::Step) => Ok(stepping::step(rt, &words)),
         Ok(Request::Explain(word)) => explaining::explain(rt, word),
         Ok(Request::Layout(layout)) => laying::lay_out(rt, &layout),
+        Ok(Request::Rewrite(rewriting)) => versions::rewrite(rt, &rewriting),
         Ok(Request::Serve) => serving::serve(rt),
         Ok(Request::Work(work)) => working::work(rt, streams, &work),
         Err(refusal) => streams::refuse_words(rt, &refusal),

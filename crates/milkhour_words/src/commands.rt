@@ -1,8 +1,8 @@
 //! The commands. Help is made of this table, and so can be completions and a man page.
 
 use crate::options::{
-    BUDGET, CHECK, COLOUR, DRAWING, FIRST, FORMAT, FOUND_FORMAT, FROM, GOALS, JUDGES, LIMIT, ONLY,
-    OUTPUT, OptionRow, SMT, STEP, WORKERS,
+    BUDGET, CHECK, COLOUR, DRAWING, EDITION, FIRST, FORMAT, FOUND_FORMAT, FROM, GOALS, JUDGES,
+    LIMIT, ONLY, OUTPUT, OptionRow, SMT, STEP, WORKERS,
 };
 
 /// The version of the program. The changelog has its date.
@@ -64,6 +64,13 @@ const TEXT: FileRow = FileRow {
     help: "A program, a proof, or one file with both; - is standard input",
 };
 
+const CERTIFICATES: FileRow = FileRow {
+    least: 1,
+    most: 1,
+    usage: "CERTIFICATES",
+    help: "Certificates of any version; - is standard input",
+};
+
 const STREAMS: FileRow = FileRow {
     least: 0,
     most: 1,
@@ -109,7 +116,7 @@ pub static QUESTIONS: [CommandRow; 5] = [
         name: "prove",
         about: "Search as verify does, and write the certificates",
         files: SOURCE,
-        options: &[FIRST, LIMIT, FORMAT, COLOUR, OUTPUT, WORKERS],
+        options: &[FIRST, LIMIT, EDITION, FORMAT, COLOUR, OUTPUT, WORKERS],
         usage: "milkhour prove [OPTIONS] PROGRAM [PROOF]",
         example: "Example:\n  milkhour prove peterson.spl peterson.proof -o peterson.certs",
     },
@@ -132,7 +139,7 @@ pub static QUESTIONS: [CommandRow; 5] = [
 ];
 
 /// What else there is.
-pub static TOOLS: [CommandRow; 7] = [
+pub static TOOLS: [CommandRow; 8] = [
     CommandRow {
         name: "find",
         about: "Find a proof of each claim, or a run on which it fails",
@@ -164,6 +171,14 @@ pub static TOOLS: [CommandRow; 7] = [
         options: &[CHECK, OUTPUT],
         usage: "milkhour fmt [OPTIONS] FILE",
         example: "Examples:\n  milkhour fmt peterson.spl\n  milkhour fmt peterson.spl -o peterson.spl\n  milkhour fmt --check peterson.spl",
+    },
+    CommandRow {
+        name: "certs",
+        about: "Write certificates in another version",
+        files: CERTIFICATES,
+        options: &[EDITION, OUTPUT],
+        usage: "milkhour certs [OPTIONS] CERTIFICATES",
+        example: "Examples:\n  milkhour certs --version 3 peterson.certs -o peterson.shared\n  milkhour certs peterson.shared",
     },
     CommandRow {
         name: "lsp",

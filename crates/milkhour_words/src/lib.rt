@@ -12,4 +12,4 @@ pub use commands::{CommandRow, FileRow, QUESTIONS, TOOLS, VERSION};
 pub use meant::command_meant;
 pub use options::{OptionRow, OptionValue};
 pub use reading::read_words;
-pub use request::{Colour, FileNames, Format, Layout, Options, Request, Task, Work};
+pub use request::{Colour, FileNames, Format, Layout, Options, Request, Rewriting, Task, Work};

@@ -4,8 +4,10 @@
 use crate::commands::{CommandRow, QUESTIONS, TOOLS};
 
 /// Words that name a command by what it does, each with that command.
-static SYNONYMS: [(&str, &str); 44] = [
+static SYNONYMS: [(&str, &str); 46] = [
     ("analyze", "verify"),
+    ("certificates", "certs"),
+    ("convert", "certs"),
     ("debug", "trace"),
     ("diagram", "draw"),
     ("discover", "find"),

@@ -108,6 +108,14 @@ pub const SMT: OptionRow = OptionRow {
     help: "Write SMT-LIB 2, for z3 or cvc5",
 };
 
+/// The version of certificates that are written.
+pub const EDITION: OptionRow = OptionRow {
+    long: "version",
+    short: None,
+    value: OptionValue::Choice("VERSION", &["2", "3"], "2"),
+    help: "Write certificates of this version; in those of version 3 each tree stands once",
+};
+
 pub const CHECK: OptionRow = OptionRow {
     long: "check",
     short: None,

@@ -3,7 +3,7 @@
 use crate::definition::command_line;
 use crate::meant::{command_behind, command_meant};
 use crate::request::{
-    Colour, FileNames, Format, Layout, Options, QUESTIONS, Request, SHOWN, Task, Work,
+    Colour, FileNames, Format, Layout, Options, QUESTIONS, Request, Rewriting, SHOWN, Task, Work,
 };
 use clap::error::ErrorKind;
 use clap::{ArgMatches, Command, Error};
@@ -34,6 +34,11 @@ fn number(matches: &ArgMatches<'_>, id: &str, otherwise: u32) -> u32 {
     }
 }
 
+/// Whether certificates of version 3 are asked for.
+fn asks_for_shared(matches: &ArgMatches<'_>) -> bool {
+    matches.get_str("version") == Some("3")
+}
+
 fn options_of<'a>(matches: &ArgMatches<'a>) -> Options<'a> {
     let limit = if matches.get_flag("first") {
         1
@@ -51,6 +56,7 @@ fn options_of<'a>(matches: &ArgMatches<'a>) -> Options<'a> {
         smt: matches.get_flag("smt"),
         from: matches.get_str("from"),
         step: matches.get_flag("step"),
+        shared: asks_for_shared(matches),
         output: matches.get_str("output"),
     }
 }
@@ -131,10 +137,19 @@ fn layout_of<'a>(matches: &ArgMatches<'a>) -> Option<Layout<'a>> {
     })
 }
 
+fn rewriting_of<'a>(matches: &ArgMatches<'a>) -> Option<Rewriting<'a>> {
+    Some(Rewriting {
+        file: matches.get_str("files")?,
+        output: matches.get_str("output"),
+        shared: asks_for_shared(matches),
+    })
+}
+
 fn request_in<'a>(matches: &ArgMatches<'a>) -> Option<Request<'a>> {
     match matches.subcommand() {
         Some(("explain", below)) => Some(explained(below)),
         Some(("fmt", below)) => Some(Request::Layout(layout_of(below)?)),
+        Some(("certs", below)) => Some(Request::Rewrite(rewriting_of(below)?)),
         Some((name, below)) => Some(Request::Work(work_of(name, below)?)),
         None => None,
     }

@@ -79,6 +79,8 @@ pub struct Options<'a> {
     pub from: Option<&'a str>,
     /// Whether moves are taken as standard input says.
     pub step: bool,
+    /// Whether certificates are written in version 3.
+    pub shared: bool,
     /// The file that the result goes to, in place of standard output.
     pub output: Option<&'a str>,
 }
@@ -103,6 +105,7 @@ impl Options<'_> {
             smt: false,
             from: None,
             step: false,
+            shared: false,
             output: None,
         }
     }
@@ -126,6 +129,16 @@ pub struct Layout<'a> {
     pub check: bool,
 }
 
+/// Certificates that are to be written in another version.
+#[derive(Clone, Copy, Debug, PartialEq, Eq)]
+pub struct Rewriting<'a> {
+    pub file: &'a str,
+    /// The file that the result goes to, in place of standard output.
+    pub output: Option<&'a str>,
+    /// Whether they are written in version 3.
+    pub shared: bool,
+}
+
 /// What words ask for.
 #[derive(Clone, Copy, Debug, PartialEq, Eq)]
 pub enum Request<'a> {
@@ -133,6 +146,7 @@ pub enum Request<'a> {
     /// The word that is to be explained, or a list of all.
     Explain(Option<&'a str>),
     Layout(Layout<'a>),
+    Rewrite(Rewriting<'a>),
     /// A language server.
     Serve,
     /// The exact program, over the words from this one on.

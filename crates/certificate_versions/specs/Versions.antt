@@ -9,6 +9,7 @@ use Rattle.cert_text.specs.Answer.{Answer, block, need, no_more, malformed_at, l
 use Rattle.cert_text.specs.Held.{Held, nothing_held, answer_of, taken_from}
 use Rattle.shared_certificates.specs.Nodes.{Shared, certificates}
 use Rattle.shared_certificates.specs.Reading.{Refused}
+use Rattle.shared_certificates.specs.declared.refusals.Refusal.{Refusal}
 use Rattle.shared_certificates.specs.declared.refusals.Refusal.TheVariants as refusals
 use Rattle.shared_writing.specs.Writing.{text_of}
 use Rattle.certificate_unfolding.specs.Texts.{large_from, version_2_text}
@@ -25,6 +26,12 @@ IsUnfolded (Err (unfits.Limit place)) ts = ⊥
 IsUnfolded (Err (unfits.Large i)) ts = large_from 0 ts ≡ Some i
 IsUnfolded (Err unfits.Long) ts = (large_from 0 ts ≡ None) × (268435456 < length (version_2_text ts))
 IsUnfolded (Err unfits.Memory) ts = Unit {0}
+
+-- the refusal of a line
+abbrev pub unfit_of : Refusal → ℕ → Unfit
+unfit_of refusals.Malformed place = unfits.Malformed place
+unfit_of refusals.Limit place = unfits.Limit place
+unfit_of refusals.Memory place = unfits.Memory
 
 -- the first line that isn't taken is told, with why
 abbrev pub Refuses : Result (Vec ℕ Global) Unfit → Refused → Type 0

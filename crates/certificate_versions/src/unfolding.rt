@@ -1,9 +1,10 @@
 //! Texts of version 3, unfolded.
 
+ghost use Rattle.std.specs.Prelude.{◌≡◌};
 ghost use Rattle.shared_certificates.specs.Lines.{lines};
 ghost use Rattle.shared_certificates.specs.Nodes.{certificates, table_view};
 ghost use Rattle.shared_certificates.specs.Reading.{text_read};
-ghost use Rattle.certificate_versions.specs.Versions.{IsUnfolded, Unfolds};
+ghost use Rattle.certificate_versions.specs.Versions.{IsUnfolded, Unfolds, unfit_of};
 
 use certificate_unfolding::version_2;
 use shared_certificates::Table;
@@ -31,7 +32,9 @@ pub enum Unfit {
     Memory,
 }
 
-fn of_line(fault: shared_certificates::Fault) -> Unfit {
+fn of_line(fault: shared_certificates::Fault) -> Unfit
+    ensures { result ≡ unfit_of fault.refusal fault.place }
+{
     match fault.refusal {
         shared_certificates::Refusal::Malformed => Unfit::Malformed(fault.place),
         shared_certificates::Refusal::Limit => Unfit::Limit(fault.place),

@@ -32,7 +32,7 @@ pub struct Unfolding {
     is_long: bool,
 }
 
-fn reason(
+fn reason_of(
     alloc: Global,
     place: Option<u64>,
     words: &str,
@@ -58,7 +58,7 @@ fn unfit_reason(alloc: Global, fault: Unfit) -> Result<Reason, Trouble> {
     let refused = Status::NotProved(1);
     match fault {
         Unfit::Malformed(place) | Unfit::Limit(place) => {
-            reason(alloc, Some(place as u64), words_of_line(fault), refused)
+            reason_of(alloc, Some(place as u64), words_of_line(fault), refused)
         }
         Unfit::Large(index) => Ok(Reason {
             place: None,
@@ -70,7 +70,7 @@ fn unfit_reason(alloc: Global, fault: Unfit) -> Result<Reason, Trouble> {
         }),
         Unfit::Long => {
             let words = "in version 2 the text has more than 268435456 bytes";
-            reason(alloc, None, words, Status::Limit)
+            reason_of(alloc, None, words, Status::Limit)
         }
         Unfit::Memory => Err(Trouble::Memory),
     }
@@ -81,10 +81,10 @@ fn unread_reason(alloc: Global, fault: Unread) -> Result<Reason, Trouble> {
     let refused = Status::NotProved(1);
     match fault {
         Unread::Malformed(place) => {
-            reason(alloc, Some(place), "no certificate goes on so", refused)
+            reason_of(alloc, Some(place), "no certificate goes on so", refused)
         }
-        Unread::Limit(place) => { reason(alloc, Some(place), "this is over a limit", refused) }
-        Unread::Deep => reason(alloc, None, "a tree has more than 400 levels", refused),
+        Unread::Limit(place) => { reason_of(alloc, Some(place), "this is over a limit", refused) }
+        Unread::Deep => reason_of(alloc, None, "a tree has more than 400 levels", refused),
         Unread::Memory => Err(Trouble::Memory),
     }
 }
@@ -175,7 +175,7 @@ pub fn in_version(
 }
 
 /// The text of version 3 of certificates that are of another version, or why there is none.
-fn sharing(alloc: Global, text: &[u8]) -> Result<Result<Vec<u8>, Reason>, Trouble> {
+fn as_shared(alloc: Global, text: &[u8]) -> Result<Result<Vec<u8>, Reason>, Trouble> {
     match shared_text(alloc, text) {
         Ok(shared) => Ok(Ok(shared)),
         Err(fault) => Ok(Err(unread_reason(alloc, fault)?)),
@@ -183,7 +183,7 @@ fn sharing(alloc: Global, text: &[u8]) -> Result<Result<Vec<u8>, Reason>, Troubl
 }
 
 /// The text of version 2 of certificates of version 3, or why there is none.
-fn unfolding(alloc: Global, text: &[u8]) -> Result<Result<Vec<u8>, Reason>, Trouble> {
+fn as_unfolded(alloc: Global, text: &[u8]) -> Result<Result<Vec<u8>, Reason>, Trouble> {
     match unfolded(alloc, text) {
         Ok(second) => Ok(Ok(second)),
         Err(fault) => Ok(Err(unfit_reason(alloc, fault)?)),
@@ -206,17 +206,17 @@ fn placeless(written: Result<Vec<u8>, Reason>) -> Result<Vec<u8>, Reason> {
 fn rewritten(alloc: Global, text: &[u8], shared: bool) -> Result<Result<Vec<u8>, Reason>, Trouble> {
     if text.len() > MOST_BYTES {
         let words = "the text has more than 268435456 bytes";
-        return Ok(Err(reason(alloc, None, words, Status::Limit)?));
+        return Ok(Err(reason_of(alloc, None, words, Status::Limit)?));
     }
     let is_third = is_version_3(alloc, text)?;
     let other = if is_third {
-        unfolding(alloc, text)?
+        as_unfolded(alloc, text)?
     } else {
-        sharing(alloc, text)?
+        as_shared(alloc, text)?
     };
     match other {
-        Ok(other) if is_third && shared => Ok(placeless(sharing(alloc, other.as_slice())?)),
-        Ok(other) if !is_third && !shared => Ok(placeless(unfolding(alloc, other.as_slice())?)),
+        Ok(other) if is_third && shared => Ok(placeless(as_shared(alloc, other.as_slice())?)),
+        Ok(other) if !is_third && !shared => Ok(placeless(as_unfolded(alloc, other.as_slice())?)),
         given => Ok(given),
     }
 }

@@ -101,3 +101,19 @@ pub(crate) fn note(
     }
     Ok(())
 }
+
+/// What the program's variables are over the changed ones behind a change more; before the first one nothing is kept.
+pub(crate) fn lead_back(
+    alloc: Global,
+    origin: &mut Vec<(u32, Lin)>,
+    width: u32,
+    step: &Step,
+) -> Result<(), Stop> {
+    if origin.is_empty() {
+        *origin = unchanged(alloc, width)?;
+    }
+    for pair in origin.iter_mut() {
+        pair.1 = pair.1.replace(alloc, &step.back)?;
+    }
+    Ok(())
+}

@@ -18,13 +18,14 @@ pub(crate) struct Cut {
     pub(crate) by: i128,
 }
 
-/// The lines of a problem are numbered, and the cuts behind them. The basis says what changed variables stand for. A clash has multiples
-/// whose sum is a negative constant.
+/// The lines of a problem are numbered, and the cuts behind them. The basis says what changed variables stand for, and the origin what the
+/// program's variables are over these. A clash has multiples whose sum is a negative constant.
 #[derive(Drop)]
 pub(crate) struct Cuts {
     pub(crate) lines: usize,
     pub(crate) cuts: Vec<Cut>,
     pub(crate) basis: Vec<(u32, Lin)>,
+    pub(crate) origin: Vec<(u32, Lin)>,
     pub(crate) clash: Option<Lin>,
 }
 

@@ -1,4 +1,4 @@
-//! The search for a certificate of a condition, and the check of what it finds.
+//! The search for a certificate of a condition, and the check of what it finds; or for a state in which the condition is false.
 
 ghost use Rattle.std.specs.Prelude.{IfOk, IfSome};
 ghost use Rattle.st_form.specs.Shared.{given_of, shown_of};
@@ -11,12 +11,14 @@ use crate::certifying::certified;
 use crate::guards::is_limited;
 use crate::items::first_items;
 use crate::plans::Plans;
-use crate::search::{Node, Search};
+use crate::search::{Node, Point, Search};
+use crate::showing::shown_at;
 use crate::stop::Stop;
 use crate::walk::walk_first;
 use control_states::Components;
 use farkas_check::check;
 use farkas_check::problems::{Posed, first_problem};
+use search_verdicts::Shown;
 use st_certificate::Certificate;
 use st_form::{Condition, Form, Variable};
 use st_memory::Memory;
@@ -28,7 +30,29 @@ const MOST_LEVELS: u32 = 399;
 /// At most so many cuts at a fraction are made one in the other.
 const MOST_CUTS: u32 = 40;
 
-/// The certificate that the search finds for a problem with these conjuncts, looking at so many problems.
+/// What a search of a problem comes to: a certificate, of which it isn't known whether it is valid; a point at which it is true; or neither.
+#[derive(Drop)]
+enum Outcome {
+    Closed(Certificate),
+    True(Point),
+    Neither,
+}
+
+/// The certificate of the plan that the search finds.
+fn planned(alloc: Global, search: &mut Search, node: Node) -> Result<Certificate, Stop> {
+    let found = walk_first(alloc, search, node, MOST_LEVELS)?;
+    certified(alloc, search, node, found.plan, MOST_LEVELS)
+}
+
+/// What the search comes to where nothing closes the problem.
+fn left_of(point: Option<Point>) -> Outcome {
+    match point {
+        Some(point) => Outcome::True(point),
+        None => Outcome::Neither,
+    }
+}
+
+/// What the search of a problem with these conjuncts comes to, looking at so many problems.
 fn over_conjuncts(
     alloc: Global,
     components: &Components,
@@ -36,12 +60,13 @@ fn over_conjuncts(
     problem: &Posed,
     forms: &[Form],
     most: u32,
-) -> Result<Certificate, Stop> {
+) -> Result<Outcome, Memory> {
     let mut search = Search {
         components,
         variables,
         plans: Plans::new(alloc),
         left: most,
+        point: None,
     };
     let items = first_items(alloc, forms)?;
     let node = Node {
@@ -50,25 +75,24 @@ fn over_conjuncts(
         items: &items,
         cuts: MOST_CUTS,
     };
-    let found = walk_first(alloc, &mut search, node, MOST_LEVELS)?;
-    certified(alloc, &search, node, found.plan, MOST_LEVELS)
+    match planned(alloc, &mut search, node) {
+        Ok(certificate) => Ok(Outcome::Closed(certificate)),
+        Err(Stop::Unfound) => Ok(left_of(search.point.take())),
+        Err(Stop::Memory) => Err(Memory),
+    }
 }
 
-/// The certificate that the search finds for a problem. Whether it is valid isn't known.
+/// What the search of a problem comes to.
 fn over_problem(
     alloc: Global,
     components: &Components,
     variables: &[Variable],
     problem: &Posed,
     most: u32,
-) -> Result<Option<Certificate>, Memory> {
-    let Some(forms) = &problem.conjuncts else {
-        return Ok(Some(Certificate::Absurd));
-    };
-    match over_conjuncts(alloc, components, variables, problem, forms, most) {
-        Ok(certificate) => Ok(Some(certificate)),
-        Err(Stop::Unfound) => Ok(None),
-        Err(Stop::Memory) => Err(Memory),
+) -> Result<Outcome, Memory> {
+    match &problem.conjuncts {
+        Some(forms) => over_conjuncts(alloc, components, variables, problem, forms, most),
+        None => Ok(Outcome::Closed(Certificate::Absurd)),
     }
 }
 
@@ -112,7 +136,28 @@ pub fn find(
 {
     let problem = first_problem(alloc, components, variables, condition)?;
     match over_problem(alloc, components, variables, &problem, most)? {
-        None => Ok(None),
-        Some(certificate) => if_valid(alloc, components, variables, condition, certificate),
+        Outcome::Closed(certificate) => {
+            if_valid(alloc, components, variables, condition, certificate)
+        }
+        Outcome::True(_) | Outcome::Neither => Ok(None),
+    }
+}
+
+/// A state in which a condition is false, if the search comes to one within so many problems: what is given is true there, and what is to
+/// be shown false. That it is so is for the caller to test. The condition's numbers are below 2^69 in size.
+pub fn refuting_state(
+    alloc: Global,
+    components: &Components,
+    variables: &[Variable],
+    condition: &Condition,
+    most: u32,
+) -> Result<Option<Shown>, Memory>
+    requires given { IsNarrow (given_of condition.now) }
+    requires shown { IsNarrow (shown_of condition.now) }
+{
+    let problem = first_problem(alloc, components, variables, condition)?;
+    match over_problem(alloc, components, variables, &problem, most)? {
+        Outcome::True(point) => Ok(Some(shown_at(alloc, components, variables, &point)?)),
+        Outcome::Closed(_) | Outcome::Neither => Ok(None),
     }
 }

@@ -25,10 +25,12 @@ mod points;
 mod rounding;
 mod rows;
 mod search;
+mod showing;
 mod solving;
 mod splitting;
 mod stages;
 mod stop;
 mod walk;
 
-pub use finding::find;
+pub use finding::{find, refuting_state};
+pub use search_verdicts::Shown;

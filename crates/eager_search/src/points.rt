@@ -1,16 +1,26 @@
-//! The first coordinate at which no whole value is left, where elimination finds no clash: variables get whole values, the last eliminated
-//! one first, within the bounds that those before leave.
+//! A whole point of lines, or the first coordinate at which no whole value is left, where elimination finds no clash: variables get whole
+//! values, the last eliminated one first, within the bounds that those before leave.
 
 use crate::rows::{Row, coefficient};
 use crate::stages::Stage;
 use crate::stop::Stop;
+use st_linear::Lin;
 use std::alloc::Global;
 
-/// What a row is worth without a variable.
-fn rest_of(row: &Row, var: u32, values: &[i128]) -> Option<i128> {
-    let mut sum = row.form.constant();
-    for entry in row.form.entries() {
-        if entry.0 != var {
+/// What elimination without a clash leads to.
+#[derive(Drop)]
+pub(crate) enum Reached {
+    /// A variable that has no whole value between two numbers that follow each other, and the larger of these.
+    Gap(u32, i128),
+    /// A whole value of each variable.
+    Whole(Vec<i128>),
+}
+
+/// What a form is worth, without a variable where one is named.
+fn worth(form: &Lin, without: Option<u32>, values: &[i128]) -> Option<i128> {
+    let mut sum = form.constant();
+    for entry in form.entries() {
+        if without != Some(entry.0) {
             let value = values.get(entry.0 as usize).copied()?;
             let product = entry.1.checked_mul(value)?;
             sum = sum.checked_add(product)?;
@@ -73,7 +83,7 @@ fn bounds_of(stage: &Stage, values: &[i128]) -> Option<Bounds> {
         high: None,
     };
     for row in &stage.rows {
-        let rest = rest_of(row, stage.var, values)?;
+        let rest = worth(&row.form, Some(stage.var), values)?;
         let a = coefficient(&row.form, stage.var);
         bounds = bounded(bounds, row.equal, a, rest)?;
     }
@@ -90,13 +100,8 @@ fn value_in(bounds: Bounds) -> Result<i128, i128> {
     }
 }
 
-/// A variable that has no whole value between two numbers that follow each other, and the larger of these; none where all variables get
-/// whole values.
-pub(crate) fn gap(
-    alloc: Global,
-    stages: &[Stage],
-    width: u32,
-) -> Result<Option<(u32, i128)>, Stop> {
+/// The whole values that variables get, or where there is none.
+pub(crate) fn whole_values(alloc: Global, stages: &[Stage], width: u32) -> Result<Reached, Stop> {
     let mut values = Vec::new(alloc);
     for _ in 0..width {
         values.push(0)?;
@@ -107,10 +112,29 @@ pub(crate) fn gap(
         };
         match value_in(bounds) {
             Ok(value) => set(&mut values, stage.var, value),
-            Err(above) => return Ok(Some((stage.var, above))),
+            Err(above) => return Ok(Reached::Gap(stage.var, above)),
         }
     }
-    Ok(None)
+    Ok(Reached::Whole(values))
+}
+
+/// The values of the program's variables, by what these are over the changed ones, if any is changed.
+pub(crate) fn led_back(
+    alloc: Global,
+    origin: &[(u32, Lin)],
+    values: Vec<i128>,
+) -> Result<Vec<i128>, Stop> {
+    if origin.is_empty() {
+        return Ok(values);
+    }
+    let mut out = Vec::with_capacity(alloc, origin.len())?;
+    for pair in origin {
+        match worth(&pair.1, None, &values) {
+            Some(value) => out.push(value)?,
+            None => return Err(Stop::Unfound),
+        }
+    }
+    Ok(out)
 }
 
 fn set(values: &mut [i128], var: u32, value: i128) {

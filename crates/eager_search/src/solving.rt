@@ -1,7 +1,7 @@
 //! What is done at a problem of lines alone: it is refuted by rounding, or cut where elimination comes to a fraction.
 
 use crate::looking::lines_of;
-use crate::points::gap;
+use crate::points::{Reached, led_back, whole_values};
 use crate::rounding::rounded;
 use crate::search::{Found, Node, Search};
 use crate::stages::eliminate_whole;
@@ -9,11 +9,12 @@ use crate::stop::Stop;
 use st_linear::Lin;
 use std::alloc::Global;
 
-/// The plan of the problem, or the form of a cut.
+/// The plan of the problem; the form of a cut; or whole values with which its lines hold.
 #[derive(Drop)]
 pub(crate) enum Solved {
     Closes(Found),
     Cuts(Lin),
+    Holds(Vec<i128>),
 }
 
 /// The form that is at least 0 where a variable has this value or a greater one.
@@ -35,14 +36,14 @@ pub(crate) fn solve(alloc: Global, search: &mut Search, node: Node) -> Result<So
         let found = rounded(alloc, search, node.items, &done.cuts, clash)?;
         return Ok(Solved::Closes(found));
     }
-    if node.cuts == 0 {
-        return Err(Stop::Unfound);
-    }
-    match gap(alloc, &done.stages, search.width())? {
-        Some((var, above)) => {
+    match whole_values(alloc, &done.stages, search.width())? {
+        Reached::Gap(var, above) => {
+            if node.cuts == 0 {
+                return Err(Stop::Unfound);
+            }
             let form = from_value(alloc, var, above)?;
             Ok(Solved::Cuts(form.replace(alloc, &done.cuts.basis)?))
         }
-        None => Err(Stop::Unfound),
+        Reached::Whole(values) => Ok(Solved::Holds(led_back(alloc, &done.cuts.origin, values)?)),
     }
 }

@@ -2,7 +2,7 @@
 //! each solved exactly over changed variables; then each lower bound of a variable is taken with each upper bound (Schrijver, Theory of
 //! Linear and Integer Programming, 1986, section 12.2).
 
-use crate::basis::{is_exact, note, rewrite, step_of};
+use crate::basis::{is_exact, lead_back, note, rewrite, step_of};
 use crate::cuts::{Cuts, take};
 use crate::rows::{Row, coefficient, factors, freed_row, mixed_row, row_of};
 use crate::stop::Stop;
@@ -178,6 +178,7 @@ fn by_best_equation(
     if !is_exact(&rows[place].form, least) {
         let step = step_of(alloc, &rows[place].form, var, least)?;
         note(alloc, &mut done.cuts.basis, width, &step)?;
+        lead_back(alloc, &mut done.cuts.origin, width, &step)?;
         for stage in done.stages.iter_mut() {
             rewrite(alloc, &mut stage.rows, &step)?;
         }
@@ -231,6 +232,7 @@ pub(crate) fn eliminate_whole(
             lines: lines.len(),
             cuts: Vec::new(alloc),
             basis: Vec::new(alloc),
+            origin: Vec::new(alloc),
             clash: None,
         },
     };

@@ -275,6 +275,10 @@ fn walk_lines(alloc: Global, search: &mut Search, node: Node, levels: u32) -> Re
     match solve(alloc, search, node)? {
         Solved::Closes(found) => Ok(found),
         Solved::Cuts(form) => walk_sides(alloc, search, node, &form, levels),
+        Solved::Holds(numbers) => {
+            search.keep(alloc, node, numbers)?;
+            Err(Stop::Unfound)
+        }
     }
 }
 

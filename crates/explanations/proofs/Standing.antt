@@ -17,6 +17,7 @@ use Rattle.script_laws.specs.Script.{cited_of, step_list, steps_list, script_lis
 use Rattle.script_laws.proofs.Named.{steps-named}
 use Rattle.script_obligations.specs.Laws.{AreThese}
 use Rattle.discharge.specs.declared.marks.Undecided.{Undecided}
+use Rattle.discharge.proofs.Marking.{searchable_at}
 use Rattle.open_conditions.specs.Open.{AreOpen}
 use Rattle.posed_conditions.specs.declared.translated.TranslatedProgram.{TranslatedProgram}
 use Rattle.posed_conditions.specs.declared.scripts.PosedScript.{PosedScript}
@@ -65,7 +66,9 @@ steps_stand x p is i c at =
 -- what is open stands
 opens_stand : (x : TranslatedProgram) (p : PosedScript) (k : Setting) (us : List Undecided) → IsPosed x p → AreOpen k p.conditions.items us → AllStand p us
 opens_stand x p k [] is all i u at = absurd (cc)
-opens_stand x p k (v ∷ us) is all zero u at = subst (Stands p) (same at) (all.0.at.condition, all.0.at.there, steps_stand x p is v.place all.0.at.condition all.0.at.there)
+opens_stand x p k (v ∷ us) is all zero u at =
+    let numbers = searchable_at (length x.program.variables) p.conditions.items v.place all.0.at.condition is.searchable all.0.at.there in
+    subst (Stands p) (same at) (all.0.at.condition, all.0.at.there, steps_stand x p is v.place all.0.at.condition all.0.at.there, numbers.given, numbers.shown)
   where
     same : Some v ≡ Some u → v ≡ u
     same e = cc

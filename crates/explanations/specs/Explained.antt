@@ -1,5 +1,6 @@
 -- What a report tells of a proof over a program: the numbers of all conditions that are left open, and the first of them explained.
 use Rattle.std.specs.Prelude.{◌≡◌, ◌<◌, ℕ, ◌+◌, ◌-◌, ◌^◌, List, [], length, map, min, take, slice_get, Some, Ok, string_bytes}
+use Rattle.st_form.specs.Shared.{given_of, shown_of}
 use Rattle.st_form.specs.declared.conditions.Condition.{Condition}
 use Rattle.transition_system.specs.Plain.{plain_system}
 use Rattle.temporal_goals.specs.declared.scripts.Script.{Script}
@@ -8,6 +9,7 @@ use Rattle.temporal_goals.specs.Plain.{plain_script}
 use Rattle.script_laws.specs.Script.{script_list}
 use Rattle.condition_counts.specs.Counts.{counts_of}
 use Rattle.proof_script.specs.Script.{script_spelled}
+use Rattle.farkas_check.specs.Limits.{IsNarrow}
 use Rattle.farkas_check.specs.Problem.{Setting}
 use Rattle.farkas_check.specs.PlainProblem.{setting}
 use Rattle.discharge.specs.declared.marks.Undecided.{Undecided}
@@ -54,9 +56,9 @@ named_in r = string_bytes r.name
 abbrev pub count_in : StepReport → ℕ
 count_in r = r.conditions
 
--- a condition of a step stands at the place
+-- a condition of a step stands at the place, and its numbers are below 2^69 in size
 abbrev pub Stands : PosedScript → Undecided → Type 0
-Stands p u = (c : Condition) × (slice_get p.conditions.items u.place ≡ Some c) × (c.name.step < length p.script.steps.items)
+Stands p u = (c : Condition) × (slice_get p.conditions.items u.place ≡ Some c) × (c.name.step < length p.script.steps.items) × IsNarrow (given_of c) × IsNarrow (shown_of c)
 
 abbrev pub AllStand : PosedScript → List Undecided → Type 0
 AllStand p us = (i : ℕ) (u : Undecided) → slice_get us i ≡ Some u → Stands p u

@@ -1,6 +1,8 @@
 //! A condition that isn't decided valid, explained.
 
 ghost use Rattle.std.specs.Prelude.{◌≡◌, IfOk};
+ghost use Rattle.st_form.specs.Shared.{given_of, shown_of};
+ghost use Rattle.farkas_check.specs.Limits.{IsNarrow};
 ghost use Rattle.explanations.specs.Explained.{Stands, number_of};
 
 use crate::mentions::Mentions;
@@ -13,22 +15,13 @@ use crate::turns::numbered;
 use formula_words::formula;
 use open_conditions::{Condition, Undecided, Verdict};
 use proof_reports::{Case, Failure, Row, Spot, Turn};
+use refuting_states::tested_state;
 use shown_states::Picture;
 use source_places::StepPlaces;
 use st_form::{Change, CondName, Consequent, Premise, SharedForm, TransName};
 use st_memory::Memory;
 use std::alloc::Global;
 use temporal_goals::{RuleText, Step};
-
-/// The state that refutes a condition, if the verdict tells one.
-fn refuting(alloc: Global, verdict: &Verdict) -> Result<Option<Picture>, Memory> {
-    match verdict {
-        Verdict::Open(_, Some(shown)) => Ok(Some(Picture::of(alloc, shown)?)),
-        Verdict::Open(_, None) => Ok(None),
-        Verdict::Wide(_, _) => Ok(None),
-        Verdict::Valid(_) => Ok(None),
-    }
-}
 
 fn reason(verdict: &Verdict) -> &'static str {
     match verdict {
@@ -79,6 +72,28 @@ fn texts_of(alloc: Global, broken: Vec<Broken>) -> Result<Vec<String>, Memory> {
 }
 
 impl Sources<'_> {
+    /// The state that refutes a condition: the verdict tells one, or the second search comes to one.
+    fn refuting(
+        &self,
+        alloc: Global,
+        condition: &Condition,
+        verdict: &Verdict,
+    ) -> Result<Option<Picture>, Memory>
+        requires given { IsNarrow (given_of condition.now) }
+        requires shown { IsNarrow (shown_of condition.now) }
+    {
+        let source = self.source;
+        match verdict {
+            Verdict::Open(_, Some(shown)) => Ok(Some(Picture::of(alloc, shown)?)),
+            Verdict::Open(_, None) => {
+                let variables = &source.program.variables;
+                tested_state(alloc, &source.components, variables, condition)
+            }
+            Verdict::Wide(_, _) => Ok(None),
+            Verdict::Valid(_) => Ok(None),
+        }
+    }
+
     /// The change that the step of a condition makes.
     fn change<'x>(&'x self, name: &CondName) -> Option<(&'x Change, TransName)> {
         let source = self.source;
@@ -273,8 +288,11 @@ impl Sources<'_> {
         step: &Step,
         condition: &Condition,
         verdict: &Verdict,
-    ) -> Result<Refutation, Memory> {
-        match refuting(alloc, verdict)? {
+    ) -> Result<Refutation, Memory>
+        requires given { IsNarrow (given_of condition.now) }
+        requires shown { IsNarrow (shown_of condition.now) }
+    {
+        match self.refuting(alloc, condition, verdict)? {
             Some(before) => self.refuted(alloc, step, condition, &before),
             None => Ok(Refutation {
                 broken: Vec::new(alloc),
@@ -301,6 +319,8 @@ impl Sources<'_> {
         condition: &Condition,
         undecided: &Undecided,
     ) -> Result<Failure, Memory>
+        requires given { IsNarrow (given_of condition.now) }
+        requires shown { IsNarrow (shown_of condition.now) }
         ensures { IfOk result (λ f. f.number ≡ number_of undecided.now) }
     {
         let name = &condition.name;

@@ -3,8 +3,8 @@
 ghost use Rattle.found_equations.specs.Said.{InvariantsSayWhatWasFound};
 
 use equation_laws::laws::what_is_found_spans;
+use program_rules::laws::lawful_is_typing;
 use spl_parser::laws::what_is_read_is_spelled;
-use typing_laws::laws::read_is_typed;
 
 /// Where `invariants` ends with status 0, its text has a line for each equation that was found: its formula, or that it is left
 /// out for a named cause. Each equation, printed or not, holds on every run of the program.
@@ -13,5 +13,5 @@ pub fn invariants_say_what_was_found()
 {
     what_is_found_spans();
     what_is_read_is_spelled();
-    read_is_typed();
+    lawful_is_typing();
 }

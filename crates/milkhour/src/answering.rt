@@ -8,7 +8,7 @@ use crate::reports::{Account, Shown, shown_of};
 use crate::streams::{Streams, Target, style_of, write_remark, write_result};
 use crate::trouble::Trouble;
 use crate::versions::{asks_for_certificates, in_version, tell_unfolding};
-use milkhour_run::{Answer, Question, Status, Texts};
+use milkhour_run::{Answer, Question, Status};
 use milkhour_words::{Format, Options};
 use progress_lines::{Progress, Watch};
 use st_memory::Memory;
@@ -132,15 +132,27 @@ fn tell<R: Runtime + AllocGlobal + Threads, G: Gate>(
     write_shown(rt, target, &shown)
 }
 
+/// An answer that was found while the texts were read.
+fn copied(alloc: Global, answer: &Answer) -> Result<Answer, Memory> {
+    Ok(Answer {
+        status: answer.status,
+        text: Vec::from_slice(alloc, answer.text.as_slice())?,
+    })
+}
+
 /// What is shown of the answer: not with `--format plain`, the equations of `invariants` have facts behind them.
 fn shown_answer<R: Runtime + AllocGlobal + Threads + Sync, G: Gate + Sync>(
     rt: &R,
     question: Question,
     options: &Options<'_>,
-    texts: &Texts<'_>,
+    given: &Given<'_>,
     gate: &G,
 ) -> Result<Answer, Memory> {
-    let found = answered(rt, rt.alloc(), question, options.workers, texts, gate)?;
+    if let Some(proved) = &given.proved {
+        return copied(rt.alloc(), proved);
+    }
+    let texts = given.texts();
+    let found = answered(rt, rt.alloc(), question, options.workers, &texts, gate)?;
     if options.format == Format::Plain {
         return Ok(found);
     }
@@ -164,7 +176,7 @@ pub fn answer_question<R: Runtime + AllocGlobal + Threads + Sync>(
 ) -> Result<u8, Trouble> {
     let begun = beside::begin(rt, question, given, options)?;
     let progress = Progress::new(rt, Watch::begin(rt, streams.is_error_terminal));
-    let found = shown_answer(rt, question, options, &given.texts(), &progress)?;
+    let found = shown_answer(rt, question, options, given, &progress)?;
     let are_looked_at = asks_for_certificates(found.status);
     let answer = in_version(rt.alloc(), question, given, options, found)?;
     if options.format == Format::Plain {

@@ -1,9 +1,9 @@
 //! The texts that a request names, each read once and before anything is done with them.
 
 use crate::trouble::Trouble;
-use crate::versions::{Unfolding, unfold};
+use crate::versions::{Taken, Unfolding, take};
 use host_outside::{file_text, input_text};
-use milkhour_run::Texts;
+use milkhour_run::{Answer, Texts};
 use milkhour_words::{FileNames, Task};
 use source_parts::parted;
 use std::alloc::Global;
@@ -46,7 +46,9 @@ pub struct Given<'a> {
     pub program: GivenText<'a>,
     pub proof: Option<GivenText<'a>>,
     pub third: Option<GivenText<'a>>,
-    /// Why certificates of version 3 aren't unfolded; where they are, their text of version 2 stands in their place.
+    /// The answer to certificates of version 3, where each condition has its tree.
+    pub proved: Option<Answer>,
+    /// Else, why they aren't unfolded; where they are, their text of version 2 stands in their place.
     pub unfolding: Option<Unfolding>,
     /// What a page shows beside the texts.
     pub drawing: Option<GivenText<'a>>,
@@ -216,9 +218,9 @@ pub fn read_files<'a, R: Runtime + AllocGlobal>(
         Some(name) => Some(read_most(rt, name, most_of_third(task))),
         None => None,
     };
-    let unfolding = match &mut third {
-        Some(text) if task == Task::Check => unfold(alloc, text)?,
-        _ => None,
+    let taken = match &mut third {
+        Some(text) if task == Task::Check => take(alloc, program.bytes(), bytes_of(&proof), text)?,
+        _ => Taken::as_given(),
     };
     Ok(Given {
         task,
@@ -226,7 +228,8 @@ pub fn read_files<'a, R: Runtime + AllocGlobal>(
         program,
         proof,
         third,
-        unfolding,
+        proved: taken.proved,
+        unfolding: taken.unfolding,
         drawing: read_drawing(rt, files.drawing)?,
     })
 }

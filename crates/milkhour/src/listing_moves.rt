@@ -60,6 +60,7 @@ fn set_out<'a>(alloc: Global, given: Given<'a>, schedule: GivenText<'a>) -> Give
             bytes: Ok(Vec::new(alloc)),
         }),
         third: Some(schedule),
+        proved: None,
         unfolding: None,
         drawing: given.drawing,
     }

@@ -1,15 +1,16 @@
-//! Certificates of version 3: those that are given are unfolded, and those that are asked for are written.
+//! Certificates of version 3: those that are given are checked by number, or unfolded, and those that are asked for are written.
 
 use crate::answering::tell_unread;
 use crate::given::{Given, GivenText, read_certificates};
 use crate::streams::{write_remark, write_result};
 use crate::trouble::Trouble;
 use certificate_versions::{Unfit, Unread, is_version_3, shared_text, unfolded};
-use milkhour_run::{Answer, Question, Status};
+use milkhour_run::{Answer, Question, Status, Texts};
 use milkhour_words::{Options, Rewriting};
 use source_lines::Lines;
 use std::alloc::Global;
 use std::rt::Runtime;
+use table_answers::checked;
 
 /// So many bytes of certificates are taken.
 const MOST_BYTES: usize = 268_435_456;
@@ -30,6 +31,24 @@ struct Reason {
 pub struct Unfolding {
     remark: String,
     is_long: bool,
+}
+
+/// What comes of certificates that are given: where they are of version 3 and each condition has its tree, the answer; else, where they
+/// aren't unfolded, why.
+#[derive(Drop)]
+pub struct Taken {
+    pub proved: Option<Answer>,
+    pub unfolding: Option<Unfolding>,
+}
+
+impl Taken {
+    /// There are none, or they are handed on as they are.
+    pub fn as_given() -> Taken {
+        Taken {
+            proved: None,
+            unfolding: None,
+        }
+    }
 }
 
 fn reason_of(
@@ -102,13 +121,10 @@ fn told(alloc: Global, name: &str, text: &[u8], reason: &Reason) -> Result<Strin
 }
 
 /// Puts the text of version 2 in the place of one of version 3, or answers why there is none.
-pub fn unfold(alloc: Global, text: &mut GivenText<'_>) -> Result<Option<Unfolding>, Trouble> {
+fn unfold(alloc: Global, text: &mut GivenText<'_>) -> Result<Option<Unfolding>, Trouble> {
     let Some(bytes) = text.bytes() else {
         return Ok(None);
     };
-    if bytes.len() > MOST_BYTES || !is_version_3(alloc, bytes)? {
-        return Ok(None);
-    }
     match unfolded(alloc, bytes) {
         Ok(second) => {
             text.bytes = Ok(second);
@@ -122,6 +138,42 @@ pub fn unfold(alloc: Global, text: &mut GivenText<'_>) -> Result<Option<Unfoldin
             }))
         }
     }
+}
+
+/// Whether a text of certificates that was read is one of version 3.
+fn is_shared(alloc: Global, text: &GivenText<'_>) -> Result<bool, Trouble> {
+    match text.bytes() {
+        Some(bytes) => Ok(bytes.len() <= MOST_BYTES && is_version_3(alloc, bytes)?),
+        None => Ok(false),
+    }
+}
+
+/// Checks certificates of version 3 by number. Where that doesn't show each condition, the text of version 2 is put in their place, for
+/// `step` to say what is wrong.
+pub fn take(
+    alloc: Global,
+    program: Option<&[u8]>,
+    proof: Option<&[u8]>,
+    text: &mut GivenText<'_>,
+) -> Result<Taken, Trouble> {
+    if !is_shared(alloc, text)? {
+        return Ok(Taken::as_given());
+    }
+    let texts = Texts {
+        program,
+        proof,
+        third: text.bytes(),
+    };
+    if let Some(answer) = checked(alloc, &texts)? {
+        return Ok(Taken {
+            proved: Some(answer),
+            unfolding: None,
+        });
+    }
+    Ok(Taken {
+        proved: None,
+        unfolding: unfold(alloc, text)?,
+    })
 }
 
 /// Whether the program and the proof were read and are within their limits, so that certificates are looked at.

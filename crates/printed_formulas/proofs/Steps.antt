@@ -31,6 +31,7 @@ use Rattle.proof_script.specs.Listing.{Setting}
 use Rattle.proof_grammar.specs.Units.{IsFormula, new_name, names_of_steps}
 use Rattle.proof_grammar.specs.Grammar.{by_itself, no_using, named_step, IsStep, invariance_step, IsScript, no_further_step, a_further_step}
 use Rattle.proof_grammar.specs.Theorems.{SpelledScriptsAreRead}
+use Rattle.proof_grammar.proofs.Meanings.{formula_meant}
 use Rattle.declared_names.specs.Words.{AreWordBytes, IsWord}
 use Rattle.printed_formulas.specs.Loose.{IsLoose}
 use Rattle.printed_formulas.specs.Printable.{IsPrintable}
@@ -45,7 +46,7 @@ use Rattle.printed_formulas.proofs.Formulas.{formula_piece}
 -- a spelled formula
 module _ (g : Setting) (f : Formula) where
   as_formula : (ts : List Lexeme) → Spells (names_of g.names) (SpellsWithin true 32) (terms.truth f) ts → IsFormula g ts f
-  as_formula ts l = record { tree = l.0; spells = l.1; typed = ap (λ r. r >>= λ x. as_truth (start_of l.0) x) l.2 }
+  as_formula ts l = formula_meant g ts f l.0 l.1 (ap (λ r. r >>= λ x. as_truth (start_of l.0) x) l.2)
 
   is_formula : IsPrintable g.names 32 f → Piece IsLoose (formula_text g.names f) (λ ts. IsFormula g ts f)
   is_formula h = seen_as IsLoose (Spells (names_of g.names) (SpellsWithin true 32) (terms.truth f)) (λ ts. IsFormula g ts f) (formula_text g.names f) as_formula (formula_piece g.names 32 f h)

@@ -310,25 +310,33 @@ path_was at (link ∷ path) c w e =
 
 record PathsWere (at : ℕ) (paths : List (List Link)) : Type 0 where
   small : Each (PathIsSmall nothing_composed) paths
+  composes : AllSome paths
   all : List Composition
   are : AreComposed at paths all
   weight : sum_by weighing.weight_of all ≡ sum_by path_weight paths
 
 paths_were : (at : ℕ) (paths : List (List Link)) (w v : ℕ) → with_paths at paths w ≡ Ok v → PathsWere at paths
-paths_were at [] w v e = record { small = tt; all = []; are = refl; weight = refl }
+paths_were at [] w v e = record { small = tt; composes = tt; all = []; are = refl; weight = refl }
 paths_were at (path ∷ paths) w v e =
     let g = got (path_on at path nothing) (λ c. with_paths at paths (with_path w c)) v e in
     let p = path_was at path nothing_composed g.0 g.1 in
     let more = paths_were at paths (with_path w g.0) v g.2 in
     record {
       small = (p.small, more.small);
+      composes = (subst (λ (o : Option Composed). IsSome o) (sym p.is) refl, more.composes);
       all = g.0 ∷ more.all;
       are = (g.1, more.are);
       weight = sum_by-cons weighing.weight_of g.0 more.all ∙ ap (λ z. weighing.weight_of g.0 + z) more.weight ∙ ap (λ z. weighing.weight_of z + sum_by path_weight paths) p.same
           ∙ ap (λ z. weight_of z + sum_by path_weight paths) (sym p.is) ∙ sym (sum_by-cons path_weight path paths);
     }
 
+some_each : (paths : List (List Link)) → AllSome paths → (path : List Link) → Member path paths → IsSome (composed path nothing_composed)
+some_each [] h path m = elim m [ ]
+some_each (q ∷ paths) h path (here e) = rw e h.0
+some_each (q ∷ paths) h path (there m) = some_each paths h.1 path m
+
 pub record GroupWas (xs : Pieces) (w v : ℕ) : Type 0 where
+  pub fits : GroupFits xs
   pub small : Each (PathIsSmall nothing_composed) (paths_along xs)
   pub weight : v ≡ w + sum_by path_weight (paths_along xs)
   pub light : v ≤ 16777216
@@ -343,9 +351,11 @@ group_was at xs w v le e =
     let b = got (all_small at (paths_along xs)) _ v a.2 in
     let c = got (with_paths at (paths_along xs) w) _ v b.2 in
     let p = paths_were at (paths_along xs) w c.0 c.1 in
-    let few_paths = subst (λ n. n ≤ 64) (ways_along_count xs) (at_most (length (paths_along xs)) 64 (limited_by (nat_le (length (paths_along xs)) 64) (faults.Limit limits.Paths at) a.0 a.1)) in
+    let few = at_most (length (paths_along xs)) 64 (limited_by (nat_le (length (paths_along xs)) 64) (faults.Limit limits.Paths at) a.0 a.1) in
+    let few_paths = subst (λ n. n ≤ 64) (ways_along_count xs) few in
     let k = if_true (nat_le (w + sum_by weighing.weight_of p.all) 16777216) (w + sum_by weighing.weight_of p.all) v (faults.Limit limits.Weight at) (sym (weights_are_added at xs w p.all few_paths b.1 p.are le) ∙ e) in
     record {
+      fits = record { few = few; small = some_each (paths_along xs) p.composes };
       small = p.small;
       weight = sym k.1 ∙ ap (λ n. w + n) p.weight;
       light = subst (λ n. n ≤ 16777216) k.1 (at_most (w + sum_by weighing.weight_of p.all) 16777216 k.0);

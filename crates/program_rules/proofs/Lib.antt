@@ -1,6 +1,7 @@
 pub mod Passing
 pub mod Names
 pub mod Acts
+pub mod Allowed
 pub mod Parts
 pub mod Composing
 pub mod Standing

@@ -6,7 +6,7 @@ use Rattle.st_form.specs.Formula.{Formula}
 use Rattle.st_form.specs.declared.variables.Variable.{Variable}
 use Rattle.st_reading.specs.Reading.{Label}
 use Rattle.st_program.specs.Tree.{Term, number, truth, Pieces, piece_assign, piece_if, no_piece, piece}
-use Rattle.st_program.specs.Types.{is_truth, MayChange, TargetsFit, IsNoTarget, PiecesFit}
+use Rattle.st_program.specs.Types.{is_truth, MayChange, IsNoTarget}
 use Rattle.expression_parser.specs.ExpressionTree.{Expr, start_of}
 use Rattle.spl_parser.specs.ProgramTree as raw
 use Rattle.expression_typer.specs.declared.fault.TypeFault.{TypeFault}
@@ -22,6 +22,7 @@ use Rattle.spl_typer.specs.Modest.{AllModest, StatementModest, ActionModest, Row
 use Rattle.spl_typer.specs.Shapes.{something, some_statement}
 use Rattle.spl_typer.specs.Statements.{tested, writable, target, counting, counter, wanted, right_side, is_target, targets, changes, assigned, pieces_of, pieces_in, pieces_along, pieces_behind, alone, pieces_inside}
 use Rattle.program_meaning.specs.Meaning.{IsVariable, IsTest, IsChange, AreChanges, no_change, change, act_of, IsInner, inner_skip, inner_assign, inner_assign_all, inner_await, inner_if, inner_if_else, inner_block, AreInner, no_inner, one_inner}
+use Rattle.program_rules.specs.Changes.{MayChangeAll, PiecesAreAllowed}
 use Rattle.program_rules.proofs.Passing.{Passes, onward, known_as}
 
 -- EXPRESSIONS
@@ -102,7 +103,7 @@ side_is s k e x m h v b =
     ∙ ap (λ (r : Result Term TypeFault). r >>= λ w. Ok (k.var, w)) (wanted_is k.truth (start_of e) x.1 b) ∙ ap Ok (pair_of k.var x.0 x.1 v)
 
 pub assign_is : {B : Type 0} (vs : List Variable) (s : List Known) (n : Label) (e : Expr) (x : ℕ × Term) (go : ℕ × Term → Result B TypeFault)
-    → Scoped vs s → IsModest e → IsChange s n e x → TargetsFit vs (x ∷ []) → (target s n >>= λ k. right_side s k e >>= λ y. go y) ≡ go x
+    → Scoped vs s → IsModest e → IsChange s n e x → MayChangeAll vs (x ∷ []) → (target s n >>= λ k. right_side s k e >>= λ y. go y) ≡ go x
 assign_is vs s n e x go scoped m h fits =
     let t = target_of vs s n x.0 (is_truth x.1) scoped h.0 fits.0 in
     ap (λ (r : Result Known TypeFault). r >>= λ k. right_side s k e >>= λ y. go y) (target_is s n x.0 (is_truth x.1) t)
@@ -114,11 +115,11 @@ Chosen s [] [] [] = Unit {0}
 Chosen s (k ∷ ks) (n ∷ ns) (x ∷ xs) = (target s n ≡ Ok k) × (k.var ≡ x.0) × (k.truth ≡ is_truth x.1) × Chosen s ks ns xs
 Chosen s _ _ _ = ⊥
 
-chosen : (vs : List Variable) (s : List Known) (ns : List Label) (es : List Expr) (xs : List (ℕ × Term)) → Scoped vs s → AreChanges s ns es xs → TargetsFit vs xs → (ks : List Known) × Chosen s ks ns xs
+chosen : (vs : List Variable) (s : List Known) (ns : List Label) (es : List Expr) (xs : List (ℕ × Term)) → Scoped vs s → AreChanges s ns es xs → MayChangeAll vs xs → (ks : List Known) × Chosen s ks ns xs
 chosen vs s ns es xs scoped no_change fits = ([], tt)
 chosen vs s ns es xs scoped (change {n = n} {ns = ms} {es = ds} {x = x} {xs = us} h hs) fits =
     let t = target_of vs s n x.0 (is_truth x.1) scoped h.0 fits.0 in
-    let more = chosen vs s ms ds us scoped hs fits.3 in
+    let more = chosen vs s ms ds us scoped hs fits.2 in
     (t.known ∷ more.0, (target_is s n x.0 (is_truth x.1) t, t.var, t.kind, more.1))
 
 -- none of these is a target yet
@@ -149,12 +150,12 @@ fresh_push done k v [] e h f = tt
 fresh_push done k v (x ∷ xs) e h f =
     (target_push x.0 done k f.0 (ap (λ i. nat_eq i x.0) e ∙ not_equal v x.0 h.0), fresh_push done k v xs e h.1 f.1)
 
-targets_are : (vs : List Variable) (s done : List Known) (ks : List Known) (ns : List Label) (xs : List (ℕ × Term)) → Chosen s ks ns xs → TargetsFit vs xs → Fresh done xs → targets s done ns ≡ Ok (done ++ ks)
+targets_are : (vs : List Variable) (s done : List Known) (ks : List Known) (ns : List Label) (xs : List (ℕ × Term)) → Chosen s ks ns xs → MayChangeAll vs xs → Fresh done xs → targets s done ns ≡ Ok (done ++ ks)
 targets_are vs s done [] [] [] c fits f = ap Ok (sym (append-nil done))
 targets_are vs s done (k ∷ ks) (n ∷ ns) (x ∷ xs) c fits f =
     ap (λ (r : Result Known TypeFault). r >>= λ j. cond (is_target j.var done) (Err (faults.SameTarget n.place)) (targets s (done ++ j ∷ []) ns)) c.0
     ∙ ap (λ b. cond b (Err (faults.SameTarget n.place)) (targets s (done ++ k ∷ []) ns)) (ap (λ v. is_target v done) c.1 ∙ f.0)
-    ∙ targets_are vs s (done ++ k ∷ []) ks ns xs c.3 fits.3 (fresh_push done k x.0 xs c.1 fits.2 f.1)
+    ∙ targets_are vs s (done ++ k ∷ []) ks ns xs c.3 fits.2 (fresh_push done k x.0 xs c.1 fits.1 f.1)
     ∙ ap Ok (append_assoc done (k ∷ []) ks)
 targets_are vs s done [] [] (x ∷ xs) c fits f = absurd c
 targets_are vs s done [] (n ∷ ns) xs c fits f = absurd c
@@ -180,7 +181,7 @@ no_target : (xs : List (ℕ × Term)) → Fresh [] xs
 no_target [] = tt
 no_target (x ∷ xs) = (refl, no_target xs)
 
-pub assigned_is : (vs : List Variable) (s : List Known) (ns : List Label) (place : ℕ) (es : List Expr) (xs : List (ℕ × Term)) → Scoped vs s → AllModest es → AreChanges s ns es xs → TargetsFit vs xs → assigned s ns place es ≡ Ok xs
+pub assigned_is : (vs : List Variable) (s : List Known) (ns : List Label) (place : ℕ) (es : List Expr) (xs : List (ℕ × Term)) → Scoped vs s → AllModest es → AreChanges s ns es xs → MayChangeAll vs xs → assigned s ns place es ≡ Ok xs
 assigned_is vs s ns place es xs scoped m h fits =
     let k = chosen vs s ns es xs scoped h fits in
     ap (λ (r : Result (List Known) TypeFault). r >>= λ ks. cond (nat_eq (length ns) (length es)) (changes s [] ks es) (Err (faults.WrongType place))) (targets_are vs s [] k.0 ns xs k.1 fits (no_target xs))
@@ -188,7 +189,7 @@ assigned_is vs s ns place es xs scoped m h fits =
     ∙ changes_are s [] k.0 ns es xs k.1 h m
 
 -- GROUPS
-fit_apart : (vs : List Variable) (xs ys : Pieces) → PiecesFit vs (pieces_behind xs ys) → PiecesFit vs xs × PiecesFit vs ys
+fit_apart : (vs : List Variable) (xs ys : Pieces) → PiecesAreAllowed vs (pieces_behind xs ys) → PiecesAreAllowed vs xs × PiecesAreAllowed vs ys
 fit_apart vs no_piece ys h = (tt, h)
 fit_apart vs (piece x xs) ys h = let k = fit_apart vs xs ys h.1 in ((h.0, k.0), k.1)
 
@@ -210,7 +211,7 @@ inner_passes s (raw.stated label place act) xs h = h
 
 module _ (vs : List Variable) (s : List Known) (scoped : Scoped vs s) where
   mutual
-    act_passes : (place : ℕ) (x : raw.Action) (xs : Pieces) → IsInner s x xs → ActionModest x → PiecesFit vs xs → Passes (These xs) (pieces_in s place x)
+    act_passes : (place : ℕ) (x : raw.Action) (xs : Pieces) → IsInner s x xs → ActionModest x → PiecesAreAllowed vs xs → Passes (These xs) (pieces_in s place x)
     act_passes place x xs inner_skip m fits = refl
     act_passes place x xs (inner_assign {n = n} {e = e} {x = c} h) m fits =
         subst (Passes (These xs)) (sym (assign_is vs s n e c (λ y. alone (piece_assign (y ∷ []))) scoped m h fits.0)) refl
@@ -219,15 +220,15 @@ module _ (vs : List Variable) (s : List Known) (scoped : Scoped vs s) where
     act_passes place x xs (inner_await {e = e} {f = f} h) m fits = known_as (These xs) (tested s e) f _ (test_is s e f m h) refl
     act_passes place x xs (inner_if {e = e} {f = f} {y = y} {ys = us} t h) m fits =
         known_as (These xs) (tested s e) f _ (test_is s e f m.0 t)
-        (onward (These us) (These xs) (pieces_of s y) _ (inner_passes s y us (act_passes (place_of y) (act_of y) us h (modest_act y m.1) fits.0.1)) (λ zs i. ap (λ z. piece (piece_if f z no_piece) no_piece) i))
+        (onward (These us) (These xs) (pieces_of s y) _ (inner_passes s y us (act_passes (place_of y) (act_of y) us h (modest_act y m.1) fits.0.0)) (λ zs i. ap (λ z. piece (piece_if f z no_piece) no_piece) i))
     act_passes place x xs (inner_if_else {e = e} {f = f} {y = y} {n = n} {ys = us} {ns = bs} t h k) m fits =
         known_as (These xs) (tested s e) f _ (test_is s e f m.0 t)
-        (onward (These us) (These xs) (pieces_of s y) _ (inner_passes s y us (act_passes (place_of y) (act_of y) us h (modest_act y m.1) fits.0.1))
-        (λ zs i. onward (These bs) (These xs) (pieces_of s n) _ (inner_passes s n bs (act_passes (place_of n) (act_of n) bs k (modest_act n m.2) fits.0.2))
+        (onward (These us) (These xs) (pieces_of s y) _ (inner_passes s y us (act_passes (place_of y) (act_of y) us h (modest_act y m.1) fits.0.0))
+        (λ zs i. onward (These bs) (These xs) (pieces_of s n) _ (inner_passes s n bs (act_passes (place_of n) (act_of n) bs k (modest_act n m.2) fits.0.1))
         (λ ws j. ap (λ z. piece (piece_if f z ws) no_piece) i ∙ ap (λ z. piece (piece_if f us z) no_piece) j)))
     act_passes place x xs (inner_block {ss = ss} h) m fits = some_passes (These xs) (some_statement ss) place _ (row_passes ss xs h m fits)
 
-    row_passes : (ss : raw.Statements) (xs : Pieces) → AreInner s ss xs → RowModest ss → PiecesFit vs xs → Passes (These xs) (pieces_along s ss)
+    row_passes : (ss : raw.Statements) (xs : Pieces) → AreInner s ss xs → RowModest ss → PiecesAreAllowed vs xs → Passes (These xs) (pieces_along s ss)
     row_passes ss xs no_inner m fits = refl
     row_passes ss xs (one_inner {x = x} {ss = rest} {ys = us} {zs = bs} h hs) m fits =
         let both = fit_apart vs us bs fits in
@@ -235,5 +236,5 @@ module _ (vs : List Variable) (s : List Known) (scoped : Scoped vs s) where
         (λ zs i. onward (These bs) (These xs) (pieces_along s rest) _ (row_passes rest bs hs m.1 both.1)
         (λ ws j. ap (λ z. pieces_behind z ws) i ∙ ap (λ z. pieces_behind us z) j))
 
-  pub inside_passes : (place : ℕ) (ss : raw.Statements) (xs : Pieces) → AreInner s ss xs → RowModest ss → PiecesFit vs xs → Passes (λ ys. ys ≡ xs) (pieces_inside s place ss)
+  pub inside_passes : (place : ℕ) (ss : raw.Statements) (xs : Pieces) → AreInner s ss xs → RowModest ss → PiecesAreAllowed vs xs → Passes (λ ys. ys ≡ xs) (pieces_inside s place ss)
   inside_passes place ss xs h m fits = some_passes (These xs) (some_statement ss) place _ (row_passes ss xs h m fits)

@@ -8,7 +8,6 @@ use Rattle.st_program.specs.Tree.{Statement, stated, Action, if_then, if_else, w
 use Rattle.st_program.specs.Tree as tree
 use Rattle.st_program.specs.Groups.{paths_along}
 use Rattle.st_program.specs.Locations.{NoLoop, NoLoopFirst, NoLoops, HeadsFit}
-use Rattle.st_program.specs.Types.{ActionFits}
 use Rattle.spl_parser.specs.ProgramTree as raw
 use Rattle.expression_typer.specs.declared.fault.TypeFault.{TypeFault}
 use Rattle.expression_typer.specs.Answers.{◌>>=◌}
@@ -24,6 +23,7 @@ use Rattle.spl_typer.specs.Walking.{fresh, beneath, location, labelled, no_loop,
 use Rattle.spl_typer.specs.Programs.{Labels}
 use Rattle.st_program.specs.Names.{names_in}
 use Rattle.program_meaning.specs.Meaning.{label_at, IsStatement, is_stated, IsAction, is_skip, is_critical, is_noncritical, is_assign, is_assign_all, is_await, is_request, is_release, is_if, is_if_else, is_while, is_loop, is_block, is_select, is_cooperate, is_group, AreStatements, no_more, one_more, IsBody, is_body, AreBodies, no_body, one_body}
+use Rattle.program_rules.specs.Changes.{ActionIsAllowed}
 use Rattle.program_rules.specs.Groups.{GroupIsSmall, path_weight}
 use Rattle.program_rules.proofs.Passing.{Passes, onward, known_as}
 use Rattle.program_rules.proofs.Names.{Texts}
@@ -34,7 +34,7 @@ use Rattle.program_rules.proofs.Standing.{Stands, Room, Ends, ended_room, ended_
 
 -- what each statement by itself keeps
 pub record IsFine (vs : List Variable) (a : Action) : Type 0 where
-  pub fits : ActionFits vs a
+  pub allowed : ActionIsAllowed vs a
   pub heads : HeadsFit a
   pub small : GroupIsSmall a
 
@@ -73,7 +73,7 @@ module _ (vs : List Variable) (s : List Known) (scoped : Scoped vs s) where
   group_passes place ss xs names w st fine room h pieces =
       onward {A = Pieces} {B = Made Action} (λ ys. ys ≡ xs) (Ends names w [] (tree.group xs ∷ [])) (pieces_inside s place ss) _ pieces
       (λ ys i. known_as {A = ℕ} {B = Made Action} (Ends names w [] (tree.group xs ∷ [])) (grouped place ys st.weight) (w + sum_by path_weight (paths_along xs)) _
-      (ap (λ z. grouped place z st.weight) i ∙ ap (grouped place xs) h.weight ∙ group_is place xs w fine.fits.1 fine.small (group_light w (sum_by path_weight (paths_along xs)) room.light))
+      (ap (λ z. grouped place z st.weight) i ∙ ap (grouped place xs) h.weight ∙ group_is place xs w fine.small.0 fine.small.1 (group_light w (sum_by path_weight (paths_along xs)) room.light))
       (record { names = h.names ∙ sym (append-nil names); weight = group_sum w (sum_by path_weight (paths_along xs)) }))
 
   mutual
@@ -96,15 +96,15 @@ module _ (vs : List Variable) (s : List Known) (scoped : Scoped vs s) where
     action_passes l0 head place x a ls o l names w st is_critical m fine each free room h = stays names w tree.critical st refl h
     action_passes l0 head place x a ls o l names w st is_noncritical m fine each free room h = stays names w tree.noncritical st refl h
     action_passes l0 head place x a ls o l names w st (is_assign {n = n} {e = e} {x = c} i) m fine each free room h =
-        subst (Passes (Ends names w ls (a ∷ acts_in a))) (sym (assign_is vs s n e c (λ y. give (tree.assign (y ∷ [])) st) scoped m i fine.fits)) (stays names w (tree.assign (c ∷ [])) st refl h)
+        subst (Passes (Ends names w ls (a ∷ acts_in a))) (sym (assign_is vs s n e c (λ y. give (tree.assign (y ∷ [])) st) scoped m i fine.allowed)) (stays names w (tree.assign (c ∷ [])) st refl h)
     action_passes l0 head place x a ls o l names w st (is_assign_all {ns = ns} {place = list} {es = es} {xs = xs} i) m fine each free room h =
-        known_as {A = List (ℕ × tree.Term)} {B = Made Action} (Ends names w ls (a ∷ acts_in a)) (assigned s ns list es) xs _ (assigned_is vs s ns list es xs scoped m i fine.fits) (stays names w (tree.assign xs) st refl h)
+        known_as {A = List (ℕ × tree.Term)} {B = Made Action} (Ends names w ls (a ∷ acts_in a)) (assigned s ns list es) xs _ (assigned_is vs s ns list es xs scoped m i fine.allowed) (stays names w (tree.assign xs) st refl h)
     action_passes l0 head place x a ls o l names w st (is_await {e = e} {f = f} t) m fine each free room h =
         known_as {A = Formula} {B = Made Action} (Ends names w ls (a ∷ acts_in a)) (tested s e) f _ (test_is s e f m t) (stays names w (tree.await f) st refl h)
     action_passes l0 head place x a ls o l names w st (is_request {n = n} {v = v} i) m fine each free room h =
-        known_as {A = ℕ} {B = Made Action} (Ends names w ls (a ∷ acts_in a)) (counter s n) v _ (counter_is vs s n v scoped i fine.fits) (stays names w (tree.request v) st refl h)
+        known_as {A = ℕ} {B = Made Action} (Ends names w ls (a ∷ acts_in a)) (counter s n) v _ (counter_is vs s n v scoped i fine.allowed) (stays names w (tree.request v) st refl h)
     action_passes l0 head place x a ls o l names w st (is_release {n = n} {v = v} i) m fine each free room h =
-        known_as {A = ℕ} {B = Made Action} (Ends names w ls (a ∷ acts_in a)) (counter s n) v _ (counter_is vs s n v scoped i fine.fits) (stays names w (tree.release v) st refl h)
+        known_as {A = ℕ} {B = Made Action} (Ends names w ls (a ∷ acts_in a)) (counter s n) v _ (counter_is vs s n v scoped i fine.allowed) (stays names w (tree.release v) st refl h)
     action_passes l0 head place x a ls o l names w st (is_if {e = e} {f = f} {y = y} {a = c} t i) m fine each free room h =
         known_as {A = Formula} {B = Made Action} (Ends names w ls (a ∷ acts_in a)) (tested s e) f _ (test_is s e f m.0 t)
         (onward {A = Made Statement} {B = Made Action} (Ends names w ls (acts c)) (Ends names w ls (a ∷ acts_in a)) (walked s fresh y st) _
@@ -146,7 +146,7 @@ module _ (vs : List Variable) (s : List Known) (scoped : Scoped vs s) where
         (bodies_pass bs ps ls names w st i m each (lighter names w ls a (acts_of ps) refl room) h)
         (λ b k. heavier names w ls a (acts_of ps) b.after refl k))
     action_passes l0 head place x a ls o l names w st (is_group {ss = ss} {xs = xs} i) m fine each free room h =
-        group_passes place ss xs names w st fine room h (inside_passes vs s scoped place ss xs i m fine.fits.0)
+        group_passes place ss xs names w st fine room h (inside_passes vs s scoped place ss xs i m fine.allowed)
 
     row_passes : (here there : Here) (ss : raw.Statements) (xs : Statements) (ls : Labels) (names : Texts) (w : ℕ) (st : State) → AreStatements s ss xs ls → RowModest ss → Each (IsFine vs) (acts_along xs) → (here.head ≡ true → NoLoopFirst xs) → (there.head ≡ true → Others xs)
         → Room names w ls (acts_along xs) → Stands names w st → Passes (Ends names w ls (acts_along xs)) (along s here there ss st)

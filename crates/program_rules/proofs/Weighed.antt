@@ -140,7 +140,7 @@ mutual
   acting_weighs s l head place (raw.group ss) st le =
       anyway {B = Made Action} (Weighs whole st.weight) (pieces_inside s place ss) _
       (λ xs. bound {A = ℕ} {B = Made Action} (GroupWas xs st.weight) (Weighs whole st.weight) (grouped place xs st.weight) _ (group_answers place xs st.weight le)
-      (λ v g. record { small = (g.small, tt); weight = group_sum v st.weight _ g.weight; light = g.light }))
+      (λ v g. record { small = ((g.fits, g.small), tt); weight = group_sum v st.weight _ g.weight; light = g.light }))
 
   branched_weighs : (s : List Known) (f : Formula) (y : Statement) (other : raw.Branch) (w : ℕ) (st : State) → Weighed w (acts y) st → Holds (Weighs whole w) (branched s f y other st)
   branched_weighs s f y raw.no_branch w st h = round w (if_then f y) (acts y) st tt refl h

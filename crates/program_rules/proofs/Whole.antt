@@ -33,8 +33,9 @@ use Rattle.program_meaning.proofs.Typed.{Listed, names_listed, typed_is_meant}
 use Rattle.program_meaning.proofs.Whole.{meant_once, means_is_typing}
 use Rattle.program_rules.specs.Groups.{GroupIsSmall, GroupsAreWithin}
 use Rattle.program_rules.specs.Lawful.{all_names, IsLawful}
-use Rattle.program_rules.specs.Theorems.{LawfulIsTyping, RulesAreKept}
+use Rattle.program_rules.specs.Theorems.{LawfulIsTyping, LawfulIsWell, RulesAreKept}
 use Rattle.program_rules.proofs.Passing.{Passes, onward, if_passes}
+use Rattle.program_rules.proofs.Allowed.{what_fits_is_allowed}
 use Rattle.program_rules.proofs.Names.{Texts}
 use Rattle.program_rules.proofs.Acts.{acts_of, all_act, each_act, act_of, load, load_sum}
 use Rattle.program_rules.proofs.Walks.{IsFine}
@@ -97,7 +98,7 @@ module _ (tree : raw.Program) (p : Typed) (modest : ProgramModest tree) (m : Mea
   fine : Each (IsFine p.variables) (acts_of p.processes)
   fine =
       subst (Each (IsFine p.variables)) (all_act p.processes)
-      (each_fine p.variables (all_spots p.processes) (λ x i. record { fits = lawful.well.typed x i; heads = lawful.well.well.heads x i; small = lawful.groups.small x i }))
+      (each_fine p.variables (all_spots p.processes) (λ x i. record { allowed = lawful.allowed x i; heads = lawful.heads x i; small = lawful.groups.small x i }))
 
   light : 0 + load (acts_of p.processes) ≤ 16777216
   light = within (load (acts_of p.processes)) (subst (λ n. n ≤ 16777216) (load_sum (all_spots p.processes) ∙ ap load (all_act p.processes)) lawful.groups.light)
@@ -186,9 +187,14 @@ lawful_is_typing text tree p s =
     let lies = spelled_lies text tree s in
     let modest = program_modest tree lies in
     let rules = ordered_rules 0 lies.end (program_faults tree) (program_ordered tree lies s.2.numbers) in (
-      λ e. let k : Kept tree p = subst (Holds (Kept tree)) e (typing_kept tree modest) in (typed_is_meant tree p modest e, record { apart = k.apart; well = typed_is_well tree p e; groups = k.groups }),
+      λ e. let k : Kept tree p = subst (Holds (Kept tree)) e (typing_kept tree modest) in
+          let well = typed_is_well tree p e in
+          (typed_is_meant tree p modest e, record { apart = k.apart; allowed = λ x i. what_fits_is_allowed p.variables (action x.stmt) (well.typed x i); heads = well.well.heads; groups = k.groups }),
       λ h. let q = some_program (typing tree) (program_faults tree) (typing_passes tree p modest h.0 h.1) (program_tells tree modest) rules in q.1 ∙ ap Ok (meant_once tree q.0 p (typed_is_meant tree q.0 modest q.1) h.0),
     )
+
+pub lawful_is_well : LawfulIsWell
+lawful_is_well text tree p s m l = typed_is_well tree p ((lawful_is_typing text tree p s).1 (m, l))
 
 pub rules_are_kept : RulesAreKept
 rules_are_kept text tree p s m =

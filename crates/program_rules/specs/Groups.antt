@@ -5,7 +5,7 @@ use Rattle.st_linear.specs.Linear.{Linear}
 use Rattle.st_form.specs.Formula.{Formula, formulas, atoms, atoms_of, weight}
 use Rattle.st_form.specs.Exchange.{exchanged}
 use Rattle.st_program.specs.Tree.{Term, number, truth, Action, skip, group, Processes, action}
-use Rattle.st_program.specs.Groups.{Link, tested, given, paths_along, Composed, nothing_composed, exchange_of, signed, composed_link, composed}
+use Rattle.st_program.specs.Groups.{Link, tested, given, paths_along, Composed, nothing_composed, exchange_of, signed, composed_link, composed, GroupFits}
 use Rattle.st_program.specs.Spots.{Spot, all_spots}
 use Rattle.st_program.specs.Member.{Member}
 
@@ -24,8 +24,9 @@ abbrev pub PathIsSmall : Composed → List Link → Type 0
 PathIsSmall c [] = ⊤
 PathIsSmall c (link ∷ path) = LinkIsSmall c link × IfSome (composed_link link c) (λ d. PathIsSmall d path)
 
+-- a group has few paths, on which numbers stay small; and along each of them it is small
 abbrev pub GroupIsSmall : Action → Type 0
-GroupIsSmall (group xs) = Each (PathIsSmall nothing_composed) (paths_along xs)
+GroupIsSmall (group xs) = GroupFits xs × Each (PathIsSmall nothing_composed) (paths_along xs)
 GroupIsSmall skip = ⊤
 GroupIsSmall _ = ⊤
 

@@ -26,6 +26,7 @@ use Rattle.proof_script.specs.Faults.{one_too_many}
 use Rattle.proof_script.specs.Listing.{Setting, formula_of, listed_formula_of, sum_of}
 use Rattle.proof_grammar.specs.Units.{IsFormula, IsNumber}
 use Rattle.proof_grammar.proofs.Counted.{Few}
+use Rattle.proof_grammar.proofs.Meanings.{formula_typed, formula_meant, number_typed, number_meant}
 use Rattle.st_reading.proofs.Phrases.{Phrase}
 use Rattle.proof_grammar.proofs.TypedTexts.{above_two, no_front, not_both, refused, typed_complete, typed_cut, undrawn}
 
@@ -47,11 +48,15 @@ none_read place (Err f) y rest h = cc
 module _ (g : Setting) where
   form_cut : (s : Stream) (x : Formula) (rest : Stream) → form_of (names_of g.names) s ≡ Ok (x, rest) → Cut (IsFormula g) s x rest
   unfolding form_of
-  form_cut = typed_cut (λ s. expression_of true (below true 32) s) (SpellsWithin true 32) (truth_of (names_of g.names)) (expression_sound true (below true 32) (Inside true 32) (below_sound true 32))
+  form_cut s x rest h =
+      let c = typed_cut (λ s. expression_of true (below true 32) s) (SpellsWithin true 32) (truth_of (names_of g.names)) (expression_sound true (below true 32) (Inside true 32) (below_sound true 32)) s x rest h in
+      record { text = c.text; is = c.is; spells = formula_meant g c.text x c.spells.tree c.spells.spells c.spells.typed }
 
   form_complete : (ts : List Lexeme) (x : Formula) → IsFormula g ts x → (after : Stream) → calm (ahead after) ≡ true → form_of (names_of g.names) (ts ++> after) ≡ Ok (x, after)
   unfolding form_of
-  form_complete = typed_complete (λ s. expression_of true (below true 32) s) (SpellsWithin true 32) (truth_of (names_of g.names)) calm (formula_complete true 32 32 (omega arith))
+  form_complete ts x l after h =
+      typed_complete (λ s. expression_of true (below true 32) s) (SpellsWithin true 32) (truth_of (names_of g.names)) calm (formula_complete true 32 32 (omega arith)) ts x
+      (record { tree = l.tree; spells = l.spells; typed = formula_typed g ts x l }) after h
 
   pub truth_begins : (ts : List Lexeme) (x : Formula) → IsFormula g ts x → (after : Stream) → calm (ahead after) ≡ true → undrawn (ahead (ts ++> after)) ≡ true
   truth_begins ts x l after h = at_test (is (ahead (ts ++> after)) marks.Diagram) refl
@@ -67,11 +72,15 @@ module _ (g : Setting) where
 
   linear_cut : (s : Stream) (x : Linear) (rest : Stream) → linear_of (names_of g.names) s ≡ Ok (x, rest) → Cut (IsNumber g) s x rest
   unfolding linear_of
-  linear_cut = typed_cut (tree_sum_of true (below true 32)) (IsSum true (Inside true 32)) (number_of (names_of g.names)) (sum_sound true (below true 32) (Inside true 32) (below_sound true 32))
+  linear_cut s x rest h =
+      let c = typed_cut (tree_sum_of true (below true 32)) (IsSum true (Inside true 32)) (number_of (names_of g.names)) (sum_sound true (below true 32) (Inside true 32) (below_sound true 32)) s x rest h in
+      record { text = c.text; is = c.is; spells = number_meant g c.text x c.spells.tree c.spells.spells c.spells.typed }
 
   linear_complete : (ts : List Lexeme) (x : Linear) → IsNumber g ts x → (after : Stream) → calm (ahead after) ≡ true → linear_of (names_of g.names) (ts ++> after) ≡ Ok (x, after)
   unfolding linear_of
-  linear_complete = typed_complete (tree_sum_of true (below true 32)) (IsSum true (Inside true 32)) (number_of (names_of g.names)) calm tree_complete
+  linear_complete ts x l after h =
+      typed_complete (tree_sum_of true (below true 32)) (IsSum true (Inside true 32)) (number_of (names_of g.names)) calm tree_complete ts x
+      (record { tree = l.tree; spells = l.spells; typed = number_typed g ts x l }) after h
 
   -- IN SCRIPTS
   pub truth_sound : Sound (formula_of g) (IsFormula g)

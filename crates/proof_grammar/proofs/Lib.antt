@@ -2,6 +2,8 @@ mod Judgements
 mod Conditions
 mod Counted
 mod TypedTexts
+mod Modest
+pub mod Meanings
 mod Formulas
 mod Lookups
 mod Names

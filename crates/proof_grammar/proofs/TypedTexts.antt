@@ -20,10 +20,15 @@ use Rattle.expression_parser.specs.Signs.{front, product_sign, sum_sign}
 use Rattle.expression_parser.specs.declared.sign.Front.TheVariants as fronts
 use Rattle.expression_typer.specs.declared.fault.TypeFault.{TypeFault}
 use Rattle.assertions.specs.Reading.{before, typed_behind}
-use Rattle.proof_grammar.specs.Phrases.{Typed}
 use Rattle.st_reading.proofs.Tokens.{but}
 
 -- WHAT IS TYPED AS A WHOLE
+-- the tokens spell an expression that is typed so
+pub record Typed {A : Type 0} (spelled : List Lexeme → Expr → Type 0) (typing : Expr → Result A TypeFault) (ts : List Lexeme) (x : A) : Type 0 where
+  pub tree : Expr
+  pub spells : spelled ts tree
+  pub typed : typing tree ≡ Ok x
+
 abbrev pub read_to : {A : Type 0} → A → Stream → Read Breach A
 read_to x s = Ok (x, s)
 

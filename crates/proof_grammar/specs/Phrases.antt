@@ -1,11 +1,13 @@
--- Texts that are judged as a whole.
-use Rattle.std.specs.Prelude.{List, Ok, Result, ◌≡◌}
+-- Expressions that stand for what they mean.
+use Rattle.std.specs.Prelude.{List, Some, ◌≡◌}
 use Rattle.st_tokens.specs.Stream.{Lexeme}
+use Rattle.st_program.specs.Tree.{Term}
 use Rattle.expression_parser.specs.ExpressionTree.{Expr}
-use Rattle.expression_typer.specs.declared.fault.TypeFault.{TypeFault}
+use Rattle.expression_typer.specs.Rules.{meaning_by}
+use Rattle.expression_typer.specs.Scope.{Names}
 
--- the tokens spell an expression that is typed so
-pub record Typed {A : Type 0} (spelled : List Lexeme → Expr → Type 0) (typing : Expr → Result A TypeFault) (ts : List Lexeme) (x : A) : Type 0 where
+-- the tokens spell an expression that means this, by what the names stand for
+pub record Meant (spelled : List Lexeme → Expr → Type 0) (names : Names) (ts : List Lexeme) (x : Term) : Type 0 where
   pub tree : Expr
   pub spells : spelled ts tree
-  pub typed : typing tree ≡ Ok x
+  pub means : meaning_by names tree ≡ Some x

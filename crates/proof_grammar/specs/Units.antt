@@ -9,16 +9,16 @@ use Rattle.st_form.specs.Formula.{Formula}
 use Rattle.st_form.specs.declared.conditions.Part.{Part}
 use Rattle.st_form.specs.declared.conditions.Part.TheVariants.{Whole}
 use Rattle.st_program.specs.Names.{IsNew}
+use Rattle.st_program.specs.Tree as terms
 use Rattle.observations.specs.Observation.{IsCompassionate, IsJust}
 use Rattle.temporal_goals.specs.Texts.{PlainStep, invariant}
 use Rattle.expression_parser.specs.Grammar.{Inside, IsSum, SpellsWithin}
 use Rattle.expression_typer.specs.Naming.{is_text, names_of}
-use Rattle.assertions.specs.Reading.{number_of, truth_of}
 use Rattle.rule_fits.specs.Fitting.{fairness_of}
 use Rattle.assertions.specs.Labels.{part_named}
 use Rattle.diagram_reader.specs.Transitions.{transition_named}
 use Rattle.proof_script.specs.Listing.{Setting}
-use Rattle.proof_grammar.specs.Phrases.{Typed}
+use Rattle.proof_grammar.specs.Phrases.{Meant}
 
 -- NAMES OF STEPS
 abbrev pub names_of_steps : List PlainStep → List (List ℕ)
@@ -49,10 +49,10 @@ module _ (g : Setting) where
   -- FORMULAS
   -- a formula with at most 32 levels, and an integer expression, over the program's names
   abbrev pub IsFormula : List Lexeme → Formula → Type 0
-  IsFormula = Typed (SpellsWithin true 32) (truth_of (names_of g.names))
+  IsFormula ts f = Meant (SpellsWithin true 32) (names_of g.names) ts (terms.truth f)
 
   abbrev pub IsNumber : List Lexeme → Linear → Type 0
-  IsNumber = Typed (IsSum true (Inside true 32)) (number_of (names_of g.names))
+  IsNumber ts f = Meant (IsSum true (Inside true 32)) (names_of g.names) ts (terms.number f)
 
   -- TRANSITIONS
   -- name [ "." ( "entry" | "exit" ) ]: the transition that is the statement with this label, or that part of it

@@ -17,6 +17,7 @@ use Rattle.ranked_net.specs.Making.{is_uncompassionate, is_unfair, owes_compassi
 use Rattle.diagram_reader.specs.Transitions.{transition_named}
 use Rattle.proof_script.specs.Listing.{Setting}
 use Rattle.proof_grammar.specs.Units.{IsFormula, IsNumber, IsTransition, IsHelper, IsGroup, a_transition, a_helper, a_group}
+use Rattle.proof_grammar.proofs.Meanings.{formula_typed, formula_meant, number_typed, number_meant}
 use Rattle.script_grammar.specs.RawScripts.{RawUnit, RawTransition}
 use Rattle.script_grammar.specs.Sizes.{transition_size}
 use Rattle.script_grammar.specs.Drawings.{IsUnit, IsReference, first_place, spells_unit, spells_reference}
@@ -68,27 +69,27 @@ module _ (g : Setting) where
   form_tree ts f l = record {
     raw = record { tree = l.tree; text = ts; place = first_place ts; size = length ts };
     spells = spells_unit ts l.tree (32, l.spells);
-    lawful = λ at. none_broken (ap (nesting_rules at) (none_passing forms ts l.tree l.spells)) (no_fault f (at + length ts) (truth_of (names_of g.names) l.tree) l.typed);
-    means = typed_value (truth_value false) f (truth_of (names_of g.names) l.tree) l.typed;
+    lawful = λ at. none_broken (ap (nesting_rules at) (none_passing forms ts l.tree l.spells)) (no_fault f (at + length ts) (truth_of (names_of g.names) l.tree) (formula_typed g ts f l));
+    means = typed_value (truth_value false) f (truth_of (names_of g.names) l.tree) (formula_typed g ts f l);
   }
 
   pub form_lawful : (ts : List Lexeme) (u : RawUnit) (at : ℕ) → IsUnit Forms ts u → form_rules g at u ≡ [] → IsFormula g ts (form_meant g u)
   form_lawful ts u at (spells_unit us e l) h =
       let k = both_kept (nesting_rules at (first_passing form_passes us)) (typing_rules (at + length us) (truth_of (names_of g.names) e)) h in
-      record { tree = e; spells = within_32 forms us e l (none_nested at (first_passing form_passes us) k.0); typed = is_typed (truth_value false) (at + length us) (truth_of (names_of g.names) e) k.1 }
+      formula_meant g us _ e (within_32 forms us e l (none_nested at (first_passing form_passes us) k.0)) (is_typed (truth_value false) (at + length us) (truth_of (names_of g.names) e) k.1)
 
   pub sum_tree : (ts : List Lexeme) (f : Linear) → IsNumber g ts f → Tree (IsUnit Sums) (sum_rules g) (sum_meant g) ts f
   sum_tree ts f l = record {
     raw = record { tree = l.tree; text = ts; place = first_place ts; size = length ts };
     spells = spells_unit ts l.tree (32, l.spells);
-    lawful = λ at. none_broken (ap (nesting_rules at) (none_passing sums ts l.tree l.spells)) (no_fault f (at + length ts) (number_of (names_of g.names) l.tree) l.typed);
-    means = typed_value (constant (pos 0)) f (number_of (names_of g.names) l.tree) l.typed;
+    lawful = λ at. none_broken (ap (nesting_rules at) (none_passing sums ts l.tree l.spells)) (no_fault f (at + length ts) (number_of (names_of g.names) l.tree) (number_typed g ts f l));
+    means = typed_value (constant (pos 0)) f (number_of (names_of g.names) l.tree) (number_typed g ts f l);
   }
 
   pub sum_lawful : (ts : List Lexeme) (u : RawUnit) (at : ℕ) → IsUnit Sums ts u → sum_rules g at u ≡ [] → IsNumber g ts (sum_meant g u)
   sum_lawful ts u at (spells_unit us e l) h =
       let k = both_kept (nesting_rules at (first_passing sum_passes us)) (typing_rules (at + length us) (number_of (names_of g.names) e)) h in
-      record { tree = e; spells = within_32 sums us e l (none_nested at (first_passing sum_passes us) k.0); typed = is_typed (constant (pos 0)) (at + length us) (number_of (names_of g.names) e) k.1 }
+      number_meant g us _ e (within_32 sums us e l (none_nested at (first_passing sum_passes us) k.0)) (is_typed (constant (pos 0)) (at + length us) (number_of (names_of g.names) e) k.1)
 
   -- TRANSITIONS
   pub transition_tree : (ts : List Lexeme) (n : ℕ) → IsTransition g ts n → Tree IsReference (transition_rules g) (transition_meant g) ts n

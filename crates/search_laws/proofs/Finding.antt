@@ -70,10 +70,10 @@ all-within limit (p ∷ ps) h =
     All-cons (λ p. unsigned_abs p.1 < limit) p ps (within-less limit p.1 b.0) (all-within limit ps b.1)
 
 -- ---- moves
-abbrev Sound : Setting → Tree → Problem → Type 0
+abbrev pub Sound : Setting → Tree → Problem → Type 0
 Sound k t p = Valid k t p × IsLimited t
 
-abbrev Good : Setting → Problem → Type 0
+abbrev pub Good : Setting → Problem → Type 0
 Good k p = IsShaped (IsProper (length k.variables)) p
 
 there : {A : Type 0} (o : Option A) (P : A → Type 0) (x : A) → o ≡ Some x → P x → There o P
@@ -138,10 +138,10 @@ branch-sound k p s ps ts d h =
     let whole : division k p s ≡ Some ps = ap (option_and_then (λ fs. divided_into k p fs s)) d.are ∙ d.division in
     (there (division k p s) (AreValid k ts) ps whole r.0, (step-limited s d.step, r.1))
 
-abbrev Any : Failure → Problem → Type 0
+abbrev pub Any : Failure → Problem → Type 0
 Any e p = Unit {0}
 
-search-sound : (k : Setting) → Explains (move_of k) (Good k) (Sound k) Any
+pub search-sound : (k : Setting) → Explains (move_of k) (Good k) (Sound k) Any
 search-sound k = record {
   closing = λ p t g e. closed-sound k p t g (subst (Describes k p) e (describes k p));
   keeping = λ p s ps g e.

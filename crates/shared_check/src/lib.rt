@@ -4,12 +4,12 @@
 //! found once for all problems that have it. `farkas_check` says what is valid. Where the table is full nothing is said.
 #![tactic(auto)]
 
-mod cases;
+pub mod cases;
 mod checking;
 mod closing;
-mod leaves;
-mod problems;
-mod splits;
-mod values;
+pub mod leaves;
+pub mod problems;
+pub mod splits;
+pub mod values;
 
 pub use checking::check;

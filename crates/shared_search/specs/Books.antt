@@ -6,16 +6,18 @@ use Rattle.st_form.specs.Formula.{Formula}
 use Rattle.st_form.specs.Simple.{Decided}
 use Rattle.control_states.specs.Control.{component_at}
 use Rattle.st_certificate.specs.Tree.{Tree}
-use Rattle.farkas_check.specs.Problem.{Setting}
+use Rattle.farkas_check.specs.Problem.{Setting, first_problem}
 use Rattle.search_laws.specs.Moves.{valid, decided}
 use Rattle.form_table.specs.Contents.{Choice, Grows, decision_at, formulas_of}
 use Rattle.tree_table.specs.Table.{tree, Extends}
 use Rattle.tree_table.specs.Nodes.{trees_in}
 use Rattle.sharing_laws.specs.Lists.{by_case_alone, by_truth_alone}
+use Rattle.sharing_laws.specs.Contexts.{first_context, in_context}
 use Rattle.shared_search.specs.declared.decisions.Decisions.{Decisions}
 use Rattle.shared_search.specs.declared.memo.Memo.{Memo}
 use Rattle.shared_search.specs.declared.book.Book.{Book}
 use Rattle.shared_search.specs.Contexts.{AreInside, Keeps}
+use Rattle.shared_search.specs.Lists.{HasTree}
 use Rattle.shared_search.specs.Found.{Holds}
 
 -- these numbers are those of these decisions
@@ -70,6 +72,10 @@ tree_in b n = tree (trees_in b.memo.trees) n
 
 abbrev pub IsThere : Book → ℕ → Type 0
 IsThere b n = n < length (trees_in b.memo.trees)
+
+-- the search over lists finds the tree with this number for the condition's conjuncts, whatever its size
+abbrev pub IsTreeFound : Setting → Formula → Formula → Book → ℕ → Type 0
+IsTreeFound k given shown b n = HasTree k (trees_in b.memo.trees) n (in_context (first_context k.control) (first_problem k given shown).conjuncts)
 
 -- what is found is the certificate that the search finds
 abbrev pub IsFound : Setting → Formula → Formula → Book → Option ℕ → Type 0

@@ -1,11 +1,11 @@
 //! Finding the certificate of a condition in a book.
 
-ghost use Rattle.std.specs.Prelude.{◌≡◌, ◌<◌, ◌^◌, IfOk, length, true};
+ghost use Rattle.std.specs.Prelude.{◌≡◌, ◌<◌, ◌^◌, IfOk, IfSome, length, true};
 ghost use Rattle.st_form.specs.Shared.{given_of, shown_of};
 ghost use Rattle.st_certificate.specs.Plain.{plain as tree_of};
 ghost use Rattle.farkas_check.specs.PlainProblem.{setting};
 ghost use Rattle.farkas_check.specs.Limits.{IsNarrow};
-ghost use Rattle.shared_search.specs.Books.{Knows, IsFound, IsThere, tree_in};
+ghost use Rattle.shared_search.specs.Books.{Knows, IsFound, IsTreeFound, IsThere, tree_in};
 
 use crate::book::Book;
 use crate::lists::Child;
@@ -52,7 +52,7 @@ fn renew(
     Ok(())
 }
 
-/// What is found in the book as it is.
+/// What is found in the book as it is, of any size.
 fn find_in(
     alloc: Global,
     book: &mut Book,
@@ -65,14 +65,14 @@ fn find_in(
     requires shown { IsNarrow (shown_of condition.now) }
     requires knows { Knows (setting components.now variables.now) book.old }
     ensures knows { Knows (setting components.now variables.now) book.new }
-    ensures found { IfOk result (λ o. IsFound (setting components.now variables.now) (given_of condition.now) (shown_of condition.now) book.new o) }
+    ensures found { IfOk result (λ o. IfSome o (IsTreeFound (setting components.now variables.now) (given_of condition.now) (shown_of condition.now) book.new)) }
 {
     book.memo.left = most;
     let list = book
         .memo
         .table
         .first_list(alloc, condition.given.as_slice(), &condition.shown)?;
-    match walk(
+    walk(
         alloc,
         &mut book.memo,
         &book.decisions,
@@ -80,16 +80,27 @@ fn find_in(
         variables,
         Child { context: 0, list },
         MOST_LEVELS,
-    )? {
-        None => Ok(None),
-        Some(tree) => {
-            if book.memo.trees.is_modest(tree) {
-                Ok(Some(tree))
-            } else {
-                Ok(None)
-            }
-        }
-    }
+    )
+}
+
+/// The number of the tree that the search over lists finds for a condition, where at most so many lists are searched for it. It may have
+/// any number of nodes; it is a valid certificate of the condition. With `None` nothing is said.
+pub fn find_tree(
+    alloc: Global,
+    book: &mut Book,
+    components: &Components,
+    variables: &[Variable],
+    condition: &Condition,
+    most: u32,
+) -> Result<Option<u32>, Memory>
+    requires given { IsNarrow (given_of condition.now) }
+    requires shown { IsNarrow (shown_of condition.now) }
+    requires knows { Knows (setting components.now variables.now) book.old }
+    ensures knows { Knows (setting components.now variables.now) book.new }
+    ensures found { IfOk result (λ o. IfSome o (IsTreeFound (setting components.now variables.now) (given_of condition.now) (shown_of condition.now) book.new)) }
+{
+    renew(alloc, book, components, variables)?;
+    find_in(alloc, book, components, variables, condition, most)
 }
 
 /// The number of the certificate that the search finds for a condition, where at most so many lists are searched for it.
@@ -108,8 +119,16 @@ pub fn find(
     ensures knows { Knows (setting components.now variables.now) book.new }
     ensures found { IfOk result (λ o. IsFound (setting components.now variables.now) (given_of condition.now) (shown_of condition.now) book.new o) }
 {
-    renew(alloc, book, components, variables)?;
-    find_in(alloc, book, components, variables, condition, most)
+    match find_tree(alloc, book, components, variables, condition, most)? {
+        None => Ok(None),
+        Some(tree) => {
+            if book.memo.trees.is_modest(tree) {
+                Ok(Some(tree))
+            } else {
+                Ok(None)
+            }
+        }
+    }
 }
 
 /// The certificate with a number.

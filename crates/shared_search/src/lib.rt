@@ -23,6 +23,6 @@ mod walk;
 
 pub use book::Book;
 pub use decisions::Decisions;
-pub use finding::{certificate, find, is_same};
+pub use finding::{certificate, find, find_tree, is_same};
 pub use memo::Memo;
 pub use next_component::component_for;

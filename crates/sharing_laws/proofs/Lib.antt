@@ -6,3 +6,4 @@ pub mod Choosing
 pub mod Starting
 pub mod Deciding
 pub mod Moving
+pub mod Validity

@@ -5,11 +5,11 @@ use Rattle.std.specs.Prelude.{◌&&◌, nat_lt, if◌then◌else◌, slice_get, 
 use Rattle.std.specs.Option.{option_map}
 use Rattle.std.proofs.lemmas.Bool.{and_parts}
 use Rattle.std.proofs.lemmas.List.{length-replicate}
-use Rattle.st_form.specs.Formula.{Formulas, none}
+use Rattle.st_form.specs.Formula.{Formula, Formulas, none}
 use Rattle.control_states.specs.declared.alternative.Alternative.{Alternative}
 use Rattle.control_states.specs.Control.{component_at}
 use Rattle.control_states.specs.Place.{place}
-use Rattle.st_certificate.specs.Tree.{by_case, by_truth}
+use Rattle.st_certificate.specs.Tree.{Tree, by_case, by_truth}
 use Rattle.farkas_check.specs.Problem.{Setting, Problem, is_free, known_active, may_case, has_truth, may_truth, case_problems, truth_problem, split_from, split_problems, lines_of, first_problem}
 use Rattle.elimination_laws.specs.Stages.{Ending, through, contradiction, too_wide, ending}
 use Rattle.search_laws.specs.Walks.{left_open, divides, fails}
@@ -20,6 +20,7 @@ use Rattle.basic_laws.proofs.Numbers.{less}
 use Rattle.sharing_laws.specs.Lists.{truth_lists}
 use Rattle.sharing_laws.specs.Lists as lists
 use Rattle.sharing_laws.specs.Contexts.{has_inside, InContext, in_context, case_lists_in, by_component_in, moved_in, by_place_in, by_conjuncts_in, context_move, first_context, ContextsFindTheSame}
+use Rattle.sharing_laws.specs.Finds.{Finds}
 use Rattle.sharing_laws.proofs.Following.{AreLike, IsLike, MovesAreLike, finds-follow}
 use Rattle.sharing_laws.proofs.Walking.{walk-finds}
 use Rattle.sharing_laws.proofs.Placing.{empty-at}
@@ -104,8 +105,10 @@ conjuncts-like k p x seen (Some fs) h = by_first (first_place_of fs) refl
 moves-like : (k : Setting) → MovesAreLike (IsSeen k) (move_of k) (context_move k)
 moves-like k p x seen = subst (λ o. IsLike (IsSeen k) (move_of k p) (by_conjuncts_in k x.context o)) seen.conjuncts (conjuncts-like k p x seen p.conjuncts seen.fresh.free)
 
-pub contexts-find : ContextsFindTheSame
-contexts-find k given shown t modest h =
+-- what the search over lists finds for a condition, the search over problems finds
+pub problems-find : (k : Setting) (given shown : Formula) (t : Tree) → Finds (context_move k) t (in_context (first_context k.control) (first_problem k given shown).conjuncts)
+    → Finds (move_of k) t (first_problem k given shown)
+problems-find k given shown t h =
     let n : ℕ = length k.control.components in
     let first : Problem = first_problem k given shown in
     let seen : IsSeen k first (in_context (first_context k.control) first.conjuncts) = record {
@@ -114,5 +117,8 @@ contexts-find k given shown t modest h =
       entries = length-replicate n None;
       kept = λ c. empty-at Alternative n c ∙ sym (kept-none (has_inside k.control c) (slice_index_or first.cases c None) (empty-at Alternative n c));
     } in
-    let found = finds-follow (IsSeen k) (move_of k) (context_move k) (moves-like k) t first (in_context (first_context k.control) first.conjuncts) seen h in
-    ap verdict_of (walk-finds (move_of k) t first 400 0 found (omega (arith, modest.count)) modest.depth)
+    finds-follow (IsSeen k) (move_of k) (context_move k) (moves-like k) t first (in_context (first_context k.control) first.conjuncts) seen h
+
+pub contexts-find : ContextsFindTheSame
+contexts-find k given shown t modest h =
+    ap verdict_of (walk-finds (move_of k) t (first_problem k given shown) 400 0 (problems-find k given shown t h) (omega (arith, modest.count)) modest.depth)

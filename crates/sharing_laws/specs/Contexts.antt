@@ -9,6 +9,8 @@ use Rattle.control_states.specs.declared.alternative.Alternative.{Alternative}
 use Rattle.control_states.specs.Control.{ControlFacts, component_at}
 use Rattle.st_certificate.specs.Tree.{Tree, by_case, impossible}
 use Rattle.farkas_check.specs.Problem.{Setting, may_case, first_problem}
+use Rattle.farkas_check.specs.Valid.{IsCertificate}
+use Rattle.search_laws.specs.Forms.{AllForms, IsProper}
 use Rattle.search_laws.specs.Moves.{first_place_of, first_truth_of, component_for, valid, decided}
 use Rattle.search_laws.specs.Sizes.{IsModestTree}
 use Rattle.search_laws.specs.Walks.{left_open, Move, closes, divides, fails}
@@ -72,3 +74,9 @@ first_context k = replicate (length k.components) None
 abbrev pub ContextsFindTheSame : Type 0
 ContextsFindTheSame = (k : Setting) (given shown : Formula) (t : Tree) → IsModestTree t
     → Finds (context_move k) t (in_context (first_context k.control) (first_problem k given shown).conjuncts) → decided k given shown ≡ valid t
+
+-- a tree of any size that it finds is a valid certificate
+abbrev pub FoundTreesAreValid : Type 0
+FoundTreesAreValid = (k : Setting) (given shown : Formula) (t : Tree)
+    → AllForms (IsProper (length k.variables)) given → AllForms (IsProper (length k.variables)) shown
+    → Finds (context_move k) t (in_context (first_context k.control) (first_problem k given shown).conjuncts) → IsCertificate k given shown t

@@ -9,6 +9,7 @@ use Rattle.step_plan.specs.Plan.{Told}
 use Rattle.step_plan.specs.Ending.{EndsHonestly}
 use Rattle.step_run.specs.Checked.{goals_proved}
 use Rattle.step_run.specs.Verified.{goals_counted}
+use Rattle.step_run.proofs.Within.{none_pass}
 use Rattle.status_meanings.specs.Stages.{is_read, is_program, is_script, posed_over, passes_none}
 use Rattle.status_meanings.specs.Ends.{has_blocks, finds_all, writes, is_run, finds_these}
 use Rattle.status_meanings.specs.Statuses.{EndsAs, RunsEndSo}
@@ -22,24 +23,24 @@ ends_so told (Some (checks a b c)) text h =
     let o = goals_proved x in
     subst (λ z. EndsAs told (Some (checks a b c)) (proved_with z)) h.is
     (is_read h.pt o h.files.program h.files.short.0 (is_program h.p o r.scripted.program
-    (is_read h.qt o h.files.proof h.files.short.1 (is_script h.steps o r.scripted.script (passes_none o r.few (is_read h.ct o h.third h.short (has_blocks h.texts.blocks)))))))
+    (is_read h.qt o h.files.proof h.files.short.1 (is_script h.steps o r.scripted.script (passes_none o (none_pass h.p h.steps r.within) (is_read h.ct o h.third h.short (has_blocks h.texts.blocks)))))))
 ends_so told (Some (verifies a b)) text h =
     let r = h.texts.reads in
     let o = goals_proved (posed_over h.p h.steps) in
     subst (λ z. EndsAs told (Some (verifies a b)) (proved_with z)) h.is
     (is_read h.pt o h.files.program h.files.short.0 (is_program h.p o r.scripted.program
-    (is_read h.qt o h.files.proof h.files.short.1 (is_script h.steps o r.scripted.script (passes_none o r.few (finds_all h.trees o h.texts.found refl))))))
+    (is_read h.qt o h.files.proof h.files.short.1 (is_script h.steps o r.scripted.script (passes_none o (none_pass h.p h.steps r.within) (finds_all h.trees o h.texts.found refl))))))
 ends_so told (Some (proves a b)) text h =
     let r = h.texts.reads in
     subst (λ z. EndsAs told (Some (proves a b)) (proved_with z)) h.is
     (is_read h.pt _ h.files.program h.files.short.0 (is_program h.p _ r.scripted.program
-    (is_read h.qt _ h.files.proof h.files.short.1 (is_script h.steps _ r.scripted.script (passes_none _ r.few (finds_all h.trees _ h.texts.found (writes h.short)))))))
+    (is_read h.qt _ h.files.proof h.files.short.1 (is_script h.steps _ r.scripted.script (passes_none _ (none_pass h.p h.steps r.within) (finds_all h.trees _ h.texts.found (writes h.short)))))))
 ends_so told (Some (makes n)) text h =
     let r = h.texts.reads in
     let o = goals_counted (posed_over h.p h.steps) h.trees in
     record {
       inner = o;
-      ends = is_program h.p o r.scripted.program (is_script h.steps o r.scripted.script (passes_none o r.few (finds_all h.trees o h.texts.found refl)));
+      ends = is_program h.p o r.scripted.program (is_script h.steps o r.scripted.script (passes_none o (none_pass h.p h.steps r.within) (finds_all h.trees o h.texts.found refl)));
       is = ap proved_with h.is;
     }
 ends_so told (Some (traces a b c)) text h =

@@ -18,6 +18,7 @@ use Rattle.step_run.specs.Invariants.{invariants_of}
 use Rattle.step_run.specs.Plans.{source_of_text, obliged, posed_of_text, posed_plan, conditions_plan, check_posed, verify_posed, prove_posed, workload_posed, workload_conditions, count_posed, with_number, numbered, scripted_of_text, script_plan, scripted_plan, trace_scripted, find_in, plan_of}
 use Rattle.step_run.specs.WellFormed.{IsProgram}
 use Rattle.step_run.proofs.Named.{only_workload}
+use Rattle.step_run.proofs.Meant.{program_well}
 use Rattle.step_run.proofs.Posing.{few_drafts}
 use Rattle.status_meanings.specs.Stages.{FileGoes, ProgramGoes, ScriptGoes, posed_over, LimitsGo, ScriptedTexts, MadeTexts, PosedFiles, ScriptedFiles}
 use Rattle.status_meanings.specs.Ends.{CheckGoes, SearchGoes, WritesGo, TraceGoes, FindsGo}
@@ -139,8 +140,8 @@ module _ (law : TextLaws) (blocks : BlockLaws) (trace : TraceLaws) (told : Told)
       record { inner = h.0; ends = workload_to law told n h.0 h.1; is = h.2 }
   to (Some (traces a b c)) o e =
       scripted_to law told a b (trace_scripted c) (λ x q. FileGoes told Schedule c (λ st r. TraceGoes x st r) q)
-      (λ pt p steps q is f. (let x = over p steps in
-      file_to told Schedule c (λ st. ends (traced x st)) (λ st r. TraceGoes x st r) (λ st r g. trace_to trace x is.well.well st r (some_is (traced x st) r g)) q f)) o e
+      (λ pt p steps q is f. (let x = over p steps in let well = (program_well law.meant pt p is).well in
+      file_to told Schedule c (λ st. ends (traced x st)) (λ st r. TraceGoes x st r) (λ st r g. trace_to trace x well st r (some_is (traced x st) r g)) q f)) o e
   to (Some (finds a)) o e =
       file_to told Program a (λ pt. then_plan (source_of_text pt) find_in) (λ pt q. ProgramGoes pt (λ p r. FindsGo p r) q)
       (λ pt q f. program_to law told pt (λ (P : Plan Typed). then_plan P find_in) find_in (λ r. refl) (λ p. refl) (λ p r. FindsGo p r) (λ p r is g. finds_to p r (some_is (invariants_of p) r g)) q f) o e
@@ -161,8 +162,8 @@ module _ (law : TextLaws) (blocks : BlockLaws) (trace : TraceLaws) (told : Told)
       numbered_from law told n (then_plan (workload_conditions n) count_posed) h.inner (only_workload (λ role name. ⊥) n) (workload_from law told n h.inner h.ends) ∙ some (with_number n h.inner) o h.is
   from (Some (traces a b c)) o h =
       scripted_from law told a b (trace_scripted c) (λ x q. FileGoes told Schedule c (λ st r. TraceGoes x st r) q)
-      (λ pt p steps q is f. (let x = over p steps in
-      file_from told Schedule c (λ st. ends (traced x st)) (λ st r. TraceGoes x st r) (λ st r g. some (traced x st) r (trace_from trace x is.well.well st r g)) q f)) o h
+      (λ pt p steps q is f. (let x = over p steps in let well = (program_well law.meant pt p is).well in
+      file_from told Schedule c (λ st. ends (traced x st)) (λ st r. TraceGoes x st r) (λ st r g. some (traced x st) r (trace_from trace x well st r g)) q f)) o h
   from (Some (finds a)) o h =
       file_from told Program a (λ pt. then_plan (source_of_text pt) find_in) (λ pt q. ProgramGoes pt (λ p r. FindsGo p r) q)
       (λ pt q f. program_from law told pt (λ (P : Plan Typed). then_plan P find_in) find_in (λ r. refl) (λ p. refl) (λ p r. FindsGo p r) (λ p r is g. some (invariants_of p) r (finds_from p r g)) q f) o h

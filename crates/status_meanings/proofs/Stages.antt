@@ -14,7 +14,8 @@ use Rattle.expression_typer.specs.declared.fault.TypeFault.{TypeFault}
 use Rattle.expression_typer.specs.Placed.{IsLeast}
 use Rattle.spl_typer.specs.Programs.{Typed, typing}
 use Rattle.spl_typer.specs.ProgramRules.{program_faults}
-use Rattle.typing_laws.specs.Laws.{TellsLeast, ReadIsTyped, TypedIsWell}
+use Rattle.typing_laws.specs.Laws.{TellsLeast, ReadIsTyped}
+use Rattle.program_rules.specs.Theorems.{LawfulIsTyping}
 use Rattle.proof_grammar.specs.Theorems.{SpelledScriptsAreRead, ReadScriptsAreSpelled}
 use Rattle.script_grammar.specs.FirstFaults.{ScriptsFirstFault}
 use Rattle.step_report.specs.declared.refusals.FileRole.{FileRole}
@@ -29,6 +30,7 @@ use Rattle.step_run.specs.Conditions.{Posed, words_over, steps_spelled, passes_l
 use Rattle.step_run.specs.Plans.{source_of_text, script_of_text, obliged}
 use Rattle.step_run.specs.WellFormed.{IsProgram}
 use Rattle.step_run.proofs.Sources.{source_read}
+use Rattle.step_run.proofs.Meant.{typed_means, program_spelled}
 use Rattle.step_run.proofs.Posing.{script_read, obliged_is}
 use Rattle.status_meanings.specs.Stages.{FileGoes, is_too_long, is_read, IsOffGrammar, ProgramGoes, off_grammar, breaks_rule, is_program, IsOffScript, ScriptGoes, off_script, is_script, posed_over, LimitsGo, passes_one, passes_none}
 
@@ -38,7 +40,7 @@ pub record TextLaws : Type 0 where
   pub read : SpelledIsRead
   pub first : FirstFault
   pub typed : ReadIsTyped
-  pub well : TypedIsWell
+  pub meant : LawfulIsTyping
   pub scripts_spelled : ReadScriptsAreSpelled
   pub scripts_read : SpelledScriptsAreRead
   pub scripts_first : ScriptsFirstFault
@@ -114,13 +116,7 @@ module _ (law : TextLaws) (told : Told) (pt : List ℕ) (wrap : Plan Typed → P
   program_gone p is = ap (λ (q : Plan ⊥). outcome_of told q) (ap wrap (source_read pt (Ok p) is) ∙ goes p)
 
   program_of : (x : raw.Program) (p : Typed) → parsed pt ≡ Ok x → typing x ≡ Ok p → IsProgram pt p
-  program_of x p reads is = record {
-    text = x;
-    spelled = law.spelled pt x reads;
-    lawful = told_least (typing x) (Ok p) (program_faults x) is (law.typed pt x reads).1;
-    typed = is;
-    well = law.well x p is;
-  }
+  program_of x p reads is = typed_means law.spelled law.meant pt x p reads is
 
   module _ (behind : (p : Typed) (o : Outcome) → IsProgram pt p → outcome_of told (next p) ≡ Some o → Next p o) where
     by_typing : (x : raw.Program) (o : Outcome) (r : Result Typed TypeFault) → parsed pt ≡ Ok x → typing x ≡ r → outcome_of told (wrap (source_of_text pt)) ≡ Some o → ProgramGoes pt Next o
@@ -149,7 +145,7 @@ module _ (law : TextLaws) (told : Told) (pt : List ℕ) (wrap : Plan Typed → P
   program_from behind o (breaks_rule x f spells least) =
       let reads = law.read pt x spells in
       program_ended (of_rule f) (source_ruled pt x f reads (least_is x f least (typing x) refl (law.typed pt x reads).1))
-  program_from behind o (is_program p q h n) = program_gone p (source_ok pt h.text p (law.read pt h.text h.spelled) h.typed) ∙ behind p q h n
+  program_from behind o (is_program p q h n) = program_gone p (program_spelled law.read law.meant pt p h) ∙ behind p q h n
 
 -- SCRIPTS
 module _ (law : TextLaws) (told : Told) (p : Typed) (qt : List ℕ) (wrap : Plan (List PlainStep) → Plan ⊥) (next : List PlainStep → Plan ⊥) (stops : (o : Outcome) → wrap (ends o) ≡ ends o) (goes : (steps : List PlainStep) → wrap (goes_on steps) ≡ next steps) (Next : List PlainStep → Outcome → Type 0) where

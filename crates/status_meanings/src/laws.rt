@@ -9,6 +9,7 @@ use cert_laws::laws::{
     end_is_exact, header_is_read, limit_is_exact, malformed_is_exact, need_is_exact,
     read_is_spelled, spelled_is_read,
 };
+use program_rules::laws::lawful_is_typing;
 use proof_grammar::laws::{read_scripts_are_spelled, spelled_scripts_are_read};
 use schedule_grammar::laws::{
     read_schedules_are_spelled, schedules_first_fault, spelled_schedules_are_read,
@@ -16,7 +17,7 @@ use schedule_grammar::laws::{
 use script_grammar::laws::scripts_first_fault;
 use spl_parser::laws::{first_fault, what_is_read_is_spelled, what_is_spelled_is_read};
 use trace_laws::laws::{made_schedules_are_runs, schedules_stop_where_runs_do};
-use typing_laws::laws::{read_is_typed, typed_is_well};
+use typing_laws::laws::read_is_typed;
 
 /// The run of a request over files that are told has a status and a text exactly where it ends so: at a file that is too long; at
 /// the first fault of a text; at a limit; at the first condition that isn't discharged; where a schedule gives no run; or with
@@ -28,7 +29,7 @@ pub fn runs_end_so()
     what_is_spelled_is_read();
     first_fault();
     read_is_typed();
-    typed_is_well();
+    lawful_is_typing();
     read_scripts_are_spelled();
     spelled_scripts_are_read();
     scripts_first_fault();

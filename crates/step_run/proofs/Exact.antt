@@ -36,6 +36,7 @@ use Rattle.step_run.proofs.Posing.{script_read, obliged_is, few_drafts}
 use Rattle.step_run.proofs.Stages.{goes_then}
 use Rattle.step_run.proofs.Typed.{spelled_ok}
 use Rattle.step_run.proofs.Named.{only_workload}
+use Rattle.step_run.proofs.Within.{none_pass}
 use Rattle.step_run.proofs.Found.{looked, looks, source_found}
 use Rattle.step_plan.proofs.Named.{AsksOnly}
 use Rattle.judging_laws.specs.Counted.{round_counts}
@@ -49,7 +50,7 @@ use Rattle.step_run.proofs.Headline.{IsProved, posed, file_proved, file_goes, so
 
 module _ (law : Laws) (spelled : SpelledIsRead) where
   posed_goes : (pt qt : List ℕ) (p : Typed) (steps : List PlainStep) → Reads pt qt p steps → posed_of_text p qt ≡ goes_on (posed p steps)
-  posed_goes pt qt p steps r = goes_then (obliged p) (script_of_text p qt) steps (goes_on (posed p steps)) (script_read p qt (Ok steps) (script_of law qt p steps r.scripted.script)) (obliged_is p steps None r.few)
+  posed_goes pt qt p steps r = goes_then (obliged p) (script_of_text p qt) steps (goes_on (posed p steps)) (script_read p qt (Ok steps) (script_of law qt p steps r.scripted.script)) (obliged_is p steps None (none_pass p steps r.within))
 
   module _ (told : Told) (o : Outcome) where
     -- the files are read, and the conditions posed
@@ -57,7 +58,7 @@ module _ (law : Laws) (spelled : SpelledIsRead) where
         → EndsIn told (then_plan (conditions_plan a b) next) o → EndsIn told (next (posed p steps)) o
     files_go a b pt qt p steps next ia ib short r e =
         let first = file_goes told o Program a pt (λ text. then_plan (then_plan (source_of_text text) (posed_plan b)) next) ia short.0 e in
-        let second = subst (λ (q : Plan Typed). EndsIn told (then_plan (then_plan q (posed_plan b)) next) o) (source_goes spelled pt p r.scripted.program) first in
+        let second = subst (λ (q : Plan Typed). EndsIn told (then_plan (then_plan q (posed_plan b)) next) o) (source_goes spelled law.meant pt p r.scripted.program) first in
         let third = file_goes told o Proof b qt (λ text. then_plan (posed_of_text p text) next) ib short.1 second in
         subst (λ (q : Plan Posed). EndsIn told (then_plan q next) o) (posed_goes pt qt p steps r) third
 
@@ -87,7 +88,7 @@ module _ (law : Laws) (spelled : SpelledIsRead) where
 
 -- few conditions
 room : (pt qt : List ℕ) (p : Typed) (steps : List PlainStep) → Reads pt qt p steps → 1 + length (conditions_of p steps) < 2 ^ 32
-room pt qt p steps r = let few = few_drafts p steps r.few in omega (arith, few)
+room pt qt p steps r = let few = few_drafts p steps (none_pass p steps r.within) in omega (arith, few)
 
 -- blocks for all conditions end with status 0
 discharged_ends : (x : Posed) (text : List ℕ) → AllDischarged (setting_of x.program) x.conditions (whole_text text) → checked x text ≡ goals_proved x
@@ -182,7 +183,7 @@ module _ (law : Laws) (spelled : SpelledIsRead) (told : Told) (o : Outcome) wher
   workload_ends : (n : ℕ) (p : Typed) (steps : List PlainStep) (ts : List Tree) → Decides (program_text n) (proof_text n) p steps ts → EndsIn told (plan_for (makes n)) o → IsProved o
   workload_ends n p steps ts h e =
       let x = posed p steps in
-      let first = ap (λ (q : Plan Typed). then_plan q (workload_posed n)) (source_goes spelled (program_text n) p h.reads.scripted.program) in
+      let first = ap (λ (q : Plan Typed). then_plan q (workload_posed n)) (source_goes spelled law.meant (program_text n) p h.reads.scripted.program) in
       let second : workload_conditions n ≡ goes_on x = first ∙ posed_goes law spelled (program_text n) (proof_text n) p steps h.reads in
       let last : with_number n (counted x) ≡ o = subst (λ (q : Plan Posed). EndsIn told (numbered n (then_plan q count_posed)) o) second e in
       subst IsProved (ap (with_number n) (sym (found_ends x (goals_counted x) ts h.found)) ∙ last) refl
@@ -207,7 +208,7 @@ module _ (law : Laws) (spelled : SpelledIsRead) (told : Told) (o : Outcome) wher
   finds_end : (a pt : List ℕ) (p : Typed) (es : List PlainEquation) → told a ≡ Some pt → length pt ≤ 4194304 → IsProgram pt p → found (system_of p) ≡ Some es → EndsIn told (plan_for (finds a)) o → IsProved o
   finds_end a pt p es ia short h are e =
       let goes = file_goes told o Program a pt (λ text. then_plan (source_of_text text) find_in) ia short e in
-      let last : invariants_of p ≡ o = subst (λ (q : Plan Typed). EndsIn told (then_plan q find_in) o) (source_goes spelled pt p h) goes in
+      let last : invariants_of p ≡ o = subst (λ (q : Plan Typed). EndsIn told (then_plan q find_in) o) (source_goes spelled law.meant pt p h) goes in
       subst IsProved last (looks p es are)
 
 -- what a request shows with status 0
@@ -249,7 +250,7 @@ shows law spelled told (Some (traces a b c)) o Said e proved said =
       judged = all_judged seen t.1;
       seen = seen;
       texts = t.4;
-      seen_of = observed_seen t.0.processes t.4.scripted.program.well.well.numbered (start_of t.0 t.2) t.3;
+      seen_of = observed_seen t.0.processes t.4.scripted.program.means.numbered (start_of t.0 t.2) t.3;
       greatest = counts-are-greatest seen;
       judges = are_judged seen t.1;
       said = subst Said (ap (λ (x : Outcome). x.text) t.5) said;

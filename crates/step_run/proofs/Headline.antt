@@ -35,10 +35,8 @@ use Rattle.obligation_laws.proofs.Enough.{enough}
 use Rattle.script_obligations.proofs.Programs.{scripts-hold}
 use Rattle.fair_runs.proofs.Keeping.{kept}
 use Rattle.spl_parser.specs.Theorems.{ReadIsSpelled, SpelledIsRead}
-use Rattle.spl_typer.specs.Programs.{Typed, typing}
-use Rattle.spl_typer.specs.ProgramRules.{program_faults}
-use Rattle.expression_typer.specs.declared.fault.TypeFault.{TypeFault}
-use Rattle.typing_laws.specs.Laws.{ReadIsTyped, TellsLeast}
+use Rattle.spl_typer.specs.Programs.{Typed}
+use Rattle.program_rules.specs.Theorems.{LawfulIsTyping}
 use Rattle.proof_script.specs.Obeying.{ScriptsAreProofs}
 use Rattle.proof_script.specs.Speaking.{ScriptsAreOver}
 use Rattle.st_tokens.specs.declared.kind.TokenFault.{TokenFault}
@@ -76,7 +74,9 @@ use Rattle.step_run.specs.WellFormed.{IsProgram, IsScripted, Reads, AreFound}
 use Rattle.step_run.specs.Headline.{Hold}
 use Rattle.step_run.proofs.Sources.{source_read}
 use Rattle.step_run.proofs.Posing.{script_read, obliged_is, is_proof, is_written}
-use Rattle.step_run.proofs.Typed.{from_text, well_typed, spelled_ok}
+use Rattle.step_run.proofs.Typed.{well_typed}
+use Rattle.step_run.proofs.Meant.{source_means, program_spelled}
+use Rattle.step_run.proofs.Within.{are_within}
 
 abbrev pub IsProved : Outcome → Type 0
 IsProved o = o.status ≡ Proved
@@ -155,8 +155,8 @@ module _ (told : Told) (o : Outcome) where
             by_limit steps (passes_limit p steps) is refl (subst (λ (q : Plan Posed). EndsIn told (then_plan q next) o) (obliged_is p steps (passes_limit p steps) refl) g)
         by (Err fault) is g = absurd (ends_as (script_refused fault) (script_not fault) g proved)
 
-pub source_goes : SpelledIsRead → (pt : List ℕ) (p : Typed) → IsProgram pt p → source_of_text pt ≡ goes_on p
-source_goes law pt p h = source_read pt (Ok p) (spelled_ok pt h.text p (law pt h.text h.spelled) h.typed)
+pub source_goes : SpelledIsRead → LawfulIsTyping → (pt : List ℕ) (p : Typed) → IsProgram pt p → source_of_text pt ≡ goes_on p
+source_goes read meant pt p h = source_read pt (Ok p) (program_spelled read meant pt p h)
 
 -- what is within bounds is as the search wants it
 pub record IsSearched (p : Typed) (d : Draft) : Type 0 where
@@ -198,7 +198,7 @@ pub record Laws : Type 0 where
   pub scripts_read : SpelledScriptsAreRead
   pub schedules_spelled : ReadSchedulesAreSpelled
   pub schedules_read : SpelledSchedulesAreRead
-  pub typed : ReadIsTyped
+  pub meant : LawfulIsTyping
   pub proofs : ScriptsAreProofs
   pub over : ScriptsAreOver
   pub written : OverIsWritten
@@ -207,9 +207,6 @@ pub record Laws : Type 0 where
   pub blocks : BlocksAreExact
   pub valid : CertificatesAreValid
 
-told_least : (t : Result Typed TypeFault) (p : Typed) (fs : List TypeFault) → t ≡ Ok p → TellsLeast t fs → fs ≡ []
-told_least t p fs is h = subst (λ r. TellsLeast r fs) is h
-
 module _ (law : Laws) where
   -- the script that a text spells is read
   pub script_of : (qt : List ℕ) (p : Typed) (steps : List PlainStep) → SpellsScript (words_over p) qt steps → steps_spelled p qt ≡ Ok steps
@@ -217,21 +214,10 @@ module _ (law : Laws) where
 
   -- the texts are well formed
   pub scripted : (pt qt : List ℕ) (p : Typed) (steps : List PlainStep) → source_spelled pt ≡ Ok p → steps_spelled p qt ≡ Ok steps → IsScripted pt qt p steps
-  scripted pt qt p steps source script =
-      let f = from_text pt p source in
-      record {
-        program = record {
-          text = f.program;
-          spelled = law.spelled pt f.program f.reads;
-          lawful = told_least (typing f.program) p (program_faults f.program) f.types (law.typed pt f.program f.reads).1;
-          typed = f.types;
-          well = well_typed p (pt, source);
-        };
-        script = law.scripts_spelled (words_over p) qt steps script;
-      }
+  scripted pt qt p steps source script = record { program = source_means law.spelled law.meant pt p source; script = law.scripts_spelled (words_over p) qt steps script }
 
   pub reads : (pt qt : List ℕ) (p : Typed) (steps : List PlainStep) → source_spelled pt ≡ Ok p → steps_spelled p qt ≡ Ok steps → passes_limit p steps ≡ None → Reads pt qt p steps
-  reads pt qt p steps source script few = record { scripted = scripted pt qt p steps source script; few = few }
+  reads pt qt p steps source script few = record { scripted = scripted pt qt p steps source script; within = are_within p steps few }
 
   -- where all conditions are valid, the goals hold
   abbrev pub AllValid : Typed → List Implication → Type 0

@@ -2,6 +2,8 @@ pub mod Decided
 pub mod Exact
 pub mod Faultless
 pub mod Headline
+pub mod Meant
+pub mod Within
 pub mod Named
 pub mod Posing
 pub mod Readied

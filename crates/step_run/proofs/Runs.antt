@@ -29,7 +29,8 @@ use Rattle.step_words.specs.Request.{traces}
 use Rattle.step_run.proofs.Sources.{source_read}
 use Rattle.step_run.proofs.Posing.{script_read}
 use Rattle.step_run.proofs.Stages.{goes_then}
-use Rattle.step_run.proofs.Typed.{well_typed, spelled_ok}
+use Rattle.step_run.proofs.Typed.{well_typed}
+use Rattle.step_run.proofs.Meant.{program_spelled}
 use Rattle.step_run.proofs.Headline.{IsProved, text_not, script_not, ends_as, file_proved, file_goes, source_proved, source_goes, Laws, script_of, scripted}
 
 -- a program and its script
@@ -133,9 +134,9 @@ module _ (law : Laws) (spelled : SpelledIsRead) (told : Told) (o : Outcome) wher
       → AreShort pt qt → length st ≤ 4194304 → Traces pt qt st p steps s later → EndsIn told (plan_for (traces a b c)) o → IsProved o
   trace_ends a b c pt qt st p steps s later ia ib ic short third h e =
       let program = h.scripted.program in
-      let is = spelled_ok pt program.text p (spelled pt program.text program.spelled) program.typed in
+      let is = program_spelled spelled law.meant pt p program in
       let one = file_goes told o Program a pt (λ text. then_plan (then_plan (source_of_text text) (script_plan b)) (trace_scripted c)) ia short.0 e in
-      let two = subst (λ (q : Plan Typed). EndsIn told (then_plan (then_plan q (script_plan b)) (trace_scripted c)) o) (source_goes spelled pt p program) one in
+      let two = subst (λ (q : Plan Typed). EndsIn told (then_plan (then_plan q (script_plan b)) (trace_scripted c)) o) (source_goes spelled law.meant pt p program) one in
       let three = file_goes told o Proof b qt (λ text. then_plan (scripted_of_text p text) (trace_scripted c)) ib short.1 two in
       let goes : scripted_of_text p qt ≡ goes_on (over p steps) = goes_then (λ x. goes_on (over p x)) (script_of_text p qt) steps (goes_on (over p steps)) (script_read p qt (Ok steps) (script_of law qt p steps h.scripted.script)) refl in
       let four = subst (λ (q : Plan Scripted). EndsIn told (then_plan q (trace_scripted c)) o) goes three in

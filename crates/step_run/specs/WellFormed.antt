@@ -1,43 +1,52 @@
 -- What the texts of a run are that ends with status 0: each says more than the one before it.
-use Rattle.std.specs.Prelude.{◌≡◌, ℕ, ◌≤◌, List, [], ◌∷◌, length, None, Ok}
+use Rattle.std.specs.Prelude.{◌≡◌, ℕ, ◌^◌, ◌≤◌, List, [], ◌∷◌, length, map}
+use Rattle.list_laws.specs.Each.{Each}
 use Rattle.st_form.specs.Condition.{Implication}
 use Rattle.st_form.specs.declared.conditions.TransName.{TransName}
 use Rattle.st_certificate.specs.Tree.{Tree}
-use Rattle.st_program.specs.Programs as programs
 use Rattle.farkas_check.specs.Problem.{Setting}
 use Rattle.search_laws.specs.Moves.{valid, decided}
 use Rattle.temporal_goals.specs.Texts.{PlainStep}
+use Rattle.vc_generator.specs.Building.{Draft}
+use Rattle.vc_generator.specs.Refusing.{weights}
 use Rattle.spl_semantics.specs.Runs.{State}
 use Rattle.spl_parser.specs.ProgramTree as raw
 use Rattle.spl_parser.specs.Theorems.{Spells}
-use Rattle.spl_typer.specs.Programs.{Typed, typing}
-use Rattle.spl_typer.specs.ProgramRules.{program_faults}
+use Rattle.spl_typer.specs.Programs.{Typed}
+use Rattle.program_meaning.specs.Meaning.{Means}
+use Rattle.program_rules.specs.Lawful.{IsLawful}
 use Rattle.proof_grammar.specs.Grammar.{SpellsScript}
 use Rattle.schedule_reader.specs.Schedules.{PlainSchedule}
 use Rattle.schedule_grammar.specs.Theorems.{SpellsSchedule}
 use Rattle.block_laws.specs.Checked.{whole_text}
 use Rattle.block_laws.specs.Blocks.{HasBlocks}
-use Rattle.step_run.specs.Conditions.{setting_of, words_over, conditions_of, passes_limit}
+use Rattle.step_run.specs.Conditions.{setting_of, words_over, drafts, conditions_of}
 use Rattle.step_run.specs.Scheduled.{IsRunOfSchedule}
 
--- The text of a program is well formed: it spells one, within the limits of programs, in which no rule of typing is
--- broken. So it is a program, of which the laws of meaning speak.
+-- The text of a program is well formed: it spells a tree, within the limits of programs; this is what the tree stands
+-- for; and it breaks no rule. So it is a program, of which the laws of meaning speak.
 pub record IsProgram (pt : List ℕ) (p : Typed) : Type 0 where
-  pub text : raw.Program
-  pub spelled : Spells pt text
-  pub lawful : program_faults text ≡ []
-  pub typed : typing text ≡ Ok p
-  pub well : programs.IsProgram p.variables p.initial p.processes p.locations p.statements
+  pub tree : raw.Program
+  pub spelled : Spells pt tree
+  pub means : Means tree p
+  pub lawful : IsLawful tree p
 
 -- and the text of a proof spells a script over the program
 pub record IsScripted (pt qt : List ℕ) (p : Typed) (steps : List PlainStep) : Type 0 where
   pub program : IsProgram pt p
   pub script : SpellsScript (words_over p) qt steps
 
--- and no condition of the script passes a limit
+-- Conditions are within their limits: there are at most 20,000, each is made of parts with at most 2,048 atoms, and all
+-- together weigh at most 2^24.
+pub record AreWithin (ds : List Draft) : Type 0 where
+  pub few : length ds ≤ 20000
+  pub narrow : Each (λ d. d.wide ≤ 2048) ds
+  pub light : weights (map (λ d. d.condition) ds) ≤ 2 ^ 24
+
+-- and so are those of the script
 pub record Reads (pt qt : List ℕ) (p : Typed) (steps : List PlainStep) : Type 0 where
   pub scripted : IsScripted pt qt p steps
-  pub few : passes_limit p steps ≡ None
+  pub within : AreWithin (drafts p steps)
 
 -- and the text of certificates holds a valid block for each condition, in order, with only blanks behind
 pub record Checks (pt qt ct : List ℕ) (p : Typed) (steps : List PlainStep) : Type 0 where

@@ -4,6 +4,7 @@ ghost use Rattle.step_run.specs.StatusZero.{EndsShow, EndsAreExact};
 ghost use Rattle.step_run.specs.Decided.{PlansAreDecided};
 
 use block_laws::laws::blocks_are_exact;
+use program_rules::laws::lawful_is_typing;
 use proof_grammar::laws::{read_scripts_are_spelled, spelled_scripts_are_read};
 use proof_script::laws::{scripts_are_over, scripts_are_proofs};
 use schedule_grammar::laws::{read_schedules_are_spelled, spelled_schedules_are_read};
@@ -21,7 +22,7 @@ pub fn status_zero_is_exact()
 {
     what_is_read_is_spelled();
     what_is_spelled_is_read();
-    read_is_typed();
+    lawful_is_typing();
     read_scripts_are_spelled();
     spelled_scripts_are_read();
     read_schedules_are_spelled();

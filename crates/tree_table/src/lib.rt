@@ -11,6 +11,6 @@ mod sizes;
 mod tables;
 
 pub use certificates::certificate;
-pub use nodes::Step;
+pub use nodes::{Kind, Node, Size, Step};
 pub use sameness::is_same;
 pub use tables::TreeTable;

@@ -13,7 +13,7 @@ pub enum Step {
 
 /// What a tree is made of: its parts and picks are found elsewhere in the table, by number.
 #[derive(Clone, Copy)]
-pub(crate) enum Kind {
+pub enum Kind {
     /// The problem is false.
     Absurd,
     /// So many picks, from this place in the list of picks on.
@@ -24,14 +24,14 @@ pub(crate) enum Kind {
 
 /// How large a tree is, counted to just above the limits.
 #[derive(Clone, Copy)]
-pub(crate) struct Size {
-    pub(crate) nodes: u32,
-    pub(crate) levels: u32,
+pub struct Size {
+    pub nodes: u32,
+    pub levels: u32,
 }
 
 /// A tree of the table.
 #[derive(Clone, Copy)]
-pub(crate) struct Node {
-    pub(crate) kind: Kind,
-    pub(crate) size: Size,
+pub struct Node {
+    pub kind: Kind,
+    pub size: Size,
 }

@@ -66,7 +66,7 @@ impl TreeTable {
     }
 
     /// What a number is made of.
-    pub(crate) fn node(&self, number: u32) -> Node
+    pub fn node(&self, number: u32) -> Node
         requires { number < length (trees_in self.now) }
         ensures { IsNode self.now number result }
     {
@@ -74,7 +74,7 @@ impl TreeTable {
     }
 
     /// So many numbers from a place in the list of parts on.
-    pub(crate) fn parts(&self, from: u32, count: u32) -> &[u32]
+    pub fn parts(&self, from: u32, count: u32) -> &[u32]
         requires { from + count ≤ length self.now.parts }
         ensures { result.now ≡ parts_at self.now.parts from count }
     {
@@ -82,7 +82,7 @@ impl TreeTable {
     }
 
     /// So many picks from a place in the list of picks on.
-    pub(crate) fn picks(&self, from: u32, count: u32) -> &[(u32, i64)]
+    pub fn picks(&self, from: u32, count: u32) -> &[(u32, i64)]
         requires { from + count ≤ length self.now.picks }
         ensures { result.now ≡ picks_at self.now.picks from count }
     {

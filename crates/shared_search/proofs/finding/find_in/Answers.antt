@@ -1,4 +1,5 @@
 use Rattle.std.proofs.Common.{refl, subst, sym}
+use Rattle.std.proofs.lemmas.Result.{IfOk-weaker}
 use Rattle.st_form.specs.Formula.{every}
 use Rattle.st_form.specs.Plain.{plain_list}
 use Rattle.st_form.specs.Shared.{given_of, shown_of}
@@ -33,9 +34,9 @@ walk-requires-clause-remembers c =
     holds-later (setting c.args.components.now c.args.variables.now) (formulas_of c.args.book.now.memo.table) (formulas_of c.first_list.new.self) (trees_in c.args.book.now.memo.trees) (trees_in c.args.book.now.memo.trees) c.args.book.now.memo.contexts.kept.items c.args.book.now.memo.contexts.kept.items c.args.book.now.memo.found
     c.in_ok-list.ensures.grows.formulas (extends-refl (trees_in c.args.book.now.memo.trees)) (keeps-refl c.args.book.now.memo.contexts.kept.items) c.requires.knows.remembers
 
-pub returns-then-is_modest-clause-found : goal.returns-then-is_modest-clause-found
-returns-then-is_modest-clause-found c =
+pub returns-clause-found : goal.returns-clause-found
+returns-clause-found c =
     let made =
     subst (λ fs. IsListed (formulas_of c.first_list.new.self) c.in_ok-list.list (first_conjuncts (every (plain_list fs)) (shown_of c.args.condition.now))) c.as_slice.ensures.value c.in_ok-list.ensures.made in
-    found-by (setting c.args.components.now c.args.variables.now) (given_of c.args.condition.now) (shown_of c.args.condition.now) (trees_in c.walk.new.memo.trees) (formulas_of c.first_list.new.self) c.args.book.now.memo.contexts.kept.items c.in_ok-list.list c.in-Some.tree
-    c.requires.knows.remembers.first made (rw c.in-Some.is at c.in_ok-walk.ensures.found) (c.is_modest.ensures c.if-is_modest.true)
+    IfOk-weaker c.walk.result _ _ (λ o. found-by (setting c.args.components.now c.args.variables.now) (given_of c.args.condition.now) (shown_of c.args.condition.now) (trees_in c.walk.new.memo.trees) (formulas_of c.first_list.new.self) c.args.book.now.memo.contexts.kept.items c.in_ok-list.list o
+    c.requires.knows.remembers.first made) c.walk.ensures.found

@@ -1,5 +1,5 @@
 -- The loop over the steps of a script: what is left behind so many steps is asked and appended as it is in the whole.
-use Rattle.std.proofs.Common.{arith, ◌≡◌, ◌∙◌, ap, sym, subst, refl, ℕ, zero, suc, ◌+◌, ◌<◌, ◌≤◌, Bool, true, false, nat_le, nat_lt, List, [], ◌∷◌, ◌++◌, length, map, take, drop, get_or, Option, Some, None, append_assoc, append-nil, length-append}
+use Rattle.std.proofs.Common.{arith, ◌≡◌, ◌∙◌, ap, sym, subst, refl, ℕ, zero, suc, ◌+◌, ◌<◌, ◌≤◌, Bool, true, false, nat_le, nat_lt, List, [], ◌∷◌, ◌++◌, length, map, take, drop, get_or, Option, Some, None, append_assoc, append-nil, length-append, length-take, take-append-drop, take_all}
 use Rattle.std.specs.Prelude.{if◌then◌else◌, ◌^◌}
 use Rattle.std.proofs.lemmas.Bool.Decides.{nat_tests}
 use Rattle.std.proofs.lemmas.List.{length-map, drop_more, drop_all, map_more}
@@ -9,18 +9,18 @@ use Rattle.temporal_goals.specs.Texts.{PlainStep}
 use Rattle.temporal_goals.specs.Plain.{plain_step}
 use Rattle.temporal_goals.specs.declared.scripts.Step.{Step}
 use Rattle.vc_generator.specs.Building.{Draft}
-use Rattle.vc_generator.specs.Refusing.{Refuses, weight_in, weights, refusals, else_refusal}
+use Rattle.vc_generator.specs.Refusing.{Begins, Refuses, weight_in, weights, refusals, else_refusal}
 use Rattle.vc_generator.specs.declared.faults.VcFault.{VcFault}
 use Rattle.vc_generator.specs.declared.faults.VcFault.TheVariants as limits
 use Rattle.vc_generator.proofs.Growing.{conditions, conditions-append}
 use Rattle.list_laws.specs.Each.{Each}
 use Rattle.script_laws.specs.Script.{cited_of, step_list, steps_list, script_list}
 use Rattle.script_laws.specs.Refused.{refused_at}
-use Rattle.script_laws.proofs.Named.{steps-named, steps-some}
+use Rattle.script_laws.proofs.Named.{steps-named, steps-some, scripts-some}
 use Rattle.script_laws.proofs.Refused.{appended-go-on}
 use Rattle.obligations.specs.Faults.{fault_at}
-use Rattle.obligations.specs.Made.{IsRefusal}
-use Rattle.obligations.proofs.Refusals.{refused-here}
+use Rattle.obligations.specs.Made.{AreAppended, IsRefusal}
+use Rattle.obligations.proofs.Refusals.{refused-here, refused_none}
 
 -- what holds of each step holds of the one with this number
 pub each-at : (P : PlainStep → Type 0) (steps : List Step) (i : ℕ) (s : Step) → i < length steps → s ≡ get_or steps i s → Each P (map plain_step steps) → P (plain_step s)
@@ -46,6 +46,41 @@ few-appended old (d ∷ ds) le e =
     let size = length-append old (d.condition ∷ []) in
     omega (arith, few-appended (old ++ d.condition ∷ []) ds (omega arith) one.1)
 
+-- a list begins with another, also with more behind it
+pub begins-alone : (old : List Implication) → Begins old old
+begins-alone old = take_all (length old) old (omega arith)
+
+pub begins-more : (old now more : List Implication) → Begins old now → Begins old (now ++ more)
+begins-more [] now more b = refl
+begins-more (o ∷ os) [] more b = cc
+begins-more (o ∷ os) (n ∷ ns) more b =
+    let head : n ≡ o = cc in
+    let tail : take (length os) ns ≡ os = cc in
+    ap (λ y. y ∷ take (length os) (ns ++ more)) head ∙ ap (λ ys. o ∷ ys) (begins-more os ns more tail)
+
+map-take : {A B : Type 0} (f : A → B) (n : ℕ) (xs : List A) → map f (take n xs) ≡ take n (map f xs)
+map-take f zero xs = refl
+map-take f (suc n) [] = refl
+map-take f (suc n) (x ∷ xs) = ap (λ ys. f x ∷ ys) (map-take f n xs)
+
+map-drop : {A B : Type 0} (f : A → B) (n : ℕ) (xs : List A) → map f (drop n xs) ≡ drop n (map f xs)
+map-drop f zero xs = refl
+map-drop f (suc n) [] = refl
+map-drop f (suc n) (x ∷ xs) = map-drop f n xs
+
+-- the conditions of the first steps come first
+split-list : (system : System) (earlier : List PlainStep) (n : ℕ) (xs ys : List PlainStep) → steps_list system earlier n (xs ++ ys) ≡ steps_list system earlier n xs ++ steps_list system (earlier ++ xs) (n + length xs) ys
+split-list system earlier n [] ys =
+    ap (λ e. steps_list system e n ys) (sym (append-nil earlier)) ∙ ap (λ m. steps_list system (earlier ++ []) m ys) (let e : n ≡ n + 0 = omega arith in e)
+split-list system earlier n (x ∷ xs) ys =
+    let own = step_list n system (cited_of earlier x.cited) x.goal x.rule in
+    let more = steps_list system (earlier ++ x ∷ []) (n + 1) xs in
+    ap (λ (ds : List Draft). own ++ ds)
+    (split-list system (earlier ++ x ∷ []) (n + 1) xs ys
+    ∙ ap (λ e. more ++ steps_list system e (n + 1 + length xs) ys) (append_assoc earlier (x ∷ []) xs)
+    ∙ ap (λ m. more ++ steps_list system (earlier ++ x ∷ xs) m ys) (let e : n + 1 + length xs ≡ n + suc (length xs) = omega arith in e))
+    ∙ sym (append_assoc own more (steps_list system (earlier ++ x ∷ xs) (n + suc (length xs)) ys))
+
 module _ (system : System) (steps : List Step) where
   -- the conditions of the steps from a number on
   abbrev pub left : ℕ → List Draft
@@ -62,8 +97,32 @@ module _ (system : System) (steps : List Step) where
     pub each : i ≤ length now
     pub few : length now ≤ 20000
 
-  pub begin : (now : List Implication) → now ≡ [] → Behind 0 now
-  begin now none = subst (Behind 0) (sym none) (record { asks = refl; gives = refl; each = omega arith; few = omega arith })
+  -- the conditions of the first steps are there
+  pub begin : (first : ℕ) (now : List Implication) → first ≤ length steps → AreAppended system (take first (map plain_step steps)) now → Behind first now
+  begin first now within before =
+      let all = map plain_step steps in
+      let xs = take first all in
+      let ds = script_list system xs in
+      let size : length xs ≡ first = omega (arith, within, length-take first all, length-map steps plain_step) in
+      let tail : left first ≡ steps_list system xs (0 + length xs) (drop first all) =
+      ap (λ e. steps_list system e first (map plain_step (drop first steps))) (map-take plain_step first steps)
+      ∙ ap (steps_list system xs first) (map-drop plain_step first steps)
+      ∙ ap (λ m. steps_list system xs m (drop first all)) (let e : first ≡ 0 + length xs = omega (arith, size) in e)
+      in
+      let whole : script_list system all ≡ ds ++ left first =
+      ap (script_list system) (sym (take-append-drop first all)) ∙ split-list system [] 0 xs (drop first all) ∙ ap (λ (es : List Draft). ds ++ es) (sym tail)
+      in
+      let none = refused_none [] ds before.none in
+      let some = scripts-some system xs in
+      let many = length-map ds (λ d. d.condition) in
+      let counted = ap length before.these in
+      let most = few-appended [] ds (omega arith) none in
+      record {
+        asks = ap (λ cs. refused_at cs (left first)) before.these ∙ sym (appended-go-on [] ds (left first) none) ∙ ap (refused_at []) (sym whole);
+        gives = ap (λ cs. cs ++ conditions (left first)) before.these ∙ sym (conditions-append ds (left first)) ∙ ap conditions (sym whole);
+        each = omega (arith, some, size, many, counted);
+        few = omega (arith, most, many, counted);
+      }
 
   left-next : (i : ℕ) (s : Step) → i < length steps → s ≡ get_or steps i s → left i ≡ own i s ++ left (i + 1)
   left-next i s below is =
@@ -109,10 +168,10 @@ module _ (system : System) (steps : List Step) where
   left-none : (i : ℕ) → length steps ≤ i → left i ≡ []
   left-none i past = ap (λ xs. steps_list system (map plain_step (take i steps)) i (map plain_step xs)) (drop_all i steps past)
 
-  pub whole : (i : ℕ) (now : List Implication) → length steps ≤ i → Behind i now
-      → (refused_at [] (script_list system (map plain_step steps)) ≡ None) × (now ≡ conditions (script_list system (map plain_step steps)))
+  pub whole : (i : ℕ) (now : List Implication) → length steps ≤ i → Behind i now → AreAppended system (map plain_step steps) now
   whole i now past before =
-      let none = left-none i past in (
-        sym before.asks ∙ ap (refused_at now) none,
-        sym (append-nil now) ∙ ap (λ ds. now ++ conditions ds) (sym none) ∙ before.gives,
-      )
+      let gone = left-none i past in
+      record {
+        none = sym before.asks ∙ ap (refused_at now) gone;
+        these = sym (append-nil now) ∙ ap (λ ds. now ++ conditions ds) (sym gone) ∙ before.gives;
+      }

@@ -10,4 +10,4 @@ mod scripts;
 mod steps;
 
 pub use faults::ObligationFault;
-pub use scripts::conditions_of;
+pub use scripts::{append_conditions, conditions_of};

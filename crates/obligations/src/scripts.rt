@@ -1,6 +1,6 @@
-//! The conditions of a whole script.
+//! The conditions of a whole script, made at once or behind those of its first steps.
 
-ghost use Rattle.std.specs.Prelude.{◌≡◌, ◌≤◌, [], map, length, All, None, IfOk, IfErr};
+ghost use Rattle.std.specs.Prelude.{◌≡◌, ◌≤◌, [], map, length, take, All, None, IfOk, IfErr, OnOk};
 ghost use Rattle.st_form.specs.Plain.{plain};
 ghost use Rattle.st_program.specs.Plain.{plain_children};
 ghost use Rattle.control_facts.specs.Alternatives.{control_of};
@@ -9,6 +9,7 @@ ghost use Rattle.transition_system.specs.Plain.{plain_system};
 ghost use Rattle.spl_translation.specs.Translation.{translation};
 ghost use Rattle.temporal_goals.specs.Plain.{plain_step, plain_script};
 ghost use Rattle.vc_generator.specs.Plain.{plain_list};
+ghost use Rattle.vc_generator.specs.Refusing.{Begins};
 ghost use Rattle.obligation_laws.specs.Obligations.{HoldsOnRuns};
 ghost use Rattle.list_laws.specs.Each.{Each};
 ghost use Rattle.script_laws.specs.Script.{script_list};
@@ -16,7 +17,7 @@ ghost use Rattle.script_laws.specs.Refused.{refused_at};
 ghost use Rattle.rule_fits.specs.Obeying.{IsProof, RuleFits};
 ghost use Rattle.script_laws.specs.Written.{StepWritten};
 ghost use Rattle.script_obligations.specs.Laws.{AreThese};
-ghost use Rattle.obligations.specs.Made.{IsRefusal, AllValid};
+ghost use Rattle.obligations.specs.Made.{IsRefusal, AllValid, AreAppended};
 
 use crate::faults::{ObligationFault, fault_at};
 use crate::steps::append_step;
@@ -28,8 +29,36 @@ use temporal_goals::{Script, Step};
 use transition_system::Fts;
 use vc_generator::Conditions;
 
-/// The list of the conditions of all steps, in their order, or the first refusal. Each step before has given a condition, so the
-/// number of a step is at most 20,000.
+/// Appends the conditions of the steps from a number on to those of the steps before it, in their order, up to the first refusal.
+/// Each step before has given a condition, so the number of a step is at most 20,000.
+fn append_steps(
+    alloc: Global,
+    fts: &Fts,
+    steps: &[Step],
+    first: usize,
+    list: &mut Conditions,
+) -> Result<(), ObligationFault>
+    requires fits { Each (λ s. RuleFits (plain_system fts.now) s.goal s.rule) (map plain_step steps.now) }
+    requires written { Each (StepWritten (plain_system fts.now)) (map plain_step steps.now) }
+    requires known { first ≤ length steps.now }
+    requires before { AreAppended (plain_system fts.now) (take first (map plain_step steps.now)) (plain_list list.old) }
+    ensures made { OnOk result (AreAppended (plain_system fts.now) (map plain_step steps.now) (plain_list list.new)) }
+    ensures refused { IfErr result (λ fault. IsRefusal fault (refused_at [] (script_list (plain_system fts.now) (map plain_step steps.now)))) }
+    ensures begins { Begins (plain_list list.old) (plain_list list.new) }
+    ensures few { length (plain_list list.new) ≤ 20000 }
+{
+    for index in first..steps.len() {
+        let number = index as u32;
+        let earlier = &steps[..index];
+        match append_step(alloc, fts, number, earlier, &steps[index], list) {
+            Ok(()) => {}
+            Err(fault) => return Err(fault_at(number, fault)),
+        }
+    }
+    Ok(())
+}
+
+/// The list of the conditions of all steps, in their order, or the first refusal.
 fn listed(alloc: Global, fts: &Fts, steps: &[Step]) -> Result<Conditions, ObligationFault>
     requires fits { Each (λ s. RuleFits (plain_system fts.now) s.goal s.rule) (map plain_step steps.now) }
     requires written { Each (StepWritten (plain_system fts.now)) (map plain_step steps.now) }
@@ -39,15 +68,10 @@ fn listed(alloc: Global, fts: &Fts, steps: &[Step]) -> Result<Conditions, Obliga
     ensures few { IfOk result (λ list. length (plain_list list) ≤ 20000) }
 {
     let mut list = Conditions::new(alloc);
-    for index in 0..steps.len() {
-        let number = index as u32;
-        let earlier = &steps[..index];
-        match append_step(alloc, fts, number, earlier, &steps[index], &mut list) {
-            Ok(()) => {}
-            Err(fault) => return Err(fault_at(number, fault)),
-        }
+    match append_steps(alloc, fts, steps, 0, &mut list) {
+        Ok(()) => Ok(list),
+        Err(fault) => Err(fault),
     }
-    Ok(list)
 }
 
 /// The conditions of a script over a program and its translation, step by step. They can be decided, and where all are valid
@@ -83,4 +107,35 @@ pub fn conditions_of(
     scripts_are_searchable(program);
     let list = listed(alloc, fts, &script.steps)?;
     Ok(list.items)
+}
+
+/// Appends the conditions of a script behind its first `known` steps to a list that has those of these steps, for who makes the
+/// conditions of a script that grows. They can be decided.
+///
+/// What is asked of the script is what `conditions_of` asks.
+///
+/// # Errors
+///
+/// Those of `conditions_of`, of the whole script. Then the list begins as it was: `vc_generator::take_back` takes it back.
+pub fn append_conditions(
+    alloc: Global,
+    program: &Program,
+    fts: &Fts,
+    script: &Script,
+    known: usize,
+    list: &mut Conditions,
+) -> Result<(), ObligationFault>
+    requires system { plain_system fts.now
+        ≡ translation program.now.variables (plain program.now.initial) (plain_children program.now.processes) program.now.locations }
+    requires proof { IsProof (plain_system fts.now) (plain_script script.now) }
+    requires written { Each (StepWritten (plain_system fts.now)) (plain_script script.now) }
+    requires known { known ≤ length (plain_script script.now) }
+    requires before { AreAppended (plain_system fts.now) (take known (plain_script script.now)) (plain_list list.old) }
+    ensures made { OnOk result (AreAppended (plain_system fts.now) (plain_script script.now) (plain_list list.new)) }
+    ensures refused { IfErr result (λ fault. IsRefusal fault (refused_at [] (script_list (plain_system fts.now) (plain_script script.now)))) }
+    ensures begins { Begins (plain_list list.old) (plain_list list.new) }
+    ensures searchable { OnOk result (AreSearchable (length program.now.variables) list.new.items) }
+{
+    scripts_are_searchable(program);
+    append_steps(alloc, fts, &script.steps, known, list)
 }

@@ -52,8 +52,12 @@ fn large_of(alloc: Global, text: &[u8]) -> Result<Option<TranslatedProgram>, Mem
     }
 }
 
-/// The conditions that two texts pose, if they do and the program is large.
-fn posed_of(alloc: Global, program: &[u8], proof: &[u8]) -> Result<Option<PosedProof>, Memory>
+/// The conditions that two texts pose, if they do and the program has more than six processes.
+pub fn large_proof(
+    alloc: Global,
+    program: &[u8],
+    proof: &[u8],
+) -> Result<Option<PosedProof>, Memory>
     ensures { IfOk result (λ o. IfSome o (λ p. IsOfText program.now p.source × IsPosedBy proof.now p.source p.proof)) }
 {
     let Some(source) = large_of(alloc, program)? else {
@@ -115,7 +119,7 @@ fn answer_to(alloc: Global, posed: &PosedProof) -> Result<Option<Answer>, Memory
 fn found_texts(alloc: Global, program: &[u8], proof: &[u8]) -> Result<Option<Answer>, Memory>
     ensures { IfOk result (λ o. IfSome o (IsCertified program.now proof.now)) }
 {
-    match posed_of(alloc, program, proof)? {
+    match large_proof(alloc, program, proof)? {
         Some(posed) => answer_to(alloc, &posed),
         None => Ok(None),
     }

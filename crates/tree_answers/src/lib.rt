@@ -3,4 +3,4 @@
 
 mod answering;
 
-pub use answering::found;
+pub use answering::{found, large_proof};

@@ -10,3 +10,4 @@ mod nodes;
 mod sameness;
 
 pub use entering::shared;
+pub use nodes::put;

@@ -68,9 +68,9 @@ fn push(alloc: Global, table: &mut Table, index: &mut Index, node: Node) -> Resu
     Ok(number)
 }
 
-/// The number of a node's tree.
+/// The number of a node's tree, which is kept once. One that would have more than 400 levels is refused as over a limit.
 #[tactic(auto, using(crate::proofs::Growing::sharing))]
-fn put(alloc: Global, table: &mut Table, index: &mut Index, node: Node) -> Result<u32, Refusal>
+pub fn put(alloc: Global, table: &mut Table, index: &mut Index, node: Node) -> Result<u32, Refusal>
     ensures { IfOk result (λ n. Has (trees_in table.old) (trees_in table.new) n (unfolded (trees_in table.old) (node_view node))) }
 {
     match found(table.nodes.as_slice(), index, &node) {

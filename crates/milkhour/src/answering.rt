@@ -7,7 +7,7 @@ use crate::given::{Given, GivenText};
 use crate::reports::{Account, Shown, shown_of};
 use crate::streams::{Streams, Target, style_of, write_remark, write_result};
 use crate::trouble::Trouble;
-use crate::versions::{asks_for_certificates, in_version, tell_unfolding};
+use crate::versions::{asks_for_certificates, in_version, large_certificates, tell_unfolding};
 use milkhour_run::{Answer, Question, Status};
 use milkhour_words::{Format, Options};
 use progress_lines::{Progress, Watch};
@@ -166,6 +166,23 @@ fn shown_answer<R: Runtime + AllocGlobal + Threads + Sync, G: Gate + Sync>(
     )
 }
 
+/// The answer in the version that is asked for, and whether certificates that were given are looked at.
+fn told_answer<R: Runtime + AllocGlobal + Threads + Sync, G: Gate + Sync>(
+    rt: &R,
+    question: Question,
+    options: &Options<'_>,
+    given: &Given<'_>,
+    gate: &G,
+) -> Result<(Answer, bool), Trouble> {
+    if let Some(written) = large_certificates(rt.alloc(), question, given, options)? {
+        return Ok((written, false));
+    }
+    let found = shown_answer(rt, question, options, given, gate)?;
+    let are_looked_at = asks_for_certificates(found.status);
+    let answer = in_version(rt.alloc(), question, given, options, found)?;
+    Ok((answer, are_looked_at))
+}
+
 /// Answers a question over the texts. The status is that of the answer, whatever is said of it.
 pub fn answer_question<R: Runtime + AllocGlobal + Threads + Sync>(
     rt: &R,
@@ -176,9 +193,7 @@ pub fn answer_question<R: Runtime + AllocGlobal + Threads + Sync>(
 ) -> Result<u8, Trouble> {
     let begun = beside::begin(rt, question, given, options)?;
     let progress = Progress::new(rt, Watch::begin(rt, streams.is_error_terminal));
-    let found = shown_answer(rt, question, options, given, &progress)?;
-    let are_looked_at = asks_for_certificates(found.status);
-    let answer = in_version(rt.alloc(), question, given, options, found)?;
+    let (answer, are_looked_at) = told_answer(rt, question, options, given, &progress)?;
     if options.format == Format::Plain {
         write_result(rt, options.output, answer.text.as_slice())?;
     } else {

@@ -8,9 +8,11 @@ use certificate_versions::{Unfit, Unread, is_version_3, shared_text, unfolded};
 use milkhour_run::{Answer, Question, Status, Texts};
 use milkhour_words::{Options, Rewriting};
 use source_lines::Lines;
+use st_memory::Memory;
 use std::alloc::Global;
 use std::rt::Runtime;
 use table_answers::checked;
+use tree_texts::proved;
 
 /// So many bytes of certificates are taken.
 const MOST_BYTES: usize = 268_435_456;
@@ -224,6 +226,19 @@ pub fn in_version(
         // What `prove` writes is read, and no tree of it has more than 400 levels.
         Err(_) => Err(Trouble::Memory),
     }
+}
+
+/// Certificates of version 3 of a large program, where they are asked for and found: they may have no text of version 2.
+pub fn large_certificates(
+    alloc: Global,
+    question: Question,
+    given: &Given<'_>,
+    options: &Options<'_>,
+) -> Result<Option<Answer>, Memory> {
+    if !options.shared || question != Question::Prove {
+        return Ok(None);
+    }
+    proved(alloc, &given.texts())
 }
 
 /// The text of version 3 of certificates that are of another version, or why there is none.

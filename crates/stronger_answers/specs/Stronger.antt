@@ -12,6 +12,7 @@ use Rattle.milkhour_run.specs.Asked.{asked}
 use Rattle.milkhour_run.specs.declared.held_texts.Texts.{Texts}
 use Rattle.milkhour_run.specs.declared.question.Question.{Question}
 use Rattle.milkhour_run.specs.declared.question.Question.TheVariants.{Check, Verify, Prove, Trace, Invariants}
+use Rattle.tree_answers.specs.Found.{IsFound}
 
 -- `step`'s answer to a question: status and text, what is shown with status 0, and when this comes
 pub record IsAnswerTo (q : Question) (t : Texts) (a : Answer) : Type 0 where
@@ -42,8 +43,13 @@ pub record IsClosed (t : Texts) (a : Answer) : Type 0 where
   pub checked : IsCheckedBy t certificates a
 
 -- the answer of `verify`, or where that leaves a condition open, one of `check` that the goals hold
+abbrev pub IsSearched : Texts → Answer → Type 0
+IsSearched t a = IsAnswerTo Verify t a ⊎ IsClosed t a
+
+-- Or each condition has a valid certificate, of whatever size: so the goals hold, and the answer is the one of status 0, with the text that
+-- `verify` prints with it.
 abbrev pub IsStronger : Texts → Answer → Type 0
-IsStronger t a = IsAnswerTo Verify t a ⊎ IsClosed t a
+IsStronger t a = IsSearched t a ⊎ IsFound t a
 
 -- `prove` leaves a condition open, and this is a text of certificates that `check` accepts
 pub record IsCertified (t : Texts) (a : Answer) : Type 0 where

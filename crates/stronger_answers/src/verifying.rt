@@ -1,9 +1,10 @@
-//! Whether the goals of a proof hold. Where the search of `step` leaves a condition open, certificates are made of all conditions by it and
-//! by the stronger search, and `step` checks them: so nothing rests on how they were found.
+//! Whether the goals of a proof hold. Of a large program certificates are looked for by number first, since `step` has no place for what
+//! they unfold to. Where the search of `step` leaves a condition open, certificates are made of all conditions by it and by the stronger
+//! search, and `step` checks them: so nothing rests on how they were found.
 
 ghost use Rattle.std.specs.Prelude.{IfOk, IfSome};
 ghost use Rattle.std.specs.Thread.{IsSync};
-ghost use Rattle.stronger_answers.specs.Stronger.{IsAccepted, IsCertifying, IsCheckedBy, IsStronger};
+ghost use Rattle.stronger_answers.specs.Stronger.{IsAccepted, IsCertifying, IsCheckedBy, IsSearched, IsStronger};
 
 use crate::certificates::certificates;
 use milkhour_run::{Answer, Question, Status, Texts, answer};
@@ -11,6 +12,7 @@ use st_memory::Memory;
 use st_outside::{Gate, OpenGate};
 use std::alloc::Global;
 use std::thread::Threads;
+use tree_answers::found;
 
 /// The certificates that are found, where both texts are there. That of the condition with a number is looked for first.
 fn certificates_of(
@@ -65,17 +67,16 @@ fn certified_answer<R: Threads + Sync>(
     }
 }
 
-/// Whether the goals of a proof hold: what `verify` answers, or, where that leaves a condition open, what `check` answers with the
-/// certificates that the stronger search finds. The gate is told what `verify` tells it.
-pub fn verified<R: Threads + Sync, G: Gate + Sync>(
+/// What `verify` answers, or, where that leaves a condition open, what `check` answers with the certificates that the stronger search finds.
+/// The gate is told what `verify` tells it.
+fn searched<R: Threads + Sync, G: Gate + Sync>(
     rt: &R,
     alloc: Global,
     workers: u32,
     texts: &Texts<'_>,
     gate: &G,
 ) -> Result<Answer, Memory>
-    // It is the answer of `verify`, or where that leaves a condition open, one of `check` that the goals hold.
-    ensures { IfOk result (IsStronger texts.now) }
+    ensures { IfOk result (IsSearched texts.now) }
 {
     let first = answer(rt, alloc, Question::Verify, workers, texts, gate)?;
     let Status::NotProved(number) = first.status else {
@@ -84,6 +85,26 @@ pub fn verified<R: Threads + Sync, G: Gate + Sync>(
     match certified_answer(rt, alloc, workers, texts, number)? {
         Some((_, second)) => Ok(second),
         None => Ok(first),
+    }
+}
+
+/// Whether the goals of a proof hold: of a large program whose conditions have certificates, that they do; else what `verify` answers, or,
+/// where that leaves a condition open, what `check` answers with the certificates that the stronger search finds. The gate is told what
+/// `verify` tells it, and nothing where `verify` isn't asked.
+pub fn verified<R: Threads + Sync, G: Gate + Sync>(
+    rt: &R,
+    alloc: Global,
+    workers: u32,
+    texts: &Texts<'_>,
+    gate: &G,
+) -> Result<Answer, Memory>
+    // It is that the goals hold, since each condition has a certificate; or the answer of `verify`, or where that leaves a condition open, one
+    // of `check` that the goals hold.
+    ensures { IfOk result (IsStronger texts.now) }
+{
+    match found(alloc, texts)? {
+        Some(proved) => Ok(proved),
+        None => searched(rt, alloc, workers, texts, gate),
     }
 }
 

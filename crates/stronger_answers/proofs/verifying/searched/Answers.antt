@@ -1,7 +1,7 @@
 use Rattle.std.proofs.Common.{subst, inr}
 use Rattle.std.specs.Prelude.{Option, IfSome}
 use Rattle.stronger_answers.specs.Stronger.{IsCheckedBy}
-use Rattle.stronger_answers.proofs.verifying.verified.Goals as goal
+use Rattle.stronger_answers.proofs.verifying.searched.Goals as goal
 
 pub returns-in-Some : goal.returns-in-Some
 returns-in-Some g c =

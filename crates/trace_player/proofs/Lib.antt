@@ -9,3 +9,4 @@ pub mod Verdicts
 pub mod Lengths
 pub mod Marking
 pub mod Fitting
+pub mod Locations

@@ -3,3 +3,4 @@ pub mod Courses
 pub mod Fronts
 pub mod Judgements
 pub mod Columns
+pub mod Watching

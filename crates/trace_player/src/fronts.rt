@@ -7,8 +7,9 @@ ghost use Rattle.st_program.specs.Spots.{spot};
 ghost use Rattle.spl_semantics.specs.Control.{children_of, children_at, location_at, front, fronts};
 ghost use Rattle.spl_semantics.specs.Plain.{plain_state};
 ghost use Rattle.spl_semantics.specs.Runs.{control};
-ghost use Rattle.trace_player.specs.Fronts.{end_at};
+ghost use Rattle.trace_player.specs.Fronts.{end_at, AreLocations};
 
+use crate::locating::{location_in, locations_of};
 use st_memory::Memory;
 use st_program::{Child, Kind, Program, Residual, State};
 use std::alloc::Global;
@@ -48,11 +49,17 @@ fn end_at(children: &[Child], place: usize) -> u32
 }
 
 /// Adds the location of the statement with this occurrence.
-fn push_location(program: &Program, occ: u32, locations: &mut Vec<u32>) -> Result<(), Memory>
+fn push_location(
+    program: &Program,
+    known: &[Option<u32>],
+    occ: u32,
+    locations: &mut Vec<u32>,
+) -> Result<(), Memory>
+    requires { AreLocations (plain_children program.now.processes) known.now }
     ensures { OnOk result (locations.new.items ≡ locations.old.items ++ location_at (spot (plain_children program.now.processes) occ)) }
 {
-    if let Some(stmt) = program.statement(occ) {
-        locations.push(stmt.loc)?;
+    if let Some(location) = location_in(program, known, occ) {
+        locations.push(location)?;
     }
     Ok(())
 }
@@ -62,10 +69,12 @@ fn push_location(program: &Program, occ: u32, locations: &mut Vec<u32>) -> Resul
 #[tactic(auto, using(st_program::proofs::ResidualRows::residuals))]
 fn push_front(
     program: &Program,
+    known: &[Option<u32>],
     residual: &Residual,
     end: u32,
     locations: &mut Vec<u32>,
 ) -> Result<(), Memory>
+    requires { AreLocations (plain_children program.now.processes) known.now }
     ensures { OnOk result (locations.new.items ≡ locations.old.items ++ front (plain_residual residual.now) (plain_children program.now.processes) end) }
 {
     match residual {
@@ -73,11 +82,17 @@ fn push_front(
             locations.push(end)?;
             Ok(())
         }
-        Residual::Run(occ) => push_location(program, *occ, locations),
-        Residual::Then { first, .. } => push_front(program, first, end, locations),
-        Residual::Again { body, .. } => push_front(program, body, end, locations),
+        Residual::Run(occ) => push_location(program, known, *occ, locations),
+        Residual::Then { first, .. } => push_front(program, known, first, end, locations),
+        Residual::Again { body, .. } => push_front(program, known, body, end, locations),
         Residual::Inside { coop, children } => {
-            push_fronts(program, children, children_at(program, *coop), locations)
+            push_fronts(
+                program,
+                known,
+                children,
+                children_at(program, *coop),
+                locations,
+            )
         }
     }
 }
@@ -86,30 +101,41 @@ fn push_front(
 #[cycle(fronts)]
 fn push_fronts(
     program: &Program,
+    known: &[Option<u32>],
     residuals: &[Residual],
     children: &[Child],
     locations: &mut Vec<u32>,
 ) -> Result<(), Memory>
+    requires { AreLocations (plain_children program.now.processes) known.now }
     ensures { OnOk result (locations.new.items ≡ locations.old.items ++ fronts (plain_residuals residuals.now) (plain_children program.now.processes) (plain_children children.now)) }
 {
     for (place, residual) in residuals.iter().enumerate() {
-        push_front(program, residual, end_at(children, place), locations)?;
+        push_front(program, known, residual, end_at(children, place), locations)?;
     }
     Ok(())
+}
+
+/// The locations where control is, as those of statements are known.
+fn control_by(
+    alloc: Global,
+    program: &Program,
+    known: &[Option<u32>],
+    state: &State,
+) -> Result<Vec<u32>, Memory>
+    requires { AreLocations (plain_children program.now.processes) known.now }
+    ensures { IfOk result (λ v. v.items ≡ control (plain_children program.now.processes) (plain_state state.now)) }
+{
+    let processes = &program.processes;
+    let mut locations = Vec::new(alloc);
+    push_fronts(program, known, &state.residuals, processes, &mut locations)?;
+    Ok(locations)
 }
 
 /// The locations where control is.
 pub fn control(alloc: Global, program: &Program, state: &State) -> Result<Vec<u32>, Memory>
     ensures { IfOk result (λ v. v.items ≡ control (plain_children program.now.processes) (plain_state state.now)) }
 {
-    let mut locations = Vec::new(alloc);
-    push_fronts(
-        program,
-        &state.residuals,
-        &program.processes,
-        &mut locations,
-    )?;
-    Ok(locations)
+    control_by(alloc, program, &[], state)
 }
 
 /// The locations where control is in each of these states.
@@ -120,9 +146,10 @@ pub fn fronts_of(
 ) -> Result<Vec<Vec<u32>>, Memory>
     ensures { IfOk result (λ v. map (λ f. f.items) v.items ≡ map (λ s. control (plain_children program.now.processes) (plain_state s)) states.now) }
 {
+    let known = locations_of(alloc, program)?;
     let mut fronts = Vec::with_capacity(alloc, states.len())?;
     for state in states {
-        fronts.push(control(alloc, program, state)?)?;
+        fronts.push(control_by(alloc, program, &known, state)?)?;
     }
     Ok(fronts)
 }

@@ -8,6 +8,7 @@ ghost use Rattle.st_form.specs.Plain.{plain};
 ghost use Rattle.st_form.specs.Formula.{Situation};
 ghost use Rattle.st_form.specs.declared.conditions.TransName.{TransName};
 ghost use Rattle.st_program.specs.Plain.{plain_children};
+ghost use Rattle.st_program.specs.Tree.{Processes};
 ghost use Rattle.observations.specs.Observation.{Observation};
 ghost use Rattle.run_judging.specs.Shown.{Shows};
 ghost use Rattle.spl_semantics.specs.Runs as runs;
@@ -16,11 +17,13 @@ ghost use Rattle.temporal_goals.specs.Texts.{invariant, waiting, response};
 ghost use Rattle.trace_player.specs.Columns.{states_in, sights};
 ghost use Rattle.trace_player.specs.Judgements.{JudgedOn, IsJudgement, judged_by};
 ghost use Rattle.trace_player.specs.Playing.{IsPlayed};
+ghost use Rattle.trace_player.specs.Watching.{IsWhole, IsWatched};
 
 use crate::columns::{numbers, rows, truths};
 use crate::counting::course_of;
 use crate::fronts::fronts_of;
 use crate::runs::Played;
+use crate::watching::Watched;
 use run_judging::{Course, Judged, invariance_failure, response_failure, waiting_failure};
 use st_form::Form;
 use st_linear::Lin;
@@ -131,6 +134,36 @@ pub fn judge(
             let course = course_of(alloc, program, played)?;
             let states = &played.states;
             judge_response(alloc, &course, premise, target, bound, states, &fronts)
+        }
+    }
+}
+
+/// As `judge`, over what was made once for all goals of the run by `watch`.
+pub fn judge_watched(
+    alloc: Global,
+    played: &Played,
+    watched: &Watched,
+    goal: &Goal,
+) -> Result<Judged, Memory>
+    requires { IsWhole played.now watched.now }
+    ensures { IfOk result (λ judged. (p : Processes) (s : runs.State) (later : List (TransName × runs.State)) → IsWatched p played.now watched.now → IsPlayed p s later played.now
+        → IsJudgement p s later (plain_goal goal.now) judged) }
+{
+    let states = &played.states;
+    let fronts = &watched.fronts;
+    match goal {
+        Goal::Invariant(form) => judge_invariance(alloc, form, states, fronts),
+        Goal::Waiting(premise, forms) => judge_waiting(alloc, premise, forms, states, fronts),
+        Goal::Response(premise, target, bound) => {
+            judge_response(
+                alloc,
+                &watched.course,
+                premise,
+                target,
+                bound,
+                states,
+                fronts,
+            )
         }
     }
 }

@@ -52,6 +52,13 @@ past place (On u) = On (place + 1)
 past place (Over ended) = Over ended
 
 module _ (x : Posed) (cs : List Condition) (are : x.conditions ≡ plains cs) where
+  -- a condition whose certificate is found
+  pub found_passes : (place : ℕ) (any : Condition) (t : Tree) → place < length cs → decided (setting_of x.program) (given_of (get_or cs place any)) (shown_of (get_or cs place any)) ≡ valid t → FoundTo x place (place + 1) (t ∷ [])
+  found_passes place any t lt is =
+      let k = setting_of x.program in
+      let c = get_or cs place any in
+      found_step x cs are place any lt ∙ ap (by_verdict (place + 1) (plain_condition c) (found_from x (place + 1))) (verdict_found k c t is)
+
   one_passes : (place : ℕ) (any : Condition) → place < length cs → mark (setting_of x.program) (get_or cs place any) ≡ true → (t : Tree) × FoundTo x place (place + 1) (t ∷ [])
   one_passes place any lt m =
       let k = setting_of x.program in

@@ -43,17 +43,25 @@ fn is_marked(marks: &[bool], number: u32) -> bool {
     }
 }
 
+/// Marks the parts of a number's tree, where it is marked and there.
+fn mark_from(trees: &TreeTable, number: u32, marks: &mut [bool]) {
+    if !is_marked(marks, number) {
+        return;
+    }
+    if trees.has(number) {
+        mark_parts(trees, number, marks);
+    }
+}
+
 /// Of each number up to the largest of these, whether it is reached from them.
 pub fn reached(alloc: Global, trees: &TreeTable, roots: &[u32]) -> Result<Vec<bool>, Memory> {
-    let mut number = bound(roots);
+    let top = bound(roots);
     let mut marks = Vec::new(alloc);
-    marks.resize(number as usize, false)?;
+    marks.resize(top as usize, false)?;
     mark_each(&mut marks, roots);
-    while number > 0 {
-        number -= 1;
-        if is_marked(&marks, number) && trees.has(number) {
-            mark_parts(trees, number, &mut marks);
-        }
+    for above in 0..top {
+        let number = top.saturating_sub(above).saturating_sub(1);
+        mark_from(trees, number, &mut marks);
     }
     Ok(marks)
 }

@@ -1,5 +1,5 @@
 use Rattle.std.proofs.Common.{subst, refl}
-use Rattle.std.specs.Prelude.{Option, IfSome}
+use Rattle.std.specs.Prelude.{IfSome}
 use Rattle.tree_texts.specs.Written.{IsAcceptedBy}
 use Rattle.tree_texts.proofs.proving.proved.Goals as goal
 

@@ -8,8 +8,8 @@ ghost use Rattle.search_laws.specs.Searchable.{AreSearchable, IsSearchable};
 ghost use Rattle.shared_search.specs.Books.{Knows};
 ghost use Rattle.found_trees.specs.Certified.{HasCertificate};
 
-use crate::entries::look_at_condition;
 use control_states::Components;
+use linear_prover::look_at_condition;
 use shared_search::{Book, find_tree};
 use sharing_laws::laws::found_trees_are_valid;
 use st_form::{Condition, Variable};

@@ -2,7 +2,6 @@
 //! nothing is unfolded.
 #![tactic(auto)]
 
-mod entries;
 mod finding;
 
 pub use control_states::Components;

@@ -9,6 +9,7 @@ ghost use Rattle.search_laws.specs.Steady.{HasEntries};
 
 use st_form::{Condition, Consequent, SharedForm};
 
+/// Does nothing but let a caller know of each form of a condition that it is proper: variables rise, and no coefficient is 0.
 pub fn look_at_condition(condition: &Condition)
     ensures given { AllForms HasEntries (given_of condition.now) }
     ensures shown { AllForms HasEntries (shown_of condition.now) }

@@ -23,6 +23,7 @@ mod walk;
 
 pub use control_states::{Alternative, Component, Components};
 pub use deciding::{decide, unless_valid};
+pub use entries::look_at_condition;
 pub use guards::is_condition_below;
 pub use sameness::is_found;
 pub use search_verdicts::{PathKind, PathStep, Shown, Verdict, WideStage};

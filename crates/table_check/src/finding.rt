@@ -10,10 +10,10 @@ ghost use Rattle.shared_search.specs.Books.{Knows};
 ghost use Rattle.table_check.specs.Nodes.{AreNodes, trees_by};
 ghost use Rattle.table_check.specs.Same.{AreEarlier};
 
-use crate::entries::look_at_condition;
 use crate::memo::Same;
 use crate::sameness::is_same;
 use control_states::Components;
+use linear_prover::look_at_condition;
 use shared_certificates::Node;
 use shared_search::{Book, find_tree};
 use sharing_laws::laws::found_trees_are_valid;

@@ -6,7 +6,6 @@
 
 mod checking;
 mod closing;
-mod entries;
 mod finding;
 mod memo;
 mod sameness;

@@ -3,10 +3,11 @@
 
 Instructions are callgrind's, which says the same whatever else the machine does; valgrind has to be installed. PROGRAM is another executable
 than the built `step`, and OTHER one to stand beside it, as that of an earlier commit: then the last column has the ratio of both, and a line
-below says where they print different texts. Rows are the proofs in bench/ by `conditions`, `verify`, `prove` and `check` with one worker;
-`invariants` of programs with four variables for each process; `trace` of a run of 1,000 moves, with sixteen goals and with none; `verify` of
-one process with many statements; and a program and a proof of a million bytes, which are refused for what stands in them last. NAME is the
-beginning of a row's name.
+below says where they print different texts. A program whose name begins with `milkhour` is asked as `milkhour step`. One of `.ci/unproved`
+takes twice the instructions of one that is proved, so only two of a kind are to be compared. Rows are the proofs in bench/ by `conditions`,
+`verify`, `prove` and `check` with one worker; `invariants` of programs with four variables for each process; `trace` of a run of 1,000 moves,
+with sixteen goals and with none; `verify` of one process with many statements; and a program and a proof of a million bytes, which are
+refused for what stands in them last. NAME is the beginning of a row's name.
 """
 import argparse
 import collections
@@ -105,6 +106,11 @@ def other_rows(scratch):
     yield Row("reading: a proof of 1 MB", ["verify", small, write(scratch / "long-proof", long_proof(1_000_000))], 4)
 
 
+def call(program):
+    """The words that ask a program as `step`."""
+    return [program, "step"] if program.name.startswith("milkhour") else [program]
+
+
 def plain(words, output):
     with open(output, "wb") as out:
         return subprocess.run(words, stdin=subprocess.DEVNULL, stdout=out, stderr=subprocess.DEVNULL).returncode
@@ -121,8 +127,8 @@ def cells(program, row, scratch, number):
     """What a program takes for a row, or its status where that isn't the wanted one, and what it prints."""
     certificates = scratch / f"certificates{number}"
     if "certificates" in row.words:
-        plain([program, "prove", *row.words[1:3]], certificates)
-    words = [program, *(certificates if it == "certificates" else it for it in row.words)]
+        plain([*call(program), "prove", *row.words[1:3]], certificates)
+    words = [*call(program), *(certificates if it == "certificates" else it for it in row.words)]
     output = scratch / f"output{number}"
     status = plain(words, output)
     return (counted(words, scratch) if status == row.status else None), status, output.read_bytes()

@@ -260,6 +260,33 @@ impl CertReader {
         }
     }
 
+    /// The bytes that are pushed and not yet taken.
+    pub fn front(&self) -> &[u8]
+        ensures { result.now ≡ self.now.bytes }
+    {
+        &self.bytes[self.taken..]
+    }
+
+    /// Whether a header is taken, which says that the text is of version 2.
+    pub fn is_second(&self) -> bool
+        ensures { result ≡ self.now.second }
+    {
+        self.second
+    }
+
+    /// Takes so many bytes for the next block, whose tree is known without reading them.
+    pub fn skip(&mut self, count: usize)
+        requires number { self.old.number < 2 ^ 32 - 1 }
+        requires held { count ≤ length self.old.bytes }
+        ensures { self.new ≡ record self.old { bytes = drop count self.old.bytes; place = self.old.place + count; number = self.old.number + 1 } }
+    {
+        self.taken += count;
+        self.scanned = self.taken;
+        self.place += count as u64;
+        self.number += 1;
+        self.progress = beginning(self.alloc, self.number, self.second);
+    }
+
     /// The place of the first byte not yet taken that isn't blank. The blanks before it are taken.
     pub fn trailing(&mut self) -> Option<u64>
         ensures place { result ≡ first_place self.new }

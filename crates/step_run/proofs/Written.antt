@@ -1,4 +1,4 @@
--- What the search finds for the condition at a place, by number or by problems, and what `prove` writes of it.
+-- What is found for the condition at a place, as a number or as a verdict, is what is defined of it.
 use Rattle.std.proofs.Common.{◌≡◌, ℕ, List, get_or, sym, subst}
 use Rattle.std.specs.Prelude.{Option, Some, slice_get, Result, Ok, Err, IfOk}
 use Rattle.std.proofs.lemmas.Option.{get_or_from_slice_get}

@@ -23,3 +23,4 @@ pub mod Found
 pub mod Growing
 pub mod Accepting
 pub mod Passing
+pub mod Written

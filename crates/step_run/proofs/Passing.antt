@@ -13,13 +13,12 @@ use Rattle.linear_prover.specs.Verdicts.{is_valid}
 use Rattle.discharge.specs.Searched.{mark, ValidBefore, IsFirstOpen}
 use Rattle.discharge.specs.Verdicts.{IsAnswer}
 use Rattle.block_laws.specs.Plain.{plains}
-use Rattle.step_plan.specs.declared.ended.Ended.{Ended}
 use Rattle.step_plan.specs.declared.stage.Stage.{Stage}
 use Rattle.step_plan.specs.declared.stage.Stage.TheVariants.{On, Over}
-use Rattle.step_plan.specs.Outcome.{Outcome, ended_view}
+use Rattle.step_plan.specs.Outcome.{ended_view}
 use Rattle.step_run.specs.Conditions.{Posed, setting_of}
 use Rattle.step_run.specs.Verified.{by_verdict, verdict_on}
-use Rattle.step_run.specs.Deciding.{tree_in, found_from, FoundTo, EndsAt, EndsFrom, Pass, PassesFrom}
+use Rattle.step_run.specs.Deciding.{tree_in, found_from, FoundTo, EndsAt, Pass, PassesFrom}
 use Rattle.step_run.proofs.Slices.{Come, found_on, ends_on, found_step, one_found, one_ends, in_front, behind_front, some_of}
 
 there : (cs : List Condition) (i : ℕ) (any : Condition) → i < length cs → slice_get cs i ≡ Some (get_or cs i any)
@@ -52,6 +51,13 @@ past place (On u) = On (place + 1)
 past place (Over ended) = Over ended
 
 module _ (x : Posed) (cs : List Condition) (are : x.conditions ≡ plains cs) where
+  -- a condition whose certificate is found
+  pub found_passes : (place : ℕ) (any : Condition) (t : Tree) → place < length cs → decided (setting_of x.program) (given_of (get_or cs place any)) (shown_of (get_or cs place any)) ≡ valid t → FoundTo x place (place + 1) (t ∷ [])
+  found_passes place any t lt is =
+      let k = setting_of x.program in
+      let c = get_or cs place any in
+      found_step x cs are place any lt ∙ ap (by_verdict (place + 1) (plain_condition c) (found_from x (place + 1))) (verdict_found k c t is)
+
   one_passes : (place : ℕ) (any : Condition) → place < length cs → mark (setting_of x.program) (get_or cs place any) ≡ true → (t : Tree) × FoundTo x place (place + 1) (t ∷ [])
   one_passes place any lt m =
       let k = setting_of x.program in

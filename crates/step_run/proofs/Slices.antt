@@ -189,6 +189,16 @@ come_on x place Kept Keeps vs come next keep = record {
   kept = keep come.trees come.as_many come.kept;
 }
 
+-- the same by one condition
+pub come_one : (x : Posed) (place : ℕ) (Kept Keeps : List Tree → Type 0) (t : Tree) → place < length x.conditions → Come x place Kept → FoundTo x place (place + 1) (t ∷ []) → ((ts : List Tree) → length ts ≡ place → Kept ts → Keeps (ts ++ t ∷ [])) → Come x (place + 1) Keeps
+come_one x place Kept Keeps t below come next keep = record {
+  within = omega (arith, below);
+  trees = come.trees ++ t ∷ [];
+  as_many = (let a = length-append come.trees (t ∷ []) in let c = come.as_many in omega (arith, a, c));
+  found = found_on x 0 place (place + 1) come.trees (t ∷ []) come.found next;
+  kept = keep come.trees come.as_many come.kept;
+}
+
 -- the outcome, at the end and where the run ends before
 unsearched : (x : Posed) (all : List Tree → Outcome) → searched x all ≡ search_ended x all (found_from x 0)
 unfolding searched found_from
@@ -230,3 +240,7 @@ pub certificates_append : (ts us : List Tree) (first : ℕ) → first ≡ length
 certificates_append ts us first is =
     ap (λ (m : ℕ). certificates_text ts ++ blocks_text m us) (let e : first ≡ 1 + length ts = omega (arith, is) in e)
     ∙ append_assoc (codes "version 2;\n") (blocks_text 1 ts) (blocks_text (1 + length ts) us) ∙ ap (λ (l : List ℕ). codes "version 2;\n" ++ l) (sym (blocks_append 1 ts us))
+
+pub written_one : (ts : List Tree) (t : Tree) (place : ℕ) → length ts ≡ place → certificates_text ts ++ block_text (place + 1) t ≡ certificates_text (ts ++ t ∷ [])
+written_one ts t place many =
+    ap (λ (l : List ℕ). certificates_text ts ++ l) (sym (append-nil (block_text (place + 1) t))) ∙ certificates_append ts (t ∷ []) (place + 1) (let e : place + 1 ≡ length ts + 1 = omega (arith, many) in e)

@@ -1,5 +1,5 @@
 -- What the verdicts of a run come to, slice by slice.
-use Rattle.std.specs.Prelude.{◌≡◌, ℕ, ◌+◌, ◌<◌, ◌≤◌, Bool, true, false, List, [], ◌∷◌, length, map, drop}
+use Rattle.std.specs.Prelude.{◌≡◌, ℕ, ◌+◌, ◌<◌, ◌≤◌, Bool, true, false, List, [], ◌∷◌, ◌++◌, length, map, drop}
 use Rattle.std.specs.declared.vec.Vec.{Vec}
 use Rattle.std.specs.declared.alloc.Global.{Global}
 use Rattle.st_form.specs.Condition.{Implication}
@@ -9,9 +9,13 @@ use Rattle.search_verdicts.specs.declared.verdict.Verdict.{Verdict}
 use Rattle.search_verdicts.specs.declared.verdict.Verdict.TheVariants.{Valid, Open, Wide}
 use Rattle.search_verdicts.specs.Plain.{plain_verdict}
 use Rattle.search_laws.specs.Sizes.{nodes}
+use Rattle.cert_text.specs.Spelling.{block_text}
+pub use Rattle.tree_writing.specs.Standing.{IsWritten}
+use Rattle.tree_writing.specs.Standing.{AreWithin}
 use Rattle.step_plan.specs.declared.stage.Stage.{Stage}
 use Rattle.step_plan.specs.declared.stage.Stage.TheVariants.{On, Over}
 use Rattle.step_plan.specs.Outcome.{Outcome, ended_view, IsDecided}
+use Rattle.step_run.specs.declared.proving.Sheet.{Sheet}
 use Rattle.step_run.specs.Conditions.{Posed, setting_of}
 use Rattle.step_run.specs.Verified.{Verified, found_before, by_verdict, verified_from, search_ended}
 
@@ -92,7 +96,15 @@ abbrev pub GoesFrom : Posed → ℕ → Stage (Vec Verdict Global) → Type 0
 GoesFrom x place (On verdicts) = AreNext x place verdicts.items
 GoesFrom x place (Over ended) = EndsFrom x place (ended_view ended)
 
--- the text was written whole; or it wasn't, since it would be longer than certificates may be
-abbrev pub IsWritten : List ℕ → List ℕ → Bool → Type 0
-IsWritten whole text true = (text ≡ whole) × (length whole ≤ 268435456)
-IsWritten whole text false = 268435456 < length whole
+-- where the text fits, it isn't too long, and what is told of places in it is there
+abbrev pub IsSheet : Sheet → Type 0
+IsSheet s = s.fits ≡ true → (length s.text.items ≤ 268435456) × AreWithin s.text.items s.places.kept.items
+
+-- whatever was written so far, this was written behind it, as long as it fits
+abbrev pub Writes : Sheet → Sheet → List ℕ → Type 0
+Writes old new piece = (whole : List ℕ) → IsWritten whole old.text.items old.fits → IsWritten (whole ++ piece) new.text.items new.fits
+
+-- the condition at a place is valid, and the block of its certificate was written, as long as it fits; or the run ends
+abbrev pub WritesFrom : Posed → ℕ → Sheet → Sheet → Stage (Unit {0}) → Type 0
+WritesFrom x place old new (On u) = (t : Tree) × FoundTo x place (place + 1) (t ∷ []) × Writes old new (block_text (place + 1) t)
+WritesFrom x place old new (Over ended) = EndsFrom x place (ended_view ended)

@@ -1,12 +1,10 @@
 -- Whether a text with a further sentence is accepted: of its conditions only the new ones are open.
-use Rattle.std.proofs.Common.{◌≡◌, ℕ, zero, suc, ◌+◌, ◌<◌, ◌≤◌, Bool, true, false, ◌&&◌, cond, List, [], ◌∷◌, ◌++◌, length, map, take, drop, get_or, refl, sym, ap, ◌∙◌, subst, arith, length-append, take-append-drop, take_at}
-use Rattle.std.specs.Prelude.{Option, Some, None, is_none, Result, Ok, Err}
-use Rattle.std.proofs.lemmas.List.{length-map, drop_more, drop_all}
+use Rattle.std.proofs.Common.{◌≡◌, ℕ, zero, suc, ◌+◌, ◌<◌, ◌≤◌, Bool, true, false, ◌&&◌, List, [], ◌∷◌, ◌++◌, length, map, take, drop, get_or, refl, sym, ap, ◌∙◌, subst, arith, length-append, take-append-drop, take_at}
+use Rattle.std.specs.Prelude.{Option, Some, None, is_none, Ok, Err}
+use Rattle.std.proofs.lemmas.List.{drop_more, drop_all}
 use Rattle.st_form.specs.Condition.{Implication}
 use Rattle.st_form.specs.Shared.{given_of, shown_of, plain_condition}
 use Rattle.st_form.specs.declared.conditions.Condition.{Condition}
-use Rattle.st_form.specs.declared.variables.Variable.{Variable}
-use Rattle.control_states.specs.Control.{ControlFacts}
 use Rattle.farkas_check.specs.Problem.{Setting}
 use Rattle.search_laws.specs.Searchable.{AreSearchable}
 use Rattle.search_laws.specs.Moves.{Verdict, valid, open_at, wide_at, decided}
@@ -20,7 +18,6 @@ use Rattle.vc_generator.specs.declared.faults.VcFault.{VcFault}
 use Rattle.script_laws.specs.Script.{script_list}
 use Rattle.script_laws.specs.Refused.{refused_at}
 use Rattle.obligations.specs.Made.{AreAppended}
-use Rattle.spl_translation.specs.Translation.{translation}
 use Rattle.spl_translation.proofs.Systemic.{translation_is_system}
 use Rattle.spl_typer.specs.Programs.{Typed}
 use Rattle.st_reading.specs.Reading.{Stop}
@@ -121,16 +118,8 @@ decided-behind k old now begins h =
     ∙ ap (λ (xs : List Implication). are_decided k (xs ++ drop (length old) now)) begins
     ∙ decided-append k old (drop (length old) now) h
 
-begins-short : (old now : List Implication) → Begins old now → length old ≤ length now
-begins-short [] now begins = omega arith
-begins-short (o ∷ old) [] begins = absurd cc
-begins-short (o ∷ old) (n ∷ now) begins = let rest : Begins old now = cc in omega (arith, begins-short old now rest)
-
 -- a script whose first conditions are decided valid
 module _ (p : Typed) (steps : List PlainStep) (old : List Implication) (cs : List Condition) (count : ℕ) (begins : Begins old (map plain_condition cs)) (counted : count ≡ length old) where
-  pub there : count ≤ length cs
-  there = omega (arith, counted, begins-short old (map plain_condition cs) begins, length-map cs plain_condition)
-
   new-ones : are_decided (setting_of p) old ≡ true → are_decided (setting_of p) (map plain_condition cs) ≡ are_decided (setting_of p) (map plain_condition (drop count cs))
   new-ones h =
       decided-behind (setting_of p) old (map plain_condition cs) begins h

@@ -1,5 +1,5 @@
 -- The text of the invariances that are found is accepted.
-use Rattle.std.proofs.Common.{◌≡◌, ℕ, zero, suc, ◌+◌, ◌<◌, ◌%◌, ◌/◌, Bool, true, false, ◌&&◌, cond, ◌==◌, List, [], ◌∷◌, ◌++◌, length, map, refl, sym, ap, ◌∙◌, subst, arith, append_assoc}
+use Rattle.std.proofs.Common.{◌≡◌, ℕ, zero, suc, ◌+◌, ◌<◌, ◌%◌, ◌/◌, Bool, true, false, ◌&&◌, cond, ◌==◌, List, [], ◌∷◌, ◌++◌, refl, sym, ap, ◌∙◌, subst, arith, append_assoc}
 use Rattle.std.specs.Prelude.{Option, Some, None, is_none, codes, Result, Ok, Err}
 use Rattle.std.specs.Fmt.{decimal, digits, digits_onto, digit_glyph}
 use Rattle.std.proofs.lemmas.Bool.Decides.{nat_tests}
@@ -10,7 +10,6 @@ use Rattle.control_facts.specs.Alternatives.{control_of}
 use Rattle.farkas_check.specs.Problem.{Setting}
 use Rattle.search_laws.specs.Moves.{Verdict, valid, open_at, wide_at, decided}
 use Rattle.temporal_goals.specs.Texts.{PlainStep}
-use Rattle.vc_generator.specs.declared.faults.VcFault.{VcFault}
 use Rattle.spl_typer.specs.Programs.{Typed}
 use Rattle.st_reading.specs.Reading.{Stop}
 use Rattle.st_reading.specs.Breaches.{Breach}
@@ -22,7 +21,7 @@ use Rattle.step_run.specs.Conditions.{setting_of, words_over, steps_spelled, dra
 use Rattle.step_run.specs.Verified.{verdict_on}
 use Rattle.step_run.specs.Invariants.{is_decided, are_decided, accepts_steps, accepts, entry, entered}
 use Rattle.step_run.specs.WellFormed.{AreFound}
-use Rattle.step_run.specs.Growth.{IsAccepted, IsChosen, IsKept, Judges}
+use Rattle.step_run.specs.Growth.{IsAccepted, IsKept}
 
 -- numbers are written without line feeds
 glyph-line : (d : ℕ) → d < 10 → is_line_byte (digit_glyph false d) ≡ true
@@ -122,16 +121,6 @@ module _ (nothing : NothingStands) (lines : LinesStand) (comments : CommentsAddN
 
   pub invariants-accepted : (es : List PlainEquation) → IsAccepted p (entered p 1 es [])
   invariants-accepted es = entered-accepted 1 es [] nothing-accepted
-
--- what is entered, by whether the text with the sentence is accepted
-pub chosen-none : (p : Typed) (text : List ℕ) (n count : ℕ) (cs : List Implication) → IsKept p text count cs → IsChosen p text n None count cs None
-chosen-none p text n count cs a = (refl, a)
-
-pub chosen-yes : (p : Typed) (text s : List ℕ) (n count : ℕ) (cs : List Implication) → Judges p text s count cs true → IsChosen p text n (Some s) count cs (Some s)
-chosen-yes p text s n count cs h = (ap (λ b. cond b s (left_out_text n)) h.0, h.1)
-
-pub chosen-no : (p : Typed) (text s : List ℕ) (n count : ℕ) (cs : List Implication) → Judges p text s count cs false → IsChosen p text n (Some s) count cs None
-chosen-no p text s n count cs h = (ap (λ b. cond b s (left_out_text n)) h.0, h.1)
 
 -- a text with a further line, which is pushed in two parts
 pub line-pushed : (text now longer more out said : List ℕ) → now ≡ text → longer ≡ now ++ more → out ≡ longer ++ codes "\n" → said ≡ more → out ≡ text ++ line said

@@ -1,10 +1,6 @@
-use Rattle.std.proofs.Common.{◌≡◌, length, map, subst, sym, ap, ◌∙◌, arith}
-use Rattle.st_form.specs.Shared.{plain_condition}
+use Rattle.std.proofs.Common.{length, subst, sym, ap, arith}
 use Rattle.farkas_check.specs.Problem.{Setting}
-use Rattle.farkas_check.specs.PlainProblem.{setting}
 use Rattle.shared_search.specs.Books.{Knows}
-use Rattle.step_run.specs.Conditions.{setting_of}
-use Rattle.step_run.specs.Invariants.{are_decided}
 use Rattle.step_run.specs.Views.{source_view}
 use Rattle.step_run.proofs.Filed.{setting_is}
 use Rattle.step_run.proofs.Readied.{few_variables}

@@ -1,4 +1,4 @@
-use Rattle.std.proofs.Common.{◌≡◌, ◌+◌, [], drop, map}
+use Rattle.std.proofs.Common.{◌≡◌, ◌+◌, [], drop}
 use Rattle.linear_invariants.specs.Plain.{plain_equations}
 use Rattle.equation_writer.specs.Proper.{AreProper}
 use Rattle.shared_search.specs.Books.{Knows}

@@ -11,10 +11,10 @@ use run_judging::Judged;
 use spl_semantics::is_true_at;
 use st_form::{Form, Lin};
 use st_memory::Memory;
-use st_program::{Program, State};
+use st_program::State;
 use std::alloc::Global;
 use temporal_goals::{Goal, Step};
-use trace_player::{Played, control};
+use trace_player::{Played, Watched};
 
 fn kind(goal: &Goal) -> &'static str {
     match goal {
@@ -24,13 +24,9 @@ fn kind(goal: &Goal) -> &'static str {
     }
 }
 
-/// Whether a formula holds in a state of a run; a number that is too large tells nothing.
-fn holds(alloc: Global, program: &Program, state: &State, form: &Form) -> Result<bool, Memory> {
-    let fronts = control(alloc, program, state)?;
-    match is_true_at(form, &state.store, &fronts) {
-        Ok(truth) => Ok(truth),
-        Err(_) => Ok(false),
-    }
+/// Whether a formula holds in a state with control at these locations; a number that is too large tells nothing.
+fn holds(form: &Form, state: &State, front: &[u32]) -> bool {
+    is_true_at(form, &state.store, front).unwrap_or(false)
 }
 
 /// How a response holds on a run.
@@ -45,20 +41,14 @@ enum Trial {
 }
 
 /// How a response that holds does so: the run is walked from its end.
-fn how_tried(
-    alloc: Global,
-    program: &Program,
-    states: &[State],
-    premise: &Form,
-    target: &Form,
-) -> Result<Trial, Memory> {
+fn how_tried(states: &[State], fronts: &[Vec<u32>], premise: &Form, target: &Form) -> Trial {
     let mut reached = false;
     let mut trial = Trial::Idle;
-    for state in states.iter().rev() {
-        if holds(alloc, program, state, target)? {
+    for (state, front) in states.iter().rev().zip(fronts.iter().rev()) {
+        if holds(target, state, front) {
             reached = true;
         }
-        if holds(alloc, program, state, premise)? {
+        if holds(premise, state, front) {
             trial = match (reached, trial) {
                 (false, _) => Trial::Untried,
                 (true, Trial::Untried) => Trial::Untried,
@@ -66,7 +56,7 @@ fn how_tried(
             };
         }
     }
-    Ok(trial)
+    trial
 }
 
 /// The word for a verdict, the position that it speaks of, and the bound where it matters.
@@ -84,37 +74,26 @@ fn told<'a>(word: &'static str, at: Option<u64>, bound: Option<&'a Lin>) -> Outc
     Outcome { word, at, bound }
 }
 
-fn held<'a>(
-    alloc: Global,
-    program: &Program,
-    played: &Played,
-    goal: &'a Goal,
-) -> Result<Outcome<'a>, Memory>
-    ensures { IfOk result (λ o. Says Holds o.word.now o.at) }
+fn held<'a>(played: &Played, watched: &Watched, goal: &'a Goal) -> Outcome<'a>
+    ensures { Says Holds result.word.now result.at }
 {
     let Goal::Response(premise, target, bound) = goal else {
-        return Ok(told("holds", None, None));
+        return told("holds", None, None);
     };
-    match how_tried(alloc, program, &played.states, premise, target)? {
-        Trial::Tried => Ok(told("holds", None, None)),
-        Trial::Untried => Ok(told("untried", None, Some(bound))),
-        Trial::Idle => Ok(told("untried", None, None)),
+    match how_tried(&played.states, &watched.fronts, premise, target) {
+        Trial::Tried => told("holds", None, None),
+        Trial::Untried => told("untried", None, Some(bound)),
+        Trial::Idle => told("untried", None, None),
     }
 }
 
-fn verdict<'a>(
-    alloc: Global,
-    program: &Program,
-    played: &Played,
-    goal: &'a Goal,
-    judged: Judged,
-) -> Result<Outcome<'a>, Memory>
-    ensures { IfOk result (λ o. Says judged o.word.now o.at) }
+fn verdict<'a>(played: &Played, watched: &Watched, goal: &'a Goal, judged: Judged) -> Outcome<'a>
+    ensures { Says judged result.word.now result.at }
 {
     match judged {
-        Judged::Holds => held(alloc, program, played, goal),
-        Judged::Fails(at) => Ok(told("fails", Some(u64::from(at)), None)),
-        Judged::Unclear(at) => Ok(told("unclear", Some(u64::from(at)), None)),
+        Judged::Holds => held(played, watched, goal),
+        Judged::Fails(at) => told("fails", Some(u64::from(at)), None),
+        Judged::Unclear(at) => told("unclear", Some(u64::from(at)), None),
     }
 }
 
@@ -122,15 +101,15 @@ fn verdict<'a>(
 pub(crate) fn goal_report(
     alloc: Global,
     words: &Vocabulary,
-    program: &Program,
     played: &Played,
+    watched: &Watched,
     step: &Step,
     judged: Judged,
     line: u64,
 ) -> Result<GoalReport, Memory>
     ensures { IfOk result (λ r. Says judged (string_bytes r.verdict) r.at) }
 {
-    let outcome = verdict(alloc, program, played, &step.goal, judged)?;
+    let outcome = verdict(played, watched, &step.goal, judged);
     Ok(GoalReport {
         name: step.name.clone()?,
         kind: String::from_str(alloc, kind(&step.goal))?,

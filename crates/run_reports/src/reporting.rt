@@ -3,6 +3,7 @@
 ghost use Rattle.std.specs.Prelude.{◌<◌, ◌^◌, length, IfOk, IfSome};
 ghost use Rattle.posed_conditions.specs.Translated.{IsTranslated};
 ghost use Rattle.run_reports.specs.Playable.{IsPlayable, IsShort};
+ghost use Rattle.trace_player.specs.Watching.{IsWhole};
 
 use crate::goals::goal_report;
 use crate::positions::Ground;
@@ -11,13 +12,14 @@ use posed_conditions::TranslatedProgram;
 use program_words::vocabulary;
 use proof_reports::{GoalReport, RunReport};
 use proof_script::{ScriptFault, read_script};
+use run_judging::rounds;
 use schedule_reader::Schedule;
 use source_lines::Lines;
 use source_places::{StepPlaces, statement_places, step_places};
 use st_memory::Memory;
 use std::alloc::Global;
 use temporal_goals::{Script, Step};
-use trace_player::{PlayFault, Played, judge, play, rounds};
+use trace_player::{PlayFault, Played, Watched, judge_watched, play, watch};
 
 /// The version of the form of reports of runs.
 const SCHEMA: &str = "milkhour.trace/1";
@@ -37,17 +39,18 @@ fn goals(
     alloc: Global,
     ground: &Ground<'_>,
     played: &Played,
+    watched: &Watched,
     steps: &[Step],
     lines: &[u64],
 ) -> Result<Vec<GoalReport>, Memory>
-    requires short { IsShort played.now }
+    requires whole { IsWhole played.now watched.now }
 {
-    let program = &ground.source.program;
+    let words = ground.words;
     let mut out = Vec::new(alloc);
     for (number, step) in steps.iter().enumerate() {
-        let judged = judge(alloc, program, played, &step.goal)?;
+        let judged = judge_watched(alloc, played, watched, &step.goal)?;
         let line = lines.get(number).copied().unwrap_or(0);
-        out.push(goal_report(alloc, ground.words, program, played, step, judged, line)?)?;
+        out.push(goal_report(alloc, words, played, watched, step, judged, line)?)?;
     }
     Ok(out)
 }
@@ -72,7 +75,8 @@ fn report(
 ) -> Result<RunReport, Memory>
     requires short { IsShort played.now }
 {
-    let counts = rounds(alloc, &ground.source.program, played)?;
+    let watched = watch(alloc, &ground.source.program, played)?;
+    let counts = rounds(alloc, &watched.course)?;
     let lines = step_lines(alloc, texts.proof)?;
     Ok(RunReport {
         schema: String::from_str(alloc, SCHEMA)?,
@@ -81,7 +85,7 @@ fn report(
         program: String::from_str(alloc, texts.program_name)?,
         proof: String::from_str(alloc, texts.proof_name)?,
         positions: ground.positions(alloc, played, &counts)?,
-        goals: goals(alloc, ground, played, &script.steps, &lines)?,
+        goals: goals(alloc, ground, played, &watched, &script.steps, &lines)?,
     })
 }
 

@@ -54,7 +54,7 @@ looked p o e proved = by (found (system_of p)) refl e where
   by : (r : Option (List PlainEquation)) → found (system_of p) ≡ r → looked_for p r ≡ o → IsLooked p o
   by None are g = absurd (let same : IsProved (looked_for p None) = subst IsProved (sym g) proved in cc)
   by (Some es) are g =
-      let a = (invariants-accepted nothing_stands lines_stand comments_add_nothing p es).1 in
+      let a = invariants-accepted nothing_stands lines_stand comments_add_nothing p es in
       let text : entered p 1 es [] ≡ o.text = ap (λ (x : Outcome). x.text) g in
       let trees = found-all (setting_of p) (conditions_of p a.steps) a.decided in
       record {

@@ -1,5 +1,5 @@
 -- The text of the invariances that are found is accepted.
-use Rattle.std.proofs.Common.{◌≡◌, ℕ, zero, suc, ◌+◌, ◌<◌, ◌%◌, ◌/◌, Bool, true, false, ◌&&◌, cond, ◌==◌, List, [], ◌∷◌, ◌++◌, length, map, refl, sym, ap, ◌∙◌, subst, arith, append_assoc}
+use Rattle.std.proofs.Common.{◌≡◌, ℕ, zero, suc, ◌+◌, ◌<◌, ◌%◌, ◌/◌, Bool, true, false, ◌&&◌, cond, ◌==◌, List, [], ◌∷◌, ◌++◌, refl, sym, ap, ◌∙◌, subst, arith, append_assoc}
 use Rattle.std.specs.Prelude.{Option, Some, None, is_none, codes, Result, Ok, Err}
 use Rattle.std.specs.Fmt.{decimal, digits, digits_onto, digit_glyph}
 use Rattle.std.proofs.lemmas.Bool.Decides.{nat_tests}
@@ -10,7 +10,6 @@ use Rattle.control_facts.specs.Alternatives.{control_of}
 use Rattle.farkas_check.specs.Problem.{Setting}
 use Rattle.search_laws.specs.Moves.{Verdict, valid, open_at, wide_at, decided}
 use Rattle.temporal_goals.specs.Texts.{PlainStep}
-use Rattle.vc_generator.specs.declared.faults.VcFault.{VcFault}
 use Rattle.spl_typer.specs.Programs.{Typed}
 use Rattle.st_reading.specs.Reading.{Stop}
 use Rattle.st_reading.specs.Breaches.{Breach}
@@ -22,7 +21,7 @@ use Rattle.step_run.specs.Conditions.{setting_of, words_over, steps_spelled, dra
 use Rattle.step_run.specs.Verified.{verdict_on}
 use Rattle.step_run.specs.Invariants.{is_decided, are_decided, accepts_steps, accepts, entry, entered}
 use Rattle.step_run.specs.WellFormed.{AreFound}
-use Rattle.step_run.specs.Growth.{IsAccepted}
+use Rattle.step_run.specs.Growth.{IsAccepted, IsKept}
 
 -- numbers are written without line feeds
 glyph-line : (d : ℕ) → d < 10 → is_line_byte (digit_glyph false d) ≡ true
@@ -77,48 +76,62 @@ unfolding drafts
 no-conditions p = refl
 
 module _ (nothing : NothingStands) (lines : LinesStand) (comments : CommentsAddNothing) (p : Typed) where
-  pub nothing-accepted : IsAccepted p [] 0
+  pub nothing-accepted : IsAccepted p []
   nothing-accepted = record {
     steps = [];
     stands = nothing (words_over p);
     few = rw (no-conditions p) refl;
     decided = rw (no-conditions p) refl;
-    counted = rw (no-conditions p) refl;
   }
 
-  pub sentence-accepted : (text s : List ℕ) → accepts p (text ++ s) ≡ true → (steps : List PlainStep) × IsAccepted p (text ++ line s) (length (conditions_of p steps))
+  pub nothing-kept : IsKept p [] 0 []
+  unfolding nothing-accepted
+  nothing-kept = record { accepted = nothing-accepted; counted = refl; these = rw (no-conditions p) refl }
+
+  sentence-accepted : (text s : List ℕ) → accepts p (text ++ s) ≡ true → IsAccepted p (text ++ line s)
   sentence-accepted text s h =
       let a = accepted p (text ++ s) h in
       let stands : Stands (words_over p) (text ++ line s) a.steps = subst (λ (t : List ℕ). Stands (words_over p) t a.steps) (append_assoc text s (10 ∷ [])) (lines (words_over p) (text ++ s) a.steps a.script) in
-      (a.steps, record { steps = a.steps; stands = stands; few = a.few; decided = a.decided; counted = refl })
+      record { steps = a.steps; stands = stands; few = a.few; decided = a.decided }
 
-  pub comment-accepted : (text : List ℕ) (count n : ℕ) → IsAccepted p text count → IsAccepted p (text ++ line (left_out_text n)) count
-  comment-accepted text count n a = record {
+  comment-accepted : (text : List ℕ) (n : ℕ) → IsAccepted p text → IsAccepted p (text ++ line (left_out_text n))
+  comment-accepted text n a = record {
     steps = a.steps;
     stands = comments (words_over p) text (codes " left out: eq" ++ decimal n) a.steps a.stands (comment-line n);
     few = a.few;
     decided = a.decided;
-    counted = a.counted;
   }
 
-  abbrev pub IsSomeAccepted : List ℕ → Type 0
-  IsSomeAccepted text = (count : ℕ) × IsAccepted p text count
+  pub comment-kept : (text : List ℕ) (n count : ℕ) (cs : List Implication) → IsKept p text count cs → IsKept p (text ++ line (left_out_text n)) count cs
+  unfolding comment-accepted
+  comment-kept text n count cs a = record { accepted = comment-accepted text n a.accepted; counted = a.counted; these = a.these }
 
-  entry-accepted : (text : List ℕ) (n : ℕ) (o : Option (List ℕ)) → IsSomeAccepted text → IsSomeAccepted (text ++ line (entry p text n o))
-  entry-accepted text n None a = (a.0, comment-accepted text a.0 n a.1)
+  entry-accepted : (text : List ℕ) (n : ℕ) (o : Option (List ℕ)) → IsAccepted p text → IsAccepted p (text ++ line (entry p text n o))
+  entry-accepted text n None a = comment-accepted text n a
   entry-accepted text n (Some s) a = by (accepts p (text ++ s)) refl where
-    by : (b : Bool) → accepts p (text ++ s) ≡ b → IsSomeAccepted (text ++ line (cond b s (left_out_text n)))
-    by true e = let x = sentence-accepted text s e in (length (conditions_of p x.0), x.1)
-    by false e = (a.0, comment-accepted text a.0 n a.1)
+    by : (b : Bool) → accepts p (text ++ s) ≡ b → IsAccepted p (text ++ line (cond b s (left_out_text n)))
+    by true e = sentence-accepted text s e
+    by false e = comment-accepted text n a
 
-  entered-accepted : (n : ℕ) (es : List PlainEquation) (text : List ℕ) → IsSomeAccepted text → IsSomeAccepted (entered p n es text)
+  entered-accepted : (n : ℕ) (es : List PlainEquation) (text : List ℕ) → IsAccepted p text → IsAccepted p (entered p n es text)
   entered-accepted n [] text a = a
   entered-accepted n (e ∷ es) text a =
       let o = sentence (control_of p.processes) p.names n e in
       entered-accepted (n + 1) es (text ++ line (entry p text n o)) (entry-accepted text n o a)
 
-  pub invariants-accepted : (es : List PlainEquation) → IsSomeAccepted (entered p 1 es [])
-  invariants-accepted es = entered-accepted 1 es [] (0, nothing-accepted)
+  pub invariants-accepted : (es : List PlainEquation) → IsAccepted p (entered p 1 es [])
+  invariants-accepted es = entered-accepted 1 es [] nothing-accepted
+
+-- a text with a further line, which is pushed in two parts
+pub line-pushed : (text now longer more out said : List ℕ) → now ≡ text → longer ≡ now ++ more → out ≡ longer ++ codes "\n" → said ≡ more → out ≡ text ++ line said
+line-pushed text now longer more out said kept pushed ended is =
+    ended
+    ∙ ap (λ (t : List ℕ). t ++ codes "\n") (pushed ∙ ap (λ (t : List ℕ). t ++ more) kept)
+    ∙ append_assoc text more (codes "\n")
+    ∙ ap (λ (t : List ℕ). text ++ line t) (sym is)
+
+pub line-kept : (p : Typed) (text more out : List ℕ) (count : ℕ) (cs : List Implication) → out ≡ text ++ line more → IsKept p ((text ++ more) ++ 10 ∷ []) count cs → IsKept p out count cs
+line-kept p text more out count cs is = subst (λ (t : List ℕ). IsKept p t count cs) (append_assoc text more (10 ∷ []) ∙ sym is)
 
 -- conditions that are decided valid have certificates
 found-one : (k : Setting) (c : Implication) (cs : List Implication) (v : Verdict) → decided k c.given c.shown ≡ v → is_decided v ≡ true → (ts : List Tree) × AreFound k cs ts → (ts : List Tree) × AreFound k (c ∷ cs) ts

@@ -1,34 +1,38 @@
 //! Whether a text of invariances is accepted: it spells a script whose conditions pass no limit and are decided valid.
 //!
 //! The text is read again with each sentence, which is at most once for each variable; but of the conditions only those of the
-//! last step are decided, since the others are those of the text before it.
+//! last step are made and decided, since the others are those of the text before it. One book serves all texts of a program, and
+//! no certificate is kept.
 
-ghost use Rattle.std.specs.Prelude.{◌≡◌, ◌≤◌, ◌++◌, drop, length, map, IfOk};
-ghost use Rattle.std.specs.Option.{option_map};
+ghost use Rattle.std.specs.Prelude.{◌≡◌, ◌<◌, ◌≤◌, ◌^◌, ◌++◌, true, drop, take, length, map, IfOk};
 ghost use Rattle.st_form.specs.Shared.{plain_condition};
+ghost use Rattle.farkas_check.specs.PlainProblem.{setting};
 ghost use Rattle.search_laws.specs.Searchable.{AreSearchable};
+ghost use Rattle.shared_search.specs.Books.{Knows};
 ghost use Rattle.temporal_goals.specs.Plain.{plain_script};
+ghost use Rattle.vc_generator.specs.Plain.{plain_list};
+ghost use Rattle.vc_generator.specs.Refusing.{Begins};
 ghost use Rattle.step_run.specs.Views.{source_view};
 ghost use Rattle.step_run.specs.Conditions.{setting_of};
 ghost use Rattle.step_run.specs.Invariants.{are_decided};
 ghost use Rattle.step_run.specs.Posing.{IsScript};
-ghost use Rattle.step_run.specs.Growth.{IsSubject, IsAccepted, IsScriptIn, AreConditionsIn, Judges, are_valid};
+ghost use Rattle.step_run.specs.Growth.{IsSubject, IsKept, IsScriptIn, AreAccepted, AreListed, AreTaken, AreTried, Judges};
 
 use crate::reports::variables_of;
 use crate::source::Source;
 use control_states::Components;
-use discharge::decide_all;
-use linear_prover::Verdict;
-use obligations::{ObligationFault, conditions_of};
+use linear_prover::{Book, unless_valid};
+use obligations::{ObligationFault, append_conditions};
 use proof_script::laws::{scripts_are_over, scripts_are_proofs};
 use proof_script::{ScriptFault, read_script};
 use script_bounds::laws::over_is_written;
-use st_form::Condition;
+use st_form::{Condition, Variable};
 use st_memory::Memory;
 use std::alloc::Global;
 use step_report::push_text;
 use temporal_goals::Script;
 use transition_system::Fts;
+use vc_generator::{Conditions, take_back};
 
 /// A program, its system and its components.
 #[derive(Drop)]
@@ -38,11 +42,12 @@ pub struct Subject {
     pub components: Components,
 }
 
-/// The text of invariances that was kept so far, and how many conditions its script has.
+/// The text of invariances that was kept so far, and of its script the number of steps and their conditions.
 #[derive(Drop)]
 pub struct Kept {
     pub text: Vec<u8>,
-    pub conditions: usize,
+    pub steps: usize,
+    pub conditions: Conditions,
 }
 
 /// The script that a text spells.
@@ -61,50 +66,77 @@ fn script_in(alloc: Global, subject: &Subject, text: &[u8]) -> Result<Option<Scr
     }
 }
 
-/// The conditions of a script, unless one passes a limit.
-fn conditions_in(
+/// Appends the conditions of a script behind those of its first steps, unless one passes a limit.
+fn append_new(
     alloc: Global,
     subject: &Subject,
     script: &Script,
-) -> Result<Option<Vec<Condition>>, Memory>
+    known: usize,
+    list: &mut Conditions,
+) -> Result<bool, Memory>
     requires subject { IsSubject subject.now }
     requires script { IsScript (source_view subject.now.source) (plain_script script.now) }
-    ensures { IfOk result (λ o. AreConditionsIn (source_view subject.now.source) (plain_script script.now) (option_map (λ v. v.items) o)) }
+    requires known { known ≤ length (plain_script script.now) }
+    requires before { AreAccepted (source_view subject.now.source) (take known (plain_script script.now)) (plain_list list.old) }
+    ensures begins { Begins (plain_list list.old) (plain_list list.new) }
+    ensures listed { IfOk result (λ yes. AreListed (source_view subject.now.source) (plain_script script.now) list.new.items yes) }
 {
     scripts_are_proofs();
     scripts_are_over();
     over_is_written();
-    match conditions_of(alloc, &subject.source.program, &subject.fts, script) {
-        Ok(conditions) => Ok(Some(conditions)),
-        Err(ObligationFault::TooMany(_)) => Ok(None),
-        Err(ObligationFault::TooWide(_)) => Ok(None),
-        Err(ObligationFault::TooHeavy(_)) => Ok(None),
+    match append_conditions(
+        alloc,
+        &subject.source.program,
+        &subject.fts,
+        script,
+        known,
+        list,
+    ) {
+        Ok(()) => Ok(true),
+        Err(ObligationFault::TooMany(_)) => Ok(false),
+        Err(ObligationFault::TooWide(_)) => Ok(false),
+        Err(ObligationFault::TooHeavy(_)) => Ok(false),
         Err(ObligationFault::Memory) => Err(Memory),
     }
 }
 
-fn are_valid(verdicts: &[Verdict]) -> bool
-    ensures { result ≡ are_valid verdicts.now }
+/// Whether conditions are all decided valid.
+fn are_all_valid(
+    alloc: Global,
+    book: &mut Book,
+    components: &Components,
+    variables: &[Variable],
+    conditions: &[Condition],
+) -> Result<bool, Memory>
+    requires few { length variables.now < 2 ^ 32 }
+    requires searchable { AreSearchable (length variables.now) conditions.now }
+    requires knows { Knows (setting components.now variables.now) book.old }
+    ensures knows { Knows (setting components.now variables.now) book.new }
+    ensures exact { IfOk result (λ yes. yes ≡ are_decided (setting components.now variables.now) (map plain_condition conditions.now)) }
 {
-    for verdict in verdicts {
-        match verdict {
-            Verdict::Valid(_) => {}
-            Verdict::Open(_, _) => return false,
-            Verdict::Wide(_, _) => return false,
+    for condition in conditions {
+        if let Some(_) = unless_valid(alloc, book, components, variables, condition)? {
+            return Ok(false);
         }
     }
-    true
+    Ok(true)
 }
 
-/// Whether conditions are all decided valid.
-fn are_decided(alloc: Global, subject: &Subject, conditions: &[Condition]) -> Result<bool, Memory>
+/// Whether conditions of the program are all decided valid.
+fn are_decided(
+    alloc: Global,
+    book: &mut Book,
+    subject: &Subject,
+    conditions: &[Condition],
+) -> Result<bool, Memory>
     requires subject { IsSubject subject.now }
     requires searchable { AreSearchable (length subject.now.source.program.variables) conditions.now }
-    ensures { IfOk result (λ yes. yes ≡ are_decided (setting_of (source_view subject.now.source)) (map plain_condition conditions.now)) }
+    requires knows { Knows (setting_of (source_view subject.now.source)) book.old }
+    ensures knows { Knows (setting_of (source_view subject.now.source)) book.new }
+    ensures exact { IfOk result (λ yes. yes ≡ are_decided (setting_of (source_view subject.now.source)) (map plain_condition conditions.now)) }
 {
     let variables = variables_of(&subject.source.program);
-    let verdicts = decide_all(alloc, &subject.components, variables, conditions)?;
-    Ok(are_valid(&verdicts))
+    are_all_valid(alloc, book, &subject.components, variables, conditions)
 }
 
 /// A text with more behind it.
@@ -118,35 +150,92 @@ fn joined(alloc: Global, text: &[u8], more: &[u8]) -> Result<Vec<u8>, Memory>
 }
 
 /// The conditions behind so many.
-fn behind(conditions: &[Condition], count: usize) -> &[Condition]
-    requires { count ≤ length conditions.now }
-    ensures { result.now ≡ drop count conditions.now }
+fn behind(list: &Conditions, count: usize) -> &[Condition]
+    requires { count ≤ length list.now.items }
+    ensures { result.now ≡ drop count list.now.items }
 {
-    &conditions[count..]
+    &list.items[count..]
 }
 
-/// How many conditions the script of a text has, if the text is accepted. The first `before` of them are known to be valid: they are
-/// those of the text so far, with which it begins.
+/// Appends the conditions of a script behind those of its first steps, which are decided valid, and tells whether all are; or
+/// one passes a limit.
+fn try_new(
+    alloc: Global,
+    book: &mut Book,
+    subject: &Subject,
+    script: &Script,
+    known: usize,
+    list: &mut Conditions,
+) -> Result<bool, Memory>
+    requires subject { IsSubject subject.now }
+    requires script { IsScript (source_view subject.now.source) (plain_script script.now) }
+    requires known { known ≤ length (plain_script script.now) }
+    requires before { AreAccepted (source_view subject.now.source) (take known (plain_script script.now)) (plain_list list.old) }
+    requires knows { Knows (setting_of (source_view subject.now.source)) book.old }
+    ensures knows { Knows (setting_of (source_view subject.now.source)) book.new }
+    ensures begins { Begins (plain_list list.old) (plain_list list.new) }
+    ensures tried { IfOk result (λ yes. AreTried (source_view subject.now.source) (plain_script script.now) (plain_list list.new) yes) }
+{
+    let count = list.items.len();
+    if !append_new(alloc, subject, script, known, list)? {
+        return Ok(false);
+    }
+    are_decided(alloc, book, subject, behind(list, count))
+}
+
+/// Keeps the conditions of a script that begins with what is kept, where the script is accepted.
+fn take_over(
+    alloc: Global,
+    book: &mut Book,
+    subject: &Subject,
+    script: &Script,
+    kept: &mut Kept,
+) -> Result<bool, Memory>
+    requires subject { IsSubject subject.now }
+    requires script { IsScript (source_view subject.now.source) (plain_script script.now) }
+    requires known { kept.old.steps ≤ length (plain_script script.now) }
+    requires before { AreAccepted (source_view subject.now.source) (take kept.old.steps (plain_script script.now)) (plain_list kept.old.conditions) }
+    requires knows { Knows (setting_of (source_view subject.now.source)) book.old }
+    ensures knows { Knows (setting_of (source_view subject.now.source)) book.new }
+    ensures text { kept.new.text.items ≡ kept.old.text.items }
+    ensures taken { IfOk result (λ yes. AreTaken (source_view subject.now.source) (plain_script script.now)
+        kept.old.steps (plain_list kept.old.conditions) kept.new.steps (plain_list kept.new.conditions) yes) }
+{
+    let count = kept.conditions.items.len();
+    let weight = kept.conditions.weight;
+    if try_new(
+        alloc,
+        book,
+        subject,
+        script,
+        kept.steps,
+        &mut kept.conditions,
+    )? {
+        kept.steps = script.steps.len();
+        return Ok(true);
+    }
+    take_back(&mut kept.conditions, count, weight);
+    Ok(false)
+}
+
+/// Whether the text with a sentence behind it is accepted. Then it is kept, but for the text itself.
 pub fn judged(
     alloc: Global,
+    book: &mut Book,
     subject: &Subject,
-    kept: &Kept,
+    kept: &mut Kept,
     sentence: &[u8],
-) -> Result<Option<usize>, Memory>
+) -> Result<bool, Memory>
     requires subject { IsSubject subject.now }
-    requires accepted { IsAccepted (source_view subject.now.source) kept.now.text.items kept.now.conditions }
-    ensures { IfOk result (λ o. Judges (source_view subject.now.source) (kept.now.text.items ++ sentence.now) o) }
+    requires knows { Knows (setting_of (source_view subject.now.source)) book.old }
+    requires accepted { IsKept (source_view subject.now.source) kept.old.text.items kept.old.steps (plain_list kept.old.conditions) }
+    ensures knows { Knows (setting_of (source_view subject.now.source)) book.new }
+    ensures text { kept.new.text.items ≡ kept.old.text.items }
+    ensures judges { IfOk result (λ yes. Judges (source_view subject.now.source) kept.old.text.items sentence.now kept.new.steps (plain_list kept.new.conditions) yes) }
 {
     let text = joined(alloc, &kept.text, sentence)?;
     let Some(script) = script_in(alloc, subject, &text)? else {
-        return Ok(None);
+        return Ok(false);
     };
-    let Some(conditions) = conditions_in(alloc, subject, &script)? else {
-        return Ok(None);
-    };
-    let fresh = behind(&conditions, kept.conditions);
-    if !are_decided(alloc, subject, fresh)? {
-        return Ok(None);
-    }
-    Ok(Some(conditions.len()))
+    take_over(alloc, book, subject, &script, kept)
 }

@@ -3,7 +3,7 @@
 ghost use Rattle.std.specs.Prelude.{◌≡◌, ◌<◌, ◌≤◌, ◌^◌, suc, List, length, map, IfOk, Ok};
 ghost use Rattle.st_form.specs.Plain.{plain};
 ghost use Rattle.st_form.specs.declared.conditions.TransName.{TransName};
-ghost use Rattle.st_program.specs.Plain.{plain_children};
+ghost use Rattle.st_program.specs.Tree.{Processes};
 ghost use Rattle.temporal_goals.specs.Plain.{plain_step};
 ghost use Rattle.spl_semantics.specs.Data.{store_of, StoreFits};
 ghost use Rattle.spl_semantics.specs.Runs.{State};
@@ -12,6 +12,7 @@ ghost use Rattle.schedule_reader.specs.Schedules.{plain_schedule};
 ghost use Rattle.schedule_reader.specs.Values.{IsWritten};
 ghost use Rattle.std.specs.List.{All};
 ghost use Rattle.trace_player.specs.Playing.{IsPlayed, PlayAnswers};
+ghost use Rattle.trace_player.specs.Watching.{IsWhole, IsWatched};
 ghost use Rattle.step_plan.specs.Outcome.{ended_view};
 ghost use Rattle.step_run.specs.Judged.{all_judged};
 ghost use Rattle.step_run.specs.Traced.{schedule_played, traced};
@@ -23,31 +24,29 @@ use crate::ends::schedule_refused;
 use crate::reports::shown;
 use crate::scripted::Scripted;
 use crate::source::Source;
-use run_judging::Judged;
+use run_judging::{Judged, rounds};
 use schedule_reader::laws::schedules_obey;
 use schedule_reader::{Schedule, read_schedule};
 use st_memory::Memory;
-use st_program::Program;
 use std::alloc::Global;
 use step_plan::{End, Ended, end};
 use temporal_goals::Step;
-use trace_player::{PlayFault, Played, judge, play, rounds};
+use trace_player::{PlayFault, Played, Watched, judge_watched, play, watch};
 
 /// What is judged of the goal of each step.
 fn judged_all(
     alloc: Global,
-    program: &Program,
     played: &Played,
+    watched: &Watched,
     steps: &[Step],
 ) -> Result<Vec<Judged>, Memory>
-    requires few { length played.now.enabled.items < 2 ^ 32 }
-    requires long { length played.now.states.items ≡ length played.now.enabled.items }
-    ensures { IfOk result (λ judged. (s : State) (later : List (TransName × State)) → IsPlayed (plain_children program.now.processes) s later played.now
-        → judged.items ≡ all_judged (observed (plain_children program.now.processes) s later) (map plain_step steps.now)) }
+    requires { IsWhole played.now watched.now }
+    ensures { IfOk result (λ judged. (p : Processes) (s : State) (later : List (TransName × State)) → IsWatched p played.now watched.now → IsPlayed p s later played.now
+        → judged.items ≡ all_judged (observed p s later) (map plain_step steps.now)) }
 {
     let mut judged = Vec::new(alloc);
     for step in steps {
-        judged.push(judge(alloc, program, played, &step.goal)?)?;
+        judged.push(judge_watched(alloc, played, watched, &step.goal)?)?;
     }
     Ok(judged)
 }
@@ -72,9 +71,9 @@ fn reported(
     requires plays { IsPlayedBy (source_view scripted.now.source) (plain_schedule schedule.now) played.now }
     ensures { IfOk result (λ e. ended_view e ≡ schedule_played (scripted_view scripted.now) (plain_schedule schedule.now)) }
 {
-    let program = &scripted.source.program;
-    let counts = rounds(alloc, program, played)?;
-    let judged = judged_all(alloc, program, played, &scripted.script.steps)?;
+    let watched = watch(alloc, &scripted.source.program, played)?;
+    let counts = rounds(alloc, &watched.course)?;
+    let judged = judged_all(alloc, played, &watched, &scripted.script.steps)?;
     let mut text = Vec::new(alloc);
     step_report::played(
         &mut text,

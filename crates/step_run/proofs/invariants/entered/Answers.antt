@@ -1,10 +1,12 @@
-use Rattle.std.proofs.Common.{List, ℕ, length, refl, subst, sym, ap, ◌∙◌, arith}
+use Rattle.std.proofs.Common.{List, [], ℕ, length, map, refl, subst, sym, ap, ◌∙◌, arith}
+use Rattle.st_form.specs.Condition.{Implication}
+use Rattle.st_form.specs.Shared.{plain_condition}
 use Rattle.linear_invariants.specs.Plain.{plain_equations}
 use Rattle.proof_grammar.proofs.Growing.{nothing_stands, lines_stand, comments_add_nothing}
-use Rattle.step_run.specs.Growth.{IsAccepted}
+use Rattle.step_run.specs.Growth.{IsKept}
 use Rattle.step_run.specs.Invariants.{entered}
 use Rattle.step_run.specs.Views.{source_view}
-use Rattle.step_run.proofs.Growing.{nothing-accepted}
+use Rattle.step_run.proofs.Growing.{nothing-kept}
 use Rattle.step_run.proofs.Readied.{all_named, few_variables}
 use Rattle.step_run.proofs.invariants.entered.Goals as goal
 
@@ -17,7 +19,9 @@ loop-equation-init c =
     record {
       count = refl;
       proper = c.requires.proper;
-      accepted = subst (λ (t : List ℕ). IsAccepted p t 0) (sym c.new.ensures.items) (nothing-accepted nothing_stands lines_stand comments_add_nothing p);
+      knows = c.in_ok-book.ensures;
+      accepted = subst (λ (cs : List Implication). IsKept p c.new.result.items 0 cs) (sym (ap (map plain_condition) c.new-2.ensures))
+          (subst (λ (t : List ℕ). IsKept p t 0 []) (sym c.new.ensures.items) (nothing-kept nothing_stands lines_stand comments_add_nothing p));
       same = ap (λ (t : List ℕ). entered p 1 (plain_equations c.args.equations.now) t) c.new.ensures.items;
     }
 

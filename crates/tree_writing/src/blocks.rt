@@ -13,17 +13,20 @@ use crate::leaves::{push_leaf, push_step};
 use crate::memo::{Place, Places, keep, recall};
 use crate::words::{MOST, is_short, push_number, push_text};
 use st_memory::Memory;
+use std::alloc::Global;
 use tree_table::{Kind, Step, TreeTable};
 
-/// Appends a part of the text itself, where the text stays short.
-fn push_copy(text: &mut Vec<u8>, place: Place) -> Result<bool, Memory>
+/// Appends a part of the text itself, where the text stays short. It is copied twice, each time at once: byte by byte it would take
+/// twenty times as many instructions.
+fn push_copy(alloc: Global, text: &mut Vec<u8>, place: Place) -> Result<bool, Memory>
     requires { (place.from ≤ place.to) × (place.to ≤ length text.old.items) }
     ensures { IfOk result (λ fits. IsWritten (text.old.items ++ slice_range text.old.items place.from place.to) text.new.items fits) }
 {
     if text.len().saturating_add(place.to - place.from) > MOST {
         return Ok(false);
     }
-    text.extend_from_within(place.from..place.to)?;
+    let part = Vec::from_slice(alloc, &text[place.from..place.to])?;
+    push_text(text, &part)?;
     Ok(true)
 }
 
@@ -31,6 +34,7 @@ fn push_copy(text: &mut Vec<u8>, place: Place) -> Result<bool, Memory>
 #[cycle(write)]
 #[tactic(auto, using(crate::proofs::Going::goings))]
 fn push_tree(
+    alloc: Global,
     text: &mut Vec<u8>,
     places: &mut Places,
     start: usize,
@@ -42,10 +46,10 @@ fn push_tree(
     ensures { IfOk result (λ fits. Goes (trees_in table.now) start (text.old.items ++ tree_text (tree (trees_in table.now) number)) text.new.items places.new.kept.items fits) }
 {
     if let Some(place) = recall(places, start, number) {
-        return push_copy(text, place);
+        return push_copy(alloc, text, place);
     }
     let from = text.len();
-    if !push_node(text, places, start, table, number)? {
+    if !push_node(alloc, text, places, start, table, number)? {
         return Ok(false);
     }
     let to = text.len();
@@ -57,6 +61,7 @@ fn push_tree(
 #[cycle(write)]
 #[tactic(auto, using(tree_table::proofs::Reading::reading))]
 fn push_node(
+    alloc: Global,
     text: &mut Vec<u8>,
     places: &mut Places,
     start: usize,
@@ -78,7 +83,7 @@ fn push_node(
         }
         Kind::Branch(step, from, count) => {
             let parts = table.parts(from, count);
-            push_branch(text, places, start, table, number, step, parts)
+            push_branch(alloc, text, places, start, table, number, step, parts)
         }
     }
 }
@@ -87,6 +92,7 @@ fn push_node(
 #[cycle(write)]
 #[tactic(auto, using(crate::proofs::Going::goings))]
 fn push_branch(
+    alloc: Global,
     text: &mut Vec<u8>,
     places: &mut Places,
     start: usize,
@@ -102,7 +108,7 @@ fn push_branch(
         places.new.kept.items fits) }
 {
     push_step(text, step)?;
-    if !push_parts(text, places, start, table, number, parts)? {
+    if !push_parts(alloc, text, places, start, table, number, parts)? {
         return Ok(false);
     }
     push_text(text, b"}")?;
@@ -113,6 +119,7 @@ fn push_branch(
 #[cycle(write)]
 #[tactic(auto, using(crate::proofs::Going::goings))]
 fn push_parts(
+    alloc: Global,
     text: &mut Vec<u8>,
     places: &mut Places,
     start: usize,
@@ -127,7 +134,7 @@ fn push_parts(
         places.new.kept.items fits) }
 {
     for part in parts {
-        if !push_tree(text, places, start, table, *part)? {
+        if !push_tree(alloc, text, places, start, table, *part)? {
             return Ok(false);
         }
         push_text(text, b" ")?;
@@ -139,6 +146,7 @@ fn push_parts(
 /// is the most that may be checked: then what was appended is of no use. What stands in the block already is copied.
 #[tactic(auto, using(crate::proofs::Going::goings))]
 pub fn write_block(
+    alloc: Global,
     text: &mut Vec<u8>,
     places: &mut Places,
     table: &TreeTable,
@@ -154,7 +162,7 @@ pub fn write_block(
     push_text(text, b"cert ")?;
     push_number(text, u64::from(number))?;
     push_text(text, b" ")?;
-    if !push_tree(text, places, start, table, root)? {
+    if !push_tree(alloc, text, places, start, table, root)? {
         return Ok(false);
     }
     push_text(text, b";\n")?;

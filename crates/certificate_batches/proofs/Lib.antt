@@ -1,4 +1,5 @@
 pub mod Blanks
+pub mod Found
 pub mod Fronts
 pub mod Headers
 pub mod Joining
@@ -7,3 +8,4 @@ pub mod Pending
 pub mod Settling
 pub mod Steps
 pub mod Taking
+pub mod Unread

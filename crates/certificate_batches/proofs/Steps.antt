@@ -1,5 +1,5 @@
 -- Steps that change nothing of what all comes to.
-use Rattle.std.proofs.Common.{◌≡◌, ◌∙◌, ℕ, ◌+◌, ◌<◌, List, [], ◌∷◌, ◌++◌, length, drop, refl, sym, ap, arith, length-drop, append-nil, append_assoc, Bool}
+use Rattle.std.proofs.Common.{◌≡◌, ◌∙◌, ℕ, ◌+◌, ◌<◌, List, [], ◌∷◌, ◌++◌, length, drop, refl, sym, ap, subst, arith, length-drop, append-nil, append_assoc, Bool}
 use Rattle.std.specs.Prelude.{true, false, Option, None, Some, IsSome}
 use Rattle.std.specs.declared.vec.Vec.{Vec}
 use Rattle.std.specs.declared.alloc.Global.{Global}
@@ -20,6 +20,7 @@ use Rattle.certificate_batches.specs.Finding.{finding_of}
 use Rattle.certificate_batches.specs.declared.finding.Finding.{Finding}
 use Rattle.certificate_batches.specs.declared.finding.Finding.TheVariants.{Discharged}
 use Rattle.certificate_batches.specs.Turns.{trailing, AreDropped, IsTaken}
+use Rattle.certificate_batches.specs.Following.{IsPassed}
 use Rattle.certificate_batches.specs.Batches.{rest_found, comes_to, Keeps, AreInOrder, AreAllDischarged}
 use Rattle.certificate_batches.proofs.Pending.{unsettled_is, settled_is}
 use Rattle.basic_laws.proofs.Truths.{no_truth}
@@ -41,6 +42,32 @@ module _ (k : Setting) (cs : List Condition) (b : Batches) (r : Held) (bs : Vec 
       ∙ ap (λ (ts : List Tree). finding_of (pending_from k (b.discharged + 1) (plains behind) ts (closed r rest))) all
       ∙ ap finding_of (taken.waits k (b.discharged + 1) (plains behind) (trees b.blocks.items) rest may short)
       ∙ sym (unsettled_is k cs b rest none)
+
+-- the next condition is discharged by a block that was taken unread
+module _ (k : Setting) (cs : List Condition) (b : Batches) (r : Held) (empty : b.blocks.items ≡ []) (passed : IsPassed k cs b.discharged b.reader r) where
+  pub passed_keeps : b.settled ≡ None → Keeps k cs b (record b { reader = r; discharged = b.discharged + 1 })
+  passed_keeps none rest may =
+      let d = b.discharged in
+      unsettled_is k cs (record b { reader = r; discharged = d + 1 }) rest none
+      ∙ ap (λ (bs : List Block). finding_of (pending_from k (d + 1 + 1) (plains (drop (d + 1) cs)) (trees bs) (closed r rest))) empty
+      ∙ ap finding_of (passed.discharged (d + 1) rest)
+      ∙ sym (unsettled_is k cs b rest none ∙ ap (λ (bs : List Block). finding_of (pending_from k (d + 1) (plains (drop d cs)) (trees bs) (closed b.reader rest))) empty)
+
+  pub passed_order : AreInOrder cs b → b.discharged + length b.blocks.items < length cs → AreInOrder cs (record b { reader = r; discharged = b.discharged + 1 })
+  passed_order order left = record {
+    within = omega (arith, left);
+    number = omega (arith, passed.number, order.number);
+    limited = order.limited;
+    among = order.among;
+  }
+
+-- nothing was taken
+module _ (k : Setting) (cs : List Condition) (b : Batches) (r : Held) (same : r ≡ b.reader) where
+  pub same_keeps : Keeps k cs b (record b { reader = r })
+  same_keeps rest may = ap (λ (x : Held). comes_to k cs (record b { reader = x }) rest) same
+
+  pub same_order : AreInOrder cs b → AreInOrder cs (record b { reader = r })
+  same_order order = subst (λ (x : Held). AreInOrder cs (record b { reader = x })) (sym same) order
 
 -- no condition is left: what all comes to stands behind the last block
 module _ (k : Setting) (cs : List Condition) (b : Batches) (all : AreAllDischarged cs b) where

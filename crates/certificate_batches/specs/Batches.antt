@@ -1,5 +1,5 @@
 -- Blocks that are taken while the text comes, and checked in batches.
-use Rattle.std.specs.Prelude.{◌≡◌, ℕ, ◌+◌, ◌≤◌, List, [], length, drop, Option, Some, None, IfSome}
+use Rattle.std.specs.Prelude.{◌≡◌, ℕ, false, ◌+◌, ◌≤◌, List, [], length, drop, Option, Some, None, IfSome}
 use Rattle.st_form.specs.Condition.{Implication}
 use Rattle.st_form.specs.declared.conditions.Condition.{Condition}
 use Rattle.st_certificate.specs.Tree.{Tree}
@@ -11,6 +11,8 @@ use Rattle.block_laws.specs.Checked.{pending_from}
 use Rattle.block_laws.specs.Plain.{trees, plains}
 use Rattle.certificate_batches.specs.declared.finding.Finding.{Finding}
 use Rattle.certificate_batches.specs.declared.batches.Batches.{Batches}
+use Rattle.certificate_batches.specs.declared.passing.Compared.{Compared}
+use Rattle.certificate_batches.specs.declared.passing.Compared.TheVariants.{Same, Short, Other}
 use Rattle.certificate_batches.specs.Finding.{finding_of, IsAmong}
 
 -- what is settled, or else what the conditions from a number on come to, of which the first have blocks that wait for their check
@@ -38,3 +40,13 @@ pub record AreAllDischarged (cs : List Condition) (b : Batches) : Type 0 where
   pub unsettled : b.settled ≡ None
   pub none_waits : b.blocks.items ≡ []
   pub all : b.discharged ≡ length cs
+
+-- how many conditions have blocks that were taken, discharged or waiting for their check
+abbrev pub taken : Batches → ℕ
+taken b = b.discharged + length b.blocks.items
+
+-- where the next block was compared: one more is taken where it is the same; where it is short, the text is open
+abbrev pub IsLeft : Batches → Batches → Compared → Type 0
+IsLeft before now Same = taken now ≡ taken before + 1
+IsLeft before now Short = before.reader.finished ≡ false
+IsLeft before now Other = taken now ≡ taken before

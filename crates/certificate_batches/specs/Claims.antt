@@ -5,6 +5,7 @@ use Rattle.st_form.specs.declared.conditions.Condition.{Condition}
 use Rattle.farkas_check.specs.Problem.{Setting}
 use Rattle.farkas_check.specs.PlainProblem.{setting}
 use Rattle.search_laws.specs.Searchable.{AreSearchable}
+use Rattle.search_laws.specs.Forms.{IsInOrder}
 use Rattle.block_laws.specs.Plain.{plains}
 use Rattle.certificate_batches.specs.declared.claims.Claims.{Claims}
 
@@ -20,3 +21,5 @@ implications_of claims = plains claims.conditions.now
 pub record MayBeChecked (claims : Claims) : Type 0 where
   pub few : length claims.conditions.now ≤ 20000
   pub searchable : AreSearchable (length claims.variables.now) claims.conditions.now
+  pub few_variables : length claims.variables.now ≤ 64
+  pub ordered : IsInOrder (setting_of claims).control

@@ -3,3 +3,4 @@ pub mod Claims
 pub mod Turns
 pub mod Batches
 pub mod SoFar
+pub mod Following

@@ -11,9 +11,12 @@ ghost use Rattle.block_laws.specs.Plain.{plains};
 ghost use Rattle.certificate_batches.specs.Finding.{finding, IsAmong};
 ghost use Rattle.certificate_batches.specs.Claims.{setting_of, conditions_of, MayBeChecked};
 ghost use Rattle.certificate_batches.specs.Turns.{reach, trailing};
-ghost use Rattle.certificate_batches.specs.Batches.{comes_to, Keeps, AreInOrder, AreAllDischarged};
+ghost use Rattle.certificate_batches.specs.Batches.{comes_to, Keeps, AreInOrder, AreAllDischarged, IsLeft};
+ghost use Rattle.certificate_batches.specs.Following.{IsFollower};
 
 use crate::crew::Crew;
+use crate::following::Follower;
+use crate::passing::Compared;
 use crate::turns::{Turn, drop_blanks, drop_front, next_turn};
 use crate::{Claims, Finding};
 use cert_text::{Block, CertReader};
@@ -151,8 +154,8 @@ impl Batches {
         Ok(())
     }
 
-    /// Takes the next block, and checks those that wait where they are 64. Answers whether the text goes on.
-    fn take_next<R: Threads + Sync, G: Gate + Sync>(
+    /// Reads the next block, and checks those that wait where they are 64. Answers whether the text goes on.
+    fn read_next<R: Threads + Sync, G: Gate + Sync>(
         &mut self,
         crew: &Crew<'_, R, G>,
         claims: &Claims<'_>,
@@ -181,24 +184,95 @@ impl Batches {
         Ok(self.settled.is_none())
     }
 
-    /// Takes blocks as far as the text goes. Answers whether all conditions are discharged.
-    fn take_blocks<R: Threads + Sync, G: Gate + Sync>(
+    /// Takes the next block unread, where the text is the one that is followed.
+    fn follow<R: Threads + Sync, G: Gate + Sync>(
         &mut self,
         crew: &Crew<'_, R, G>,
         claims: &Claims<'_>,
+        follower: &mut Follower,
+        is_open: bool,
+    ) -> Result<Compared, Memory>
+        requires may { MayBeChecked claims.now }
+        requires order { AreInOrder (conditions_of claims.now) self.old }
+        requires unsettled { self.old.settled ≡ None }
+        requires left { self.old.discharged + length self.old.blocks.items < length (conditions_of claims.now) }
+        requires follower { IsFollower claims.now follower.old }
+        requires unended { is_open ≡ true → self.old.reader.finished ≡ false }
+        ensures keeps { OnOk result (Keeps (setting_of claims.now) (conditions_of claims.now) self.old self.new) }
+        ensures order { OnOk result (AreInOrder (conditions_of claims.now) self.new) }
+        ensures unsettled { OnOk result (self.new.settled ≡ None) }
+        ensures follower { OnOk result (IsFollower claims.now follower.new) }
+        ensures finished { OnOk result (self.new.reader.finished ≡ self.old.reader.finished) }
+        ensures reached { OnOk result (reach self.new.reader ≤ reach self.old.reader) }
+        ensures left { IfOk result (IsLeft self.old self.new) }
+    {
+        if !self.blocks.is_empty() {
+            return Ok(Compared::Other);
+        }
+        match follower.follow(claims, &mut self.reader, self.discharged, is_open)? {
+            Compared::Same => {
+                self.discharged += 1;
+                crew.gate.decided(1, 0);
+                Ok(Compared::Same)
+            }
+            Compared::Short => Ok(Compared::Short),
+            Compared::Other => Ok(Compared::Other),
+        }
+    }
+
+    /// Takes the next block. Answers whether the text goes on; `is_open` says that more of it may come.
+    fn take_next<R: Threads + Sync, G: Gate + Sync>(
+        &mut self,
+        crew: &Crew<'_, R, G>,
+        claims: &Claims<'_>,
+        follower: &mut Follower,
+        is_open: bool,
     ) -> Result<bool, Memory>
         requires may { MayBeChecked claims.now }
         requires order { AreInOrder (conditions_of claims.now) self.old }
         requires unsettled { self.old.settled ≡ None }
+        requires left { self.old.discharged + length self.old.blocks.items < length (conditions_of claims.now) }
+        requires follower { IsFollower claims.now follower.old }
+        requires unended { is_open ≡ true → self.old.reader.finished ≡ false }
         ensures keeps { OnOk result (Keeps (setting_of claims.now) (conditions_of claims.now) self.old self.new) }
         ensures order { OnOk result (AreInOrder (conditions_of claims.now) self.new) }
+        ensures follower { OnOk result (IsFollower claims.now follower.new) }
+        ensures finished { OnOk result (self.new.reader.finished ≡ self.old.reader.finished) }
+        ensures reached { OnOk result (reach self.new.reader ≤ reach self.old.reader) }
+        ensures goes { IfOk result (λ goes. goes ≡ true → (self.new.settled ≡ None)
+            × (self.new.discharged + length self.new.blocks.items ≡ self.old.discharged + length self.old.blocks.items + 1)) }
+        ensures stops { IfOk result (λ goes. goes ≡ false → self.old.reader.finished ≡ true → IsSome self.new.settled) }
+    {
+        match self.follow(crew, claims, follower, is_open)? {
+            Compared::Same => Ok(true),
+            Compared::Short => Ok(false),
+            Compared::Other => self.read_next(crew, claims),
+        }
+    }
+
+    /// Takes blocks as far as the text goes. Answers whether all conditions are discharged; `is_open` says that more of it may come.
+    fn take_blocks<R: Threads + Sync, G: Gate + Sync>(
+        &mut self,
+        crew: &Crew<'_, R, G>,
+        claims: &Claims<'_>,
+        follower: &mut Follower,
+        is_open: bool,
+    ) -> Result<bool, Memory>
+        requires may { MayBeChecked claims.now }
+        requires order { AreInOrder (conditions_of claims.now) self.old }
+        requires unsettled { self.old.settled ≡ None }
+        requires follower { IsFollower claims.now follower.old }
+        requires unended { is_open ≡ true → self.old.reader.finished ≡ false }
+        ensures keeps { OnOk result (Keeps (setting_of claims.now) (conditions_of claims.now) self.old self.new) }
+        ensures order { OnOk result (AreInOrder (conditions_of claims.now) self.new) }
+        ensures follower { OnOk result (IsFollower claims.now follower.new) }
         ensures finished { OnOk result (self.new.reader.finished ≡ self.old.reader.finished) }
         ensures reached { OnOk result (reach self.new.reader ≤ reach self.old.reader) }
         ensures all { IfOk result (λ all. all ≡ true → AreAllDischarged (conditions_of claims.now) self.new) }
         ensures settled { IfOk result (λ all. all ≡ false → self.old.reader.finished ≡ true → IsSome self.new.settled) }
     {
         while self.discharged + self.blocks.len() < claims.conditions.len() {
-            if !self.take_next(crew, claims)? {
+            if !self.take_next(crew, claims, follower, is_open)? {
                 return Ok(false);
             }
         }
@@ -211,15 +285,18 @@ impl Batches {
         &mut self,
         crew: &Crew<'_, R, G>,
         claims: &Claims<'_>,
+        follower: &mut Follower,
         piece: &[u8],
     ) -> Result<(), Memory>
         requires may { MayBeChecked claims.now }
         requires order { AreInOrder (conditions_of claims.now) self.old }
+        requires follower { IsFollower claims.now follower.old }
         requires unfinished { self.old.reader.finished ≡ false }
         requires room { reach self.old.reader + length piece.now < 2 ^ 64 }
         ensures same { OnOk result ((rest : List ℕ) → comes_to (setting_of claims.now) (conditions_of claims.now) self.new rest
             ≡ comes_to (setting_of claims.now) (conditions_of claims.now) self.old (piece.now ++ rest)) }
         ensures order { OnOk result (AreInOrder (conditions_of claims.now) self.new) }
+        ensures follower { OnOk result (IsFollower claims.now follower.new) }
         ensures unfinished { OnOk result (self.new.reader.finished ≡ false) }
         ensures reached { OnOk result (reach self.new.reader ≤ reach self.old.reader + length piece.now) }
     {
@@ -227,7 +304,7 @@ impl Batches {
             return Ok(());
         }
         self.reader.push(piece)?;
-        if !self.take_blocks(crew, claims)? {
+        if !self.take_blocks(crew, claims, follower, true)? {
             return Ok(());
         }
         if claims.conditions.is_empty() {
@@ -287,9 +364,11 @@ impl Batches {
         &mut self,
         crew: &Crew<'_, R, G>,
         claims: &Claims<'_>,
+        follower: &mut Follower,
     ) -> Result<Finding, Memory>
         requires may { MayBeChecked claims.now }
         requires order { AreInOrder (conditions_of claims.now) self.old }
+        requires follower { IsFollower claims.now follower.old }
         ensures finding { IfOk result (λ f. f ≡ comes_to (setting_of claims.now) (conditions_of claims.now) self.old []) }
         ensures among { IfOk result (IsAmong (length (conditions_of claims.now))) }
     {
@@ -297,7 +376,7 @@ impl Batches {
             return Ok(finding);
         }
         self.reader.finish();
-        if self.take_blocks(crew, claims)? {
+        if self.take_blocks(crew, claims, follower, false)? {
             return Ok(Finding::Discharged(self.reader.trailing()));
         }
         match self.settled {

@@ -11,6 +11,7 @@ ghost use Rattle.step_report.specs.declared.refusals.FileRole.TheVariants as rol
 
 use crate::batches::Batches;
 use crate::crew::Crew;
+use crate::following::Follower;
 use crate::{Claims, Finding};
 use st_memory::Memory;
 use st_outside::{Files, Gate};
@@ -61,6 +62,7 @@ pub fn check_file<R: Threads + Sync, F: Files, G: Gate + Sync>(
         workers,
     };
     let mut batches = Batches::new(alloc);
+    let mut follower = Follower::new(alloc, claims)?;
     let mut buf = Vec::new(alloc);
     buf.resize(PIECE, 0u8)?;
     let mut size = 0u64;
@@ -69,10 +71,10 @@ pub fn check_file<R: Threads + Sync, F: Files, G: Gate + Sync>(
             return Ok(Stage::Over(read_fault(alloc)?));
         };
         if count == 0 {
-            let finding = batches.finish(&crew, claims)?;
+            let finding = batches.finish(&crew, claims, &mut follower)?;
             return Ok(Stage::On(finding));
         }
-        batches.push(&crew, claims, &buf[..count])?;
+        batches.push(&crew, claims, &mut follower, &buf[..count])?;
         size += count as u64;
     }
     Ok(Stage::Over(limited(alloc, LimitKind::Certificates)?))

@@ -8,6 +8,9 @@ mod claims;
 mod crew;
 mod file;
 mod finding;
+mod following;
+mod passing;
+mod sheet;
 mod turns;
 
 pub use claims::Claims;

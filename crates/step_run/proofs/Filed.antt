@@ -1,5 +1,5 @@
 -- The end of a check of a file of certificates is that of the file's whole text.
-use Rattle.std.proofs.Common.{◌≡◌, ℕ, ◌+◌, ◌<◌, List, length, get_or, sym, ap, subst, ◌∙◌}
+use Rattle.std.proofs.Common.{◌≡◌, ℕ, ◌+◌, ◌<◌, ◌≤◌, arith, List, length, get_or, sym, ap, subst, ◌∙◌}
 use Rattle.std.specs.Prelude.{Option}
 use Rattle.st_form.specs.Condition.{Implication}
 use Rattle.st_form.specs.Shared.{plain_condition}
@@ -16,7 +16,13 @@ use Rattle.certificate_batches.specs.declared.finding.Finding.{Finding}
 use Rattle.certificate_batches.specs.declared.finding.Finding.TheVariants.{Discharged, Refused}
 use Rattle.certificate_batches.specs.Finding.{finding, finding_view, certificates_plan}
 use Rattle.certificate_batches.proofs.Joining.{check_on, refused_so, discharged_so}
+use Rattle.certificate_batches.specs.declared.claims.Claims.{Claims}
+use Rattle.certificate_batches.specs.Claims.{MayBeChecked}
+use Rattle.search_laws.specs.Forms.{IsInOrder}
+use Rattle.search_laws.specs.Programs.{ProgramsAreInOrder}
+use Rattle.search_laws.specs.Searchable.{AreSearchable}
 use Rattle.spl_typer.specs.Programs.{Typed}
+use Rattle.st_program.specs.Tree.{Processes}
 use Rattle.step_plan.specs.declared.ended.Ended.{Ended}
 use Rattle.step_plan.specs.declared.stage.Stage.TheVariants.{On}
 use Rattle.step_plan.specs.Outcome.{Outcome, ended_view, IsDecided}
@@ -31,6 +37,16 @@ use Rattle.step_run.proofs.Decided.{checked_decided}
 pub setting_is : (p : Typed) (k : ControlFacts) (vs : List Variable) → k ≡ control_of p.processes → vs ≡ p.variables → setting k vs ≡ setting_of p
 unfolding setting_of
 setting_is p k vs a b = ap (λ (x : ControlFacts). setting x vs) a ∙ ap (setting (control_of p.processes)) b
+
+-- and its conditions may be checked
+pub may_check : ProgramsAreInOrder → (claims : Claims) (ps : Processes) (vs : List Variable) (cs : List Condition) → claims.components.now ≡ control_of ps → claims.variables.now ≡ vs → claims.conditions.now ≡ cs
+    → length cs ≤ 20000 → length vs ≤ 64 → AreSearchable (length vs) cs → MayBeChecked claims
+may_check ordered claims ps vs cs facts variables conditions few few_variables searchable = record {
+  few = omega (arith, few, ap length conditions);
+  searchable = subst (λ (xs : List Variable). AreSearchable (length xs) claims.conditions.now) (sym variables) (subst (AreSearchable (length vs)) (sym conditions) searchable);
+  few_variables = omega (arith, few_variables, ap length variables);
+  ordered = subst IsInOrder (sym facts) (ordered ps).0;
+}
 
 pub discharged_is : (x : Posed) (place : Option ℕ) (e : Outcome) → e ≡ ending x place → (text : List ℕ) → finding (setting_of x.program) x.conditions text ≡ Discharged place → e ≡ checked x text
 unfolding checked

@@ -19,6 +19,7 @@ use crate::posed::Posed;
 use crate::reports::{goals_proved, not_proved_text, variables_of};
 use certificate_batches::{Claims, Finding, check_file};
 use control_facts::components;
+use search_laws::laws::programs_are_in_order;
 use st_memory::Memory;
 use st_outside::{Files, Gate};
 use std::alloc::Global;
@@ -82,6 +83,7 @@ pub fn checked<R: Threads + Sync, F: Files, G: Gate + Sync>(
     ensures same { F.told files.new ≡ F.told files.old }
     ensures later { NoneFell (F.faults files.old) (F.faults files.new) }
 {
+    programs_are_in_order();
     let components = components(alloc, &posed.source.program)?;
     let claims = Claims {
         components: &components,

@@ -41,6 +41,7 @@ loop-size-preserved g c =
       buffer = ap length same ∙ kept ∙ c.loop-size.invariant.buffer;
       within = omega (arith, fits, kept, c.loop-size.invariant.buffer);
       order = c.in_ok-push.ensures.order;
+      follower = c.in_ok-push.ensures.follower;
       unfinished = c.in_ok-push.ensures.unfinished;
       reached = omega (arith, c.in_ok-push.ensures.reached, c.loop-size.invariant.reached, ap length piece, length-take c.in-Ok.count c.deref.result.now);
       so_far = so_far_more (g.F.Files.told c.loop-size.files name) (g.F.Files.told c.args.files.now name) (finding (setting_of claims) (implications_of claims))

@@ -4,6 +4,7 @@ use Rattle.certificate_batches.specs.Finding.{finding}
 use Rattle.certificate_batches.specs.Claims.{setting_of, conditions_of, implications_of}
 use Rattle.certificate_batches.specs.Turns.{reach}
 use Rattle.certificate_batches.specs.Batches.{comes_to, AreInOrder}
+use Rattle.certificate_batches.specs.Following.{IsFollower}
 use Rattle.certificate_batches.specs.SoFar.{SoFar}
 use Rattle.certificate_batches.proofs.file.check_file.Given as goal
 
@@ -14,6 +15,7 @@ invariant-loop-size g l = record {
   buffer : length l.buf.items ≡ 65536;
   within : l.size ≤ 268435456 + 65536;
   order : AreInOrder (conditions_of l.claims) l.batches;
+  follower : IsFollower l.claims l.follower;
   unfinished : l.batches.reader.finished ≡ false;
   reached : reach l.batches.reader ≤ l.size;
   so_far : SoFar (g.F.Files.told l.initial.files l.name) (finding (setting_of l.claims) (implications_of l.claims)) (comes_to (setting_of l.claims) (conditions_of l.claims) l.batches) l.size;

@@ -2,7 +2,7 @@ use Rattle.std.proofs.Common.{subst}
 use Rattle.certificate_batches.specs.Claims.{setting_of}
 use Rattle.certificate_batches.specs.Turns.{IsTurn, IsTaken}
 use Rattle.certificate_batches.proofs.Steps.{keeps_then, taken_keeps}
-use Rattle.certificate_batches.proofs.batches.Batches.take_next.Goals as goal
+use Rattle.certificate_batches.proofs.batches.Batches.read_next.Goals as goal
 
 pub returns-clause-keeps : goal.returns-clause-keeps
 returns-clause-keeps g c =

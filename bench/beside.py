@@ -1,8 +1,9 @@
 #!/usr/bin/env python3
 """What `milkhour verify` takes beside `step verify`, on the proofs of examples/ and bench/ that hold: `python3 bench/beside.py [PROGRAM]`
 
-The program, the built `milkhour` where none is named, is run as `PROGRAM verify` and as `PROGRAM step verify` in turns, RUNS times each.
-It prints the least time of each by the clock, start included, and how many times the second the first is."""
+The program, the built `milkhour` where none is named, is run as `PROGRAM verify`, as `PROGRAM verify --format plain`, which says what `step`
+says and nothing beside, and as `PROGRAM step verify`, in turns, RUNS times each. It prints the least time of each by the clock, start
+included, and how many times the last the two others are."""
 import os
 import subprocess
 import sys
@@ -23,17 +24,15 @@ def timed(words):
 
 
 def least(program, texts):
-    """The least times of `milkhour verify` and of `step verify`."""
-    people, exact = [], []
-    for _ in range(RUNS):
-        exact.append(timed([program, "step", "verify", *texts]))
-        people.append(timed([program, "verify", *texts]))
-    return min(people), min(exact)
+    """The least times of `milkhour verify`, of the same in plain form, and of `step verify`."""
+    calls = [[program, "verify", *texts], [program, "verify", *texts, "--format", "plain"], [program, "step", "verify", *texts]]
+    taken = [[timed(call) for call in calls] for _ in range(RUNS)]
+    return [min(times) for times in zip(*taken)]
 
 
 program = sys.argv[1] if len(sys.argv) > 1 else str(TOP / "crates/milkhour/out/milkhour")
 print(f"    {len(os.sched_getaffinity(0))} processors, load {os.getloadavg()[0]:.1f}, least of {RUNS} runs\n")
-print("| proof | milkhour verify | step verify | times |\n|---|---|---|---|")
+print("| proof | milkhour verify | in plain form | step verify | times | plain |\n|---|---|---|---|---|---|")
 for folder in sorted(it.parent for at in ("examples", "bench") for it in TOP.glob(f"{at}/*/program")):
-    people, exact = least(program, [folder / "program", folder / "proof"])
-    print(f"| {folder.name} | {people * 1000:.1f} ms | {exact * 1000:.1f} ms | {people / exact:.2f} |")
+    people, plain, exact = least(program, [folder / "program", folder / "proof"])
+    print(f"| {folder.name} | {people * 1000:.1f} ms | {plain * 1000:.1f} ms | {exact * 1000:.1f} ms | {people / exact:.2f} | {plain / exact:.2f} |")

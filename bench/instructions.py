@@ -1,13 +1,14 @@
 #!/usr/bin/env python3
-"""Counts the instructions of the built program, command by command: `python3 bench/instructions.py [--only NAME ..] [PROGRAM [OTHER]]`
+"""Counts the instructions of the built program, command by command: `python3 bench/instructions.py [PROGRAM [OTHER]] [--only NAME ..]`
 
 Instructions are callgrind's, which says the same whatever else the machine does; valgrind has to be installed. PROGRAM is another executable
 than the built `step`, and OTHER one to stand beside it, as that of an earlier commit: then the last column has the ratio of both, and a line
 below says where they print different texts. A program whose name begins with `milkhour` is asked as `milkhour step`. One of `.ci/unproved`
 takes twice the instructions of one that is proved, so only two of a kind are to be compared. Rows are the proofs in bench/ by `conditions`,
-`verify`, `prove` and `check` with one worker; `invariants` of programs with four variables for each process; `trace` of a run of 1,000 moves,
-with sixteen goals and with none; `verify` of one process with many statements; and a program and a proof of a million bytes, which are
-refused for what stands in them last. NAME is the beginning of a row's name.
+`verify`, `prove` and `check` with one worker; `invariants` of programs with four variables for each process; `trace` of a run of 1,000 moves
+of 16 processes with 369 names, without goals, with 4 invariances, and with 12 responses beside them; `verify` of one process with many
+statements; and a program and a proof of a million bytes, which are refused for what stands in them last. NAME is the beginning of a row's
+name.
 """
 import argparse
 import collections
@@ -25,31 +26,31 @@ PROOFS = ["semaphore2", "semaphore4", "semaphore6", "children5", "filter3", "dek
 Row = collections.namedtuple("Row", "name words status")
 
 
-def semaphore(count):
-    """A program whose processes share a semaphore."""
-    process = "P# :: [ p#_0: loop forever do [ p#_1: noncritical; p#_2: request y; p#_3: critical; p#_4: release y ] ]"
-    return "local y: integer where y = 1; " + " || ".join(process.replace("#", str(it)) for it in range(1, count + 1))
-
-
 def counters(count):
-    """A program of `count` processes, each of which counts in four variables while it has a semaphore, so that equations hold."""
+    """Processes that each add to four variables of their own, so that two equations hold for each."""
     names = [f"{name}{it}" for it in range(1, count + 1) for name in "abcd"]
-    process = "P# :: [ p#_0: loop forever do [ p#_1: request y; p#_2: << a# := a# + 1; b# := b# + 2 >>; p#_3: << c# := c# + 1; d# := d# - 1 >>; p#_4: release y ] ]"
+    process = "P# :: [ p#_0: loop forever do [ p#_1: a# := a# + 1; p#_2: b# := b# + 1; p#_3: c# := c# + 2; p#_4: d# := d# + c# - a# - b# + 1 ] ]"
     start = " /\\ ".join(f"{it} = 0" for it in names)
-    return f"local y: integer where y = 1; local {', '.join(names)}: integer where {start}; " + " || ".join(
-        process.replace("#", str(it)) for it in range(1, count + 1)
-    )
+    return f"local {', '.join(names)}: integer where {start}; " + " || ".join(process.replace("#", str(it)) for it in range(1, count + 1))
 
 
-def moves(count, most):
-    """The processes go through their loops, one after the other."""
-    loop = [f"p{it}_{place}" for it in range(1, count + 1) for place in range(5)]
-    return "y = 1; :: " + "".join(f"{loop[it % len(loop)]}; " for it in range(most))
+def turns(count, places):
+    """Processes of so many statements, each of which counts once in a turn and otherwise skips."""
+    skips = "; ".join(f"a#_{place}: skip" for place in range(1, places - 1))
+    process = f"P# :: [ a#_0: loop forever do [ {skips}; a#_{places - 1}: x# := x# + 1 ] ]"
+    variables = ", ".join(f"x{it}" for it in range(count))
+    return f"local {variables}: integer; " + " || ".join(process.replace("#", str(it)) for it in range(count))
 
 
-def goals(count):
-    claims = [f"invariant bound{it}: y <= {it};" for it in range(1, 5)]
-    claims += [f"response enter{it}: at p{it}_2 leads at p{it}_3 within 40 by just at p{it}_2 helper p{it}_2;" for it in range(1, count - 3)]
+def moves(count, places, most):
+    """They go in turns, so that each round has as many moves as there are processes."""
+    values = " ".join(f"x{it} = 0;" for it in range(count))
+    return values + " :: " + " ".join(f"a{it % count}_{it // count % places};" for it in range(most))
+
+
+def goals(invariances, responses):
+    claims = [f"invariant i{it}: x{it} >= 0 /\\ ~(at a{it}_0 /\\ at a{it}_1);" for it in range(invariances)]
+    claims += [f"response r{it}: at a{it}_1 leads at a{it}_5 within 30 by just true helper a{it}_1;" for it in range(responses)]
     return " ".join(claims)
 
 
@@ -91,11 +92,11 @@ def other_rows(scratch):
     for count in (4, 8, 15):
         program = write(scratch / f"counters{count}", counters(count))
         yield Row(f"invariants: {count} processes", ["invariants", program], 0)
-    program = write(scratch / "semaphore16", semaphore(16))
-    schedule = write(scratch / "schedule", moves(16, 1000))
-    for name, proof in (("none", ""), ("16", goals(16))):
-        text = write(scratch / f"goals-{name}", proof)
-        yield Row(f"trace: 1,000 moves, goals {name}", ["trace", program, text, schedule], 0)
+    program = write(scratch / "turns", turns(16, 23))
+    schedule = write(scratch / "schedule", moves(16, 23, 1000))
+    for claims in ((0, 0), (4, 0), (4, 12)):
+        text = write(scratch / f"goals{sum(claims)}", goals(*claims))
+        yield Row(f"trace: 1,000 moves, {sum(claims)} goals", ["trace", program, text, schedule], 0)
     claim = write(scratch / "claim", "invariant pos: x >= 0;")
     for count in (100, 200, 399):
         program = write(scratch / f"statements{count}", statements(count))

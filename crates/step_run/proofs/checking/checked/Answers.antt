@@ -5,10 +5,10 @@ use Rattle.step_run.proofs.Filed.{setting_is, may_check, filed_on}
 use Rattle.step_run.proofs.checking.checked.Goals as goal
 
 pub check_file-requires-clause-may : goal.check_file-requires-clause-may
-check_file-requires-clause-may g c =
-    let ready = c.requires.ready in
+check_file-requires-clause-may g c = λ κs lives.
+    (let ready = c.requires.ready in
     may_check c.programs_are_in_order.ensures _ _ c.args.posed.now.source.program.variables c.args.posed.now.conditions.items c.in_ok-components.ensures.facts c.variables_of.ensures c.as_slice.ensures.value
-    ready.few ready.few_variables ready.searchable
+    ready.few ready.few_variables ready.searchable)
 
 pub returns-in-On-clause-follows : goal.returns-in-On-clause-follows
 returns-in-On-clause-follows g c =

@@ -15,7 +15,7 @@ import sys
 import tempfile
 from pathlib import Path
 
-RUNS = 3
+RUNS = 12
 
 
 def program(count):

@@ -1,9 +1,10 @@
 -- What begins an expression, and what continues one.
-use Rattle.std.specs.Prelude.{Bool, true, false, ◌&&◌, Option, Some, None, if◌then◌else◌}
+use Rattle.std.specs.Prelude.{Bool, true, false, ◌&&◌, List, [], ◌∷◌, Option, Some, None, if◌then◌else◌}
 use Rattle.expression_parser.specs.declared.raw.Operator.{Operator}
 use Rattle.expression_parser.specs.declared.raw.Operator.TheVariants as operators
 use Rattle.expression_parser.specs.declared.sign.Front.{Front}
 use Rattle.expression_parser.specs.declared.sign.Front.TheVariants as fronts
+use Rattle.st_reading.specs.declared.mark.Mark.{Mark}
 use Rattle.st_reading.specs.declared.mark.Mark.TheVariants as marks
 use Rattle.st_reading.specs.declared.sign.Sign.{Sign}
 use Rattle.st_reading.specs.declared.sign.Sign.TheVariants as signs
@@ -25,19 +26,19 @@ front places (signs.Numeral n) = fronts.Numeral n
 front places signs.Name = fronts.Name
 front places g = front_mark places g
 
+-- what stands beside a token's mark in a list
+abbrev pub at_mark : {A : Type 0} → Sign → List (Mark × A) → Option A
+at_mark g [] = None
+at_mark g (entry ∷ entries) = if is g entry.0 then Some entry.1 else at_mark g entries
+
 -- the operator of a product, a sum or a comparison
 abbrev pub product_sign : Sign → Option Operator
-product_sign g = if is g marks.Times then Some operators.Times else None
+product_sign g = at_mark g ((marks.Times, operators.Times) ∷ [])
 
 abbrev pub sum_sign : Sign → Option Operator
-sum_sign g = if is g marks.Plus then Some operators.Plus else (if is g marks.Minus then Some operators.Minus else None)
+sum_sign g = at_mark g ((marks.Plus, operators.Plus) ∷ (marks.Minus, operators.Minus) ∷ [])
 
 abbrev pub comparison_sign : Sign → Option Operator
 comparison_sign g =
-    if is g marks.Equal then Some operators.Equal
-    else (if is g marks.Unequal then Some operators.Unequal
-    else (if is g marks.Less then Some operators.Less
-    else (if is g marks.AtMost then Some operators.AtMost
-    else (if is g marks.Greater then Some operators.Greater
-    else (if is g marks.AtLeast then Some operators.AtLeast
-    else None)))))
+    at_mark g ((marks.Equal, operators.Equal) ∷ (marks.Unequal, operators.Unequal) ∷ (marks.Less, operators.Less) ∷ (marks.AtMost, operators.AtMost) ∷
+    (marks.Greater, operators.Greater) ∷ (marks.AtLeast, operators.AtLeast) ∷ [])

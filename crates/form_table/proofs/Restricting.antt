@@ -1,5 +1,5 @@
 -- Conjunctions and disjunctions under decisions.
-use Rattle.std.proofs.Common.{◌≡◌, ℕ, ◌+◌, ◌<◌, ◌≤◌, Bool, true, false, List, length, drop, get_or, refl, ap, ◌∙◌, sym, All, Option, Some, None, arith, zero, suc, [], ◌∷◌, subst}
+use Rattle.std.proofs.Common.{◌≡◌, ℕ, ◌+◌, ◌<◌, ◌≤◌, Bool, true, false, List, ◌++◌, length, drop, get_or, refl, ap, ◌∙◌, sym, All, Option, Some, None, arith, zero, suc, [], ◌∷◌, subst}
 use Rattle.std.specs.Prelude.{option_and_then}
 use Rattle.std.specs.Option.{option_map}
 use Rattle.std.proofs.lemmas.List.{drop_all, drop_more}
@@ -10,10 +10,11 @@ use Rattle.form_table.specs.Table.{formula, listed, joined, Is, Extends, AreTher
 use Rattle.form_table.specs.Nodes.{IsNode, Kept, formulas_in, parts_at}
 use Rattle.form_table.specs.Contents.{Choice, decision_at}
 use Rattle.form_table.specs.Lists.{IsListed}
-use Rattle.form_table.specs.Memory.{IsEntry}
+use Rattle.form_table.specs.Memory.{IsEntry, Lasts}
 use Rattle.form_table.specs.declared.memos.Entry.{Entry}
 use Rattle.form_table.specs.declared.nodes.Node.TheVariants.{And, Or}
-use Rattle.form_table.proofs.Taking.{now}
+use Rattle.form_table.proofs.Making.{listed-later}
+use Rattle.form_table.proofs.Taking.{now, takes-put}
 
 simple-joined : (d : Decided) (all : Bool) (fs : Formulas) → simple d (joined all fs) true ≡ joined_parts all (gathered all (simples d fs true))
 simple-joined d true fs = refl
@@ -48,6 +49,39 @@ pub stops-none : (all goes : Bool) (ts us : List Formula) (out new : List ℕ) (
     → TakesPart goes (listed us out) (listed us new) (parts all (formula us n)) → goes ≡ false → None ≡ whole
 stops-none all goes ts us out new n left rest whole x h m k takes g =
     sym (gathered-stops all goes (listed us out) (listed us new) (formula us n) rest whole takes g (now all ts us out n left rest whole x h m k))
+
+now-under : (all : Bool) (ts us : List Formula) (out : List ℕ) (f : Formula) (left rest : Formulas) (whole : Option Formulas)
+    → Extends ts us → AreThere ts out → left ≡ more f rest → option_map (append (listed ts out)) (gathered all left) ≡ whole
+    → option_map (append (listed us out)) (gathered all (more f rest)) ≡ whole
+now-under all ts us out f left rest whole x h m k =
+    ap (λ o. option_map (append o) (gathered all (more f rest))) (listed-later ts us out x h)
+    ∙ ap (λ g. option_map (append (listed ts out)) (gathered all g)) (sym m) ∙ k
+
+-- the same, where what the part is under a decision is told
+pub goes-under : (all goes : Bool) (ts us : List Formula) (out new : List ℕ) (f : Formula) (left rest : Formulas) (whole : Option Formulas)
+    → Extends ts us → AreThere ts out → left ≡ more f rest → option_map (append (listed ts out)) (gathered all left) ≡ whole
+    → TakesPart goes (listed us out) (listed us new) (parts all f) → goes ≡ true → option_map (append (listed us new)) (gathered all rest) ≡ whole
+goes-under all goes ts us out new f left rest whole x h m k takes g =
+    gathered-goes all goes (listed us out) (listed us new) f rest whole takes g (now-under all ts us out f left rest whole x h m k)
+
+pub stops-under : (all goes : Bool) (ts us : List Formula) (out new : List ℕ) (f : Formula) (left rest : Formulas) (whole : Option Formulas)
+    → Extends ts us → AreThere ts out → left ≡ more f rest → option_map (append (listed ts out)) (gathered all left) ≡ whole
+    → TakesPart goes (listed us out) (listed us new) (parts all f) → goes ≡ false → None ≡ whole
+stops-under all goes ts us out new f left rest whole x h m k takes g =
+    sym (gathered-stops all goes (listed us out) (listed us new) f rest whole takes g (now-under all ts us out f left rest whole x h m k))
+
+pub takes-lasting : (ts : List Formula) (cs : List Choice) (d n : ℕ) (all : Bool) (old new : List ℕ) → all ≡ true → new ≡ old ++ n ∷ [] → Lasts ts cs d n
+    → TakesPart true (listed ts old) (listed ts new) (parts all (simple (decision_at cs d) (formula ts n) true))
+takes-lasting ts cs d n true old new a e h =
+    let P : Formula → Type 0 = λ f. TakesPart true (listed ts old) (listed ts new) (parts true f) in
+    subst P (sym h.same) (takes-put true ts old new n e h.single)
+takes-lasting ts cs d n false old new a e h = absurd (cc)
+
+pub is-now : (d : Decided) (ts us : List Formula) (n m : ℕ) → Extends ts us → n < length ts → Is us m (simple d (formula ts n) true) → Is us m (simple d (formula us n) true)
+is-now d ts us n m e l h = (h.0, h.1 ∙ ap (λ f. simple d f true) (sym (e.same n l)))
+
+pub takes-same : (all goes : Bool) (old new : Formulas) (f g : Formula) → f ≡ g → TakesPart goes old new (parts all f) → TakesPart goes old new (parts all g)
+takes-same all goes old new f g e h = let P : Formula → Type 0 = λ x. TakesPart goes old new (parts all x) in subst P e h
 
 pub ends-some : (all : Bool) (old left : Formulas) (whole : Option Formulas) → left ≡ none → option_map (append old) (gathered all left) ≡ whole → Some old ≡ whole
 ends-some all old left whole e h = ap (λ x. Some x) (sym (append-none old)) ∙ ap (λ g. option_map (append old) (gathered all g)) (sym e) ∙ h

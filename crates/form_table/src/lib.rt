@@ -9,6 +9,7 @@ mod disjunctions;
 mod firsts;
 mod hashes;
 mod joining;
+mod lasting;
 mod lists;
 mod literals;
 mod lookups;

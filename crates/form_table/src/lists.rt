@@ -27,9 +27,9 @@ pub fn under_list(
     list: u32,
 ) -> Result<Option<u32>, Memory>
     requires list { IsList (formulas_in pool.old.store) list }
-    requires remembers { Remembers (formulas_in pool.old.store) (choices decisions.now) memo.old.entries.items }
+    requires remembers { Remembers (formulas_in pool.old.store) (choices decisions.now) memo.old }
     ensures extends { Extends (formulas_in pool.old.store) (formulas_in pool.new.store) }
-    ensures remembers { Remembers (formulas_in pool.new.store) (choices decisions.now) memo.new.entries.items }
+    ensures remembers { Remembers (formulas_in pool.new.store) (choices decisions.now) memo.new }
     ensures made { IfOk result (λ o. IsListed (formulas_in pool.new.store) o
         (gathered true (simples (decision_at (choices decisions.now) decision) (conjuncts_of (formulas_in pool.old.store) list) true))) }
 {

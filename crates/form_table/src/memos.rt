@@ -6,7 +6,7 @@ ghost use Rattle.st_form.specs.Formula.{Formula};
 ghost use Rattle.st_form.specs.Simple.{simple};
 ghost use Rattle.form_table.specs.Table.{Is, formula};
 ghost use Rattle.form_table.specs.Contents.{Choice, decision_at};
-ghost use Rattle.form_table.specs.Memory.{IsEntry, Remembers};
+ghost use Rattle.form_table.specs.Memory.{AreEntries, IsEntry};
 
 use hint_index::{folded, mixed};
 use st_memory::Memory;
@@ -22,28 +22,33 @@ pub struct Entry {
     pub simple: u32,
 }
 
-/// The entries, and how many there are.
+/// The entries, how many there are, and which formulas last under decisions.
 #[derive(Drop)]
 pub struct Memo {
     pub entries: Vec<Option<Entry>>,
     pub taken: usize,
+    pub lasting: Vec<u64>,
 }
 
 /// A memo of nothing.
 pub fn no_memo(alloc: Global) -> Memo
-    ensures { result.entries.items ≡ [] }
+    ensures entries { result.entries.items ≡ [] }
+    ensures lasting { result.lasting.items ≡ [] }
 {
     Memo {
         entries: Vec::new(alloc),
         taken: 0,
+        lasting: Vec::new(alloc),
     }
 }
 
 /// Forgets all entries.
 pub fn forget(memo: &mut Memo)
-    ensures { memo.new.entries.items ≡ [] }
+    ensures entries { memo.new.entries.items ≡ [] }
+    ensures lasting { memo.new.lasting.items ≡ [] }
 {
     memo.entries.clear();
+    memo.lasting.clear();
     memo.taken = 0;
 }
 
@@ -73,7 +78,7 @@ fn place_of(entries: &[Option<Entry>], decision: u32, number: u32) -> usize {
 
 /// What is remembered of a formula under a decision.
 pub fn recall(entries: &[Option<Entry>], decision: u32, number: u32) -> Option<u32>
-    ensures { (ts : List Formula) (cs : List Choice) → Remembers ts cs entries.now
+    ensures { (ts : List Formula) (cs : List Choice) → AreEntries ts cs entries.now
         → IfSome result (λ n. Is ts n (simple (decision_at cs decision) (formula ts number) true)) }
 {
     match entries.get(place_of(entries, decision, number)) {
@@ -90,7 +95,7 @@ pub fn recall(entries: &[Option<Entry>], decision: u32, number: u32) -> Option<u
 
 #[tactic(auto, using(crate::proofs::Remembering::remembering))]
 fn put(entries: &mut Vec<Option<Entry>>, entry: Entry)
-    ensures { (ts : List Formula) (cs : List Choice) → Remembers ts cs entries.old.items → IsEntry ts cs entry → Remembers ts cs entries.new.items }
+    ensures { (ts : List Formula) (cs : List Choice) → AreEntries ts cs entries.old.items → IsEntry ts cs entry → AreEntries ts cs entries.new.items }
 {
     let place = place_of(entries.as_slice(), entry.decision, entry.number);
     if place < entries.len() {
@@ -102,7 +107,8 @@ fn put(entries: &mut Vec<Option<Entry>>, entry: Entry)
 /// again, and lists double few times.
 #[tactic(auto, using(crate::proofs::Remembering::remembering))]
 fn widen(alloc: Global, memo: &mut Memo) -> Result<(), Memory>
-    ensures { (ts : List Formula) (cs : List Choice) → Remembers ts cs memo.old.entries.items → Remembers ts cs memo.new.entries.items }
+    ensures entries { (ts : List Formula) (cs : List Choice) → AreEntries ts cs memo.old.entries.items → AreEntries ts cs memo.new.entries.items }
+    ensures lasting { memo.new.lasting.items ≡ memo.old.lasting.items }
 {
     if memo.taken >= memo.entries.len() / 2 {
         let count = memo.entries.len().saturating_mul(2).max(FEWEST);
@@ -115,7 +121,8 @@ fn widen(alloc: Global, memo: &mut Memo) -> Result<(), Memory>
 
 /// Remembers what a formula is under a decision.
 pub fn remember(alloc: Global, memo: &mut Memo, entry: Entry) -> Result<(), Memory>
-    ensures { (ts : List Formula) (cs : List Choice) → Remembers ts cs memo.old.entries.items → IsEntry ts cs entry → Remembers ts cs memo.new.entries.items }
+    ensures entries { (ts : List Formula) (cs : List Choice) → AreEntries ts cs memo.old.entries.items → IsEntry ts cs entry → AreEntries ts cs memo.new.entries.items }
+    ensures lasting { memo.new.lasting.items ≡ memo.old.lasting.items }
 {
     widen(alloc, memo)?;
     put(&mut memo.entries, entry);

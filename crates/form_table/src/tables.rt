@@ -46,7 +46,7 @@ impl Model for Table {
 
     ghost view = { λ t. record { kept = t.pool.store; decisions = choices t.decisions.items } };
 
-    ghost invariant = { λ t. IsKnown (formulas_in t.pool.store) (choices t.decisions.items) t.memo.entries.items t.readings.entries.items };
+    ghost invariant = { λ t. IsKnown (formulas_in t.pool.store) (choices t.decisions.items) t.memo t.readings.entries.items };
 }
 
 impl Table {

@@ -8,7 +8,7 @@ use st_form::{Form, SharedForm};
 use std::alloc::Global;
 
 /// Whether each of these places is among those of the cube.
-fn are_among(cube: &Cube, places: &[Place]) -> bool {
+pub(crate) fn are_among(cube: &Cube, places: &[Place]) -> bool {
     for place in places {
         if !cube.places_of(place.component).has(place.number) {
             return false;
@@ -171,7 +171,7 @@ fn push_entry(
 }
 
 /// Whether the mode may lead into the cube from outside it, by its places and by what it changes.
-fn may_enter(cube: &Cube, step: &Step<'_>) -> bool {
+pub(crate) fn may_enter(cube: &Cube, step: &Step<'_>) -> bool {
     !is_idle(cube, step) && are_among(cube, &step.behind)
 }
 

@@ -32,3 +32,15 @@ impl Allowed<'_> {
         }
     }
 }
+
+/// Whether the lemmas with these numbers may be used.
+pub(crate) fn are_allowed(lemmas: &[Lemma], allowed: Allowed<'_>, numbers: &[u32]) -> bool {
+    for number in numbers {
+        let place = *number as usize;
+        match lemmas.get(place) {
+            Some(lemma) if allowed.has(place, lemma) => {}
+            _ => return false,
+        }
+    }
+    true
+}

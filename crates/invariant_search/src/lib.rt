@@ -11,7 +11,9 @@
 #![tactic(auto)]
 
 mod answer;
+mod beginning;
 mod blocking;
+mod closed;
 mod enlarging;
 mod entering;
 mod general;
@@ -19,6 +21,7 @@ mod ic3;
 mod keeping;
 mod known;
 mod lemma;
+mod literals;
 mod machine;
 mod moving;
 mod narrow;

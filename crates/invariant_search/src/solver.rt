@@ -1,6 +1,8 @@
 //! Questions about states in which lemmas hold, and about steps into cubes.
 
 use crate::answer::{Answer, Entry, Why};
+use crate::beginning::Beginning;
+use crate::closed::{Closed, Way, way_into};
 use crate::entering::{entry_question, start_question, starts_within};
 use crate::known::Known;
 use crate::lemma::{ALWAYS, Allowed, Lemma};
@@ -19,6 +21,8 @@ pub(crate) struct Solver<'a> {
     pub(crate) setting: Setting<'a>,
     prover: Prover<'a>,
     known: Known,
+    closed: Closed,
+    beginning: Beginning,
 }
 
 impl<'a> Solver<'a> {
@@ -28,10 +32,14 @@ impl<'a> Solver<'a> {
         budget: u64,
     ) -> Result<Solver<'a>, CubeFault> {
         let prover = Prover::new(alloc, setting.components, setting.variables, budget)?;
+        let closed = Closed::new(alloc, setting.steps.len())?;
+        let beginning = Beginning::new(alloc, &setting.first, setting.initial.get())?;
         Ok(Solver {
             setting,
             prover,
             known: Known::new(alloc),
+            closed,
+            beginning,
         })
     }
 
@@ -116,6 +124,9 @@ impl<'a> Solver<'a> {
             return Ok(Answer::Never(Vec::new(alloc)));
         }
         let forms = start_question(alloc, &self.setting, cube)?;
+        if self.beginning.refutes(&self.setting.layout, &forms) {
+            return Ok(Answer::Never(Vec::new(alloc)));
+        }
         let answer = self.solve(alloc, &[], forms, Allowed::From(ALWAYS))?;
         self.keep_first(alloc, &answer)?;
         Ok(answer)
@@ -219,9 +230,42 @@ impl<'a> Solver<'a> {
         first: bool,
         number: usize,
     ) -> Result<Answer, CubeFault> {
-        match entry_question(alloc, &self.setting, cube, first, number)? {
-            Some(forms) => self.solve(alloc, lemmas, forms, allowed),
-            None => Ok(Answer::Never(Vec::new(alloc))),
+        let Some(way) = way_into(alloc, &self.setting, cube, first, number)? else {
+            return Ok(Answer::Never(Vec::new(alloc)));
+        };
+        if let Some(used) = self.closed.used_for(&way, cube, lemmas, allowed) {
+            return Ok(Answer::Never(Vec::from_slice(alloc, used)?));
+        }
+        let Some(forms) = self.entry_forms(alloc, cube, first, number)? else {
+            return Ok(Answer::Never(Vec::new(alloc)));
+        };
+        let answer = self.solve(alloc, lemmas, forms, allowed)?;
+        self.keep_closed(alloc, way, &answer)?;
+        Ok(answer)
+    }
+
+    /// What is asked of a mode; `None` where it isn't so by places, or by the values at the beginning.
+    fn entry_forms(
+        &self,
+        alloc: Global,
+        cube: &Cube,
+        first: bool,
+        number: usize,
+    ) -> Result<Option<Vec<SharedForm>>, CubeFault> {
+        let Some(forms) = entry_question(alloc, &self.setting, cube, first, number)? else {
+            return Ok(None);
+        };
+        if first && self.beginning.refutes(&self.setting.layout, &forms) {
+            return Ok(None);
+        }
+        Ok(Some(forms))
+    }
+
+    /// Keeps a way that isn't there.
+    fn keep_closed(&mut self, alloc: Global, way: Way, answer: &Answer) -> Result<(), Memory> {
+        match answer {
+            Answer::Never(used) => self.closed.keep(way, Vec::from_slice(alloc, used)?),
+            Answer::State(_) | Answer::Unknown(_) => Ok(()),
         }
     }
 

@@ -1,6 +1,7 @@
 //! The table of commands as it is defined for clap.
 
 use crate::commands::{CommandRow, QUESTIONS, TOOLS, VERSION};
+use crate::meant::command_named;
 use crate::options::{OptionRow, OptionValue};
 use clap::builder::ValueParser;
 use clap::{Arg, ArgAction, Command, value_parser};
@@ -85,14 +86,24 @@ fn with_tools<'a>(alloc: Global, line: Command<'a>) -> Result<Command<'a>, Alloc
     with_commands(alloc, line, TOOLS.as_slice())
 }
 
-/// The command line, with all commands.
-pub fn command_line<'a>(alloc: Global) -> Result<Command<'a>, AllocError> {
-    let line = Command::new(alloc, "milkhour")
-        .bin_name("milkhour")?
-        .version(VERSION)
-        .about("A deductive prover for concurrent programs")
-        .after_help(STATUSES)
-        .subcommand_required(true)
-        .arg_required_else_help(true);
-    with_tools(alloc, with_questions(alloc, line)?)
+/// The command line, without its commands.
+fn bare_line<'a>(alloc: Global) -> Result<Command<'a>, AllocError> {
+    let line = Command::new(alloc, "milkhour").bin_name("milkhour")?;
+    Ok(
+        line.version(VERSION)
+            .about("A deductive prover for concurrent programs")
+            .after_help(STATUSES)
+            .subcommand_required(true)
+            .arg_required_else_help(true),
+    )
+}
+
+/// The command line for words of which this is the first. Where it names a command, what clap says of the words speaks of that command
+/// alone, so the others, which take twelve times as long to make, are left out.
+pub fn command_line<'a>(alloc: Global, first: &str) -> Result<Command<'a>, AllocError> {
+    let line = bare_line(alloc)?;
+    match command_named(first) {
+        Some(row) => line.subcommand(subcommand(alloc, row)?),
+        None => with_tools(alloc, with_questions(alloc, line)?),
+    }
 }

@@ -5,6 +5,7 @@ mod commands;
 mod definition;
 mod meant;
 mod options;
+mod plain;
 mod reading;
 mod request;
 

@@ -53,9 +53,14 @@ static SYNONYMS: [(&str, &str); 46] = [
     ("why", "explain"),
 ];
 
+/// What `step` answers too, of a name.
+pub(crate) fn question_named(name: &str) -> Option<&'static CommandRow> {
+    QUESTIONS.iter().find(|row| row.name == name)
+}
+
 /// The command of a name.
-fn command_named(name: &str) -> Option<&'static CommandRow> {
-    match QUESTIONS.iter().find(|row| row.name == name) {
+pub(crate) fn command_named(name: &str) -> Option<&'static CommandRow> {
+    match question_named(name) {
         Some(row) => Some(row),
         None => TOOLS.iter().find(|row| row.name == name),
     }

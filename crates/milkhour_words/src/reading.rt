@@ -2,6 +2,7 @@
 
 use crate::definition::command_line;
 use crate::meant::{command_behind, command_meant};
+use crate::plain::plain_request;
 use crate::request::{
     Colour, FileNames, Format, Layout, Options, QUESTIONS, Request, Rewriting, SHOWN, Task, Work,
 };
@@ -61,7 +62,7 @@ fn options_of<'a>(matches: &ArgMatches<'a>) -> Options<'a> {
     }
 }
 
-fn task_named(name: &str) -> Option<Task> {
+pub(crate) fn task_named(name: &str) -> Option<Task> {
     match name {
         "verify" => Some(Task::Verify),
         "check" => Some(Task::Check),
@@ -80,7 +81,7 @@ fn has_third(task: Task) -> bool {
     matches!(task, Task::Check | Task::Trace)
 }
 
-fn file_names<'a>(
+pub(crate) fn file_names<'a>(
     task: Task,
     names: &[&'a str],
     drawing: Option<&'a str>,
@@ -155,45 +156,6 @@ fn request_in<'a>(matches: &ArgMatches<'a>) -> Option<Request<'a>> {
     }
 }
 
-/// Whether a word is no option, and no name of standard input.
-fn is_plain_name(word: &String) -> bool {
-    match word.as_bytes().first() {
-        Some(first) => *first != b'-',
-        None => false,
-    }
-}
-
-/// The request of words that need no table: a search over one file or two, without options.
-fn plain_request<'a>(words: &'a [String]) -> Option<Request<'a>> {
-    let [_, command, files @ ..] = words else {
-        return None;
-    };
-    let (program, proof) = match files {
-        [program] => (program, None),
-        [program, proof] => (program, Some(proof.as_str())),
-        _ => return None,
-    };
-    let task = match command.as_str() {
-        "verify" => Task::Verify,
-        "prove" => Task::Prove,
-        _ => return None,
-    };
-    if !files.iter().all(|file| is_plain_name(file)) {
-        return None;
-    }
-    let files = FileNames {
-        program: program.as_str(),
-        proof,
-        third: None,
-        drawing: None,
-    };
-    Some(Request::Work(Work {
-        task,
-        files,
-        options: Options::unsaid(),
-    }))
-}
-
 /// Whether the words ask for a language server, with what editors add.
 fn asks_to_serve(words: &[String]) -> bool {
     match words {
@@ -255,10 +217,10 @@ pub fn read_words<'a>(alloc: Global, words: &'a [String]) -> Result<Request<'a>,
     if asks_to_serve(words) {
         return Ok(Request::Serve);
     }
-    if let Some(request) = plain_request(words) {
+    if let Some(request) = plain_request(alloc, words)? {
         return Ok(request);
     }
-    let mut line = command_line(alloc)?;
+    let mut line = command_line(alloc, first_word(words))?;
     let matches = match line.try_get_matches_from_mut(words) {
         Ok(matches) => matches,
         Err(refusal) => return Err(advised(alloc, &mut line, words, refusal)?),

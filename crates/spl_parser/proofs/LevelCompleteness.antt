@@ -12,8 +12,9 @@ use Rattle.st_reading.specs.Spelling.{Sound, Is, IsName}
 use Rattle.st_reading.proofs.ListCompleteness.{Complete, Counts}
 use Rattle.spl_parser.specs.declared.sign.Start.{Start}
 use Rattle.spl_parser.specs.declared.sign.Start.TheVariants as starts
-use Rattle.spl_parser.specs.Signs.{start, basic_start, nested_start, begins, is_inner}
+use Rattle.spl_parser.specs.Signs.{start, basic_start, nested_starts, begins, is_inner}
 use Rattle.expression_parser.specs.ExpressionTree.{Expr}
+use Rattle.expression_parser.specs.Signs.{at_mark}
 use Rattle.spl_parser.specs.ProgramTree.{Statement, stated, Action, assign}
 use Rattle.spl_parser.specs.Begun.{Begun, fresh, after_name, after_label}
 use Rattle.expression_parser.specs.Calm.{calm}
@@ -45,7 +46,7 @@ passed_by : (b : Bool) (x : Start) (rest : Option Start) → named (Some x) ≡ 
 passed_by true x rest h k = h
 passed_by false x rest h k = k
 
-nested_unnamed : (g : Sign) → named (nested_start g) ≡ false
+nested_unnamed : (g : Sign) → named (at_mark g nested_starts) ≡ false
 nested_unnamed g =
     passed_by (is g marks.If) starts.If _ refl (passed_by (is g marks.While) starts.While _ refl (passed_by (is g marks.Loop) starts.Loop _ refl (passed_by (is g marks.OpenBlock) starts.Block _ refl
     (passed_by (is g marks.Select) starts.Select _ refl (passed_by (is g marks.Cobegin) starts.Cooperate _ refl (passed_by (is g marks.OpenGroup) starts.Group None refl refl))))))

@@ -1,7 +1,8 @@
 //! What begins a statement, a declaration or a type.
 
 ghost use Rattle.std.specs.Prelude.{◌≡◌};
-ghost use Rattle.spl_parser.specs.Signs.{basic_start, nested_start, start, is_inner, begins, mode, kind};
+ghost use Rattle.expression_parser.specs.Signs.{at_mark};
+ghost use Rattle.spl_parser.specs.Signs.{basic_start, nested_starts, start, is_inner, begins, mode, kind};
 
 use st_reading::{Mark, Sign, is};
 
@@ -26,7 +27,7 @@ pub enum Start {
 }
 
 fn nested_start(sign: Sign) -> Option<Start>
-    ensures { result ≡ nested_start sign }
+    ensures { result ≡ at_mark sign nested_starts }
 {
     if is(sign, Mark::If) {
         Some(Start::If)

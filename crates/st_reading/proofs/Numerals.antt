@@ -1,5 +1,5 @@
 -- The number of a numeral is at most 2^30.
-use Rattle.std.proofs.Common.{◌≡◌, ℕ, ◌^◌, ◌≤◌, Bool, true, false, cond, ◌==◌, ◌&&◌, nat_lt, if◌then◌else◌, List, [], ◌∷◌, Option, Some, None, Ok, Err, refl, ap, subst, arith}
+use Rattle.std.proofs.Common.{◌≡◌, ℕ, ◌^◌, ◌≤◌, Bool, true, false, nat_lt, if◌then◌else◌, List, Option, Some, None, Ok, Err, refl, ap, subst, arith}
 use Rattle.std.specs.Prelude.{IfSome}
 use Rattle.std.proofs.lemmas.Bool.Decides.{nat_tests}
 use Rattle.st_tokens.specs.declared.kind.TokenKind.{TokenKind}
@@ -9,37 +9,16 @@ use Rattle.st_tokens.specs.Stream.{Stream, ends, breaks, more, behind}
 use Rattle.st_reading.specs.declared.mark.Mark.{Mark}
 use Rattle.st_reading.specs.declared.sign.Sign.{Sign}
 use Rattle.st_reading.specs.declared.sign.Sign.TheVariants as signs
-use Rattle.st_reading.specs.Sign.{single_sign, pair_sign, symbol_sign, word_mark, marked, kind_sign}
+use Rattle.st_reading.specs.Sign.{symbol_mark, word_mark, marked, kind_sign}
 use Rattle.st_reading.specs.Reading.{Read, ahead, place_of, refusal, on_operator}
 use Rattle.st_reading.specs.Breaches.{Breach, numeral_in, numeral_of}
 
 abbrev pub Small : Sign → Type 0
 Small g = IfSome (numeral_in g) (λ n. n ≤ 2 ^ 30)
 
-pick : (c : Bool) (x y : Sign) → Small x → Small y → Small (cond c x y)
-pick true x y h k = h
-pick false x y h k = k
-
-single : (b : ℕ) → Small (single_sign b)
-single b =
-    pick (b == 40) _ _ tt (pick (b == 41) _ _ tt (pick (b == 91) _ _ tt (pick (b == 93) _ _ tt (pick (b == 123) _ _ tt (pick (b == 125) _ _ tt (pick (b == 58) _ _ tt (pick (b == 59) _ _ tt (pick (b == 44) _ _ tt
-    (pick (b == 46) _ _ tt (pick (b == 126) _ _ tt (pick (b == 61) _ _ tt (pick (b == 60) _ _ tt (pick (b == 62) _ _ tt (pick (b == 43) _ _ tt (pick (b == 45) _ _ tt (pick (b == 42) _ _ tt tt))))))))))))))))
-
-pair : (b c : ℕ) → Small (pair_sign b c)
-pair b c =
-    pick (b == 60 && c == 60) _ _ tt (pick (b == 62 && c == 62) _ _ tt (pick (b == 58 && c == 58) _ _ tt (pick (b == 58 && c == 61) _ _ tt (pick (b == 124 && c == 124) _ _ tt (pick (b == 47 && c == 92) _ _ tt
-    (pick (b == 92 && c == 47) _ _ tt (pick (b == 45 && c == 62) _ _ tt (pick (b == 33 && c == 61) _ _ tt (pick (b == 60 && c == 61) _ _ tt (pick (b == 62 && c == 61) _ _ tt tt))))))))))
-
-symbol : (s : List ℕ) → Small (symbol_sign s)
-symbol [] = tt
-symbol (b ∷ []) = single b
-symbol (b ∷ c ∷ []) = pair b c
-symbol (b ∷ c ∷ d ∷ []) = pick (b == 61 && c == 61 && d == 62) _ _ tt tt
-symbol (b ∷ c ∷ d ∷ e ∷ bs) = tt
-
-keyword : (o : Option Mark) → Small (marked o)
-keyword None = tt
-keyword (Some m) = tt
+of_mark : (o : Option Mark) → Small (marked o)
+of_mark None = tt
+of_mark (Some m) = tt
 
 not_less : (m n : ℕ) → nat_lt m n ≡ false → n ≤ m
 not_less m n h = grind (arith, nat_tests)
@@ -50,8 +29,8 @@ bounded v false e = not_less (2 ^ 30) v e
 
 token : (kind : TokenKind) (s : List ℕ) → Small (kind_sign kind s)
 token tokens.Name s = tt
-token tokens.Keyword s = keyword (word_mark s)
-token tokens.Symbol s = symbol s
+token tokens.Keyword s = of_mark (word_mark s)
+token tokens.Symbol s = of_mark (symbol_mark s)
 token tokens.Numeral s = bounded (value_of s) (nat_lt (2 ^ 30) (value_of s)) refl
 
 pub ahead_small : (s : Stream) → Small (ahead s)

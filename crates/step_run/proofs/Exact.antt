@@ -1,5 +1,5 @@
 -- Status 0 comes exactly where the texts are so.
-use Rattle.std.proofs.Common.{◌≡◌, inl, inr, ℕ, ◌+◌, ◌^◌, ◌<◌, ◌≤◌, Bool, true, false, cond, nat_lt, List, [], ◌∷◌, ◌++◌, length, refl, sym, ap, ◌∙◌, subst, arith}
+use Rattle.std.proofs.Common.{◌≡◌, ℕ, ◌+◌, ◌^◌, ◌<◌, ◌≤◌, Bool, true, false, cond, nat_lt, List, [], ◌∷◌, ◌++◌, length, refl, sym, ap, ◌∙◌, subst, arith}
 use Rattle.std.specs.Prelude.{Option, Some, None, Ok, IfSome}
 use Rattle.std.proofs.lemmas.Bool.Decides.{nat_tests}
 use Rattle.st_tokens.specs.declared.limit.LimitKind.TheVariants as limits
@@ -14,27 +14,23 @@ use Rattle.block_laws.specs.Checked.{whole_text}
 use Rattle.block_laws.specs.Laws.{AllDischarged}
 use Rattle.step_words.specs.Request.{PlainRequest, checks, verifies, proves, makes, traces, finds}
 use Rattle.step_workload.specs.Texts.{program_text, proof_text}
-use Rattle.step_report.specs.declared.refusals.FileRole.{FileRole}
 use Rattle.step_report.specs.declared.refusals.FileRole.TheVariants.{Program, Proof, Certificates}
 use Rattle.step_report.specs.Goals.{certificates_text, workload_line}
 use Rattle.step_plan.specs.declared.status.Status.TheVariants.{Proved}
-use Rattle.step_plan.specs.Limits.{length_limit, limited}
+use Rattle.step_plan.specs.Limits.{limited}
 use Rattle.step_plan.specs.Outcome.{Outcome}
-use Rattle.step_plan.specs.Reading.{AreTold, IsPast}
 use Rattle.step_plan.specs.Plan.{Told, Plan, ends, goes_on, asks, then_plan, EndsIn}
 use Rattle.step_run.specs.Outcome.{words_refused}
 use Rattle.step_run.specs.Source.{source_spelled}
-use Rattle.step_run.specs.Conditions.{Posed, system_of, setting_of, words_over, conditions_of, passes_limit}
+use Rattle.step_run.specs.Conditions.{Posed, system_of, setting_of, conditions_of}
 use Rattle.step_run.specs.Checked.{goals_proved, ending, check_ended, checked}
 use Rattle.step_run.specs.Verified.{all_found, found_before, by_verdict, verdict_on, verified_from, search_ended, searched, certificates, goals_counted, counted}
-use Rattle.step_run.specs.Invariants.{looked_for, invariants_of}
-use Rattle.step_run.specs.Plans.{source_of_text, script_of_text, obliged, posed_of_text, posed_plan, conditions_plan, check_posed, verify_posed, prove_posed, workload_posed, workload_conditions, count_posed, with_number, numbered, source_plan, find_in, plan_for, plan_of}
+use Rattle.step_run.specs.Invariants.{invariants_of}
+use Rattle.step_run.specs.Plans.{source_of_text, script_of_text, obliged, posed_of_text, posed_plan, conditions_plan, check_posed, verify_posed, prove_posed, workload_posed, workload_conditions, count_posed, with_number, numbered, find_in, plan_for, plan_of}
 use Rattle.step_run.specs.WellFormed.{Reads, IsProgram, Checks, AreFound, Decides, AreShort, IsShort}
 use Rattle.step_run.specs.Headline.{Hold, report, numbers, Headline, Exactly}
-use Rattle.step_run.proofs.Sources.{source_read}
 use Rattle.step_run.proofs.Posing.{script_read, obliged_is, few_drafts}
 use Rattle.step_run.proofs.Stages.{goes_then}
-use Rattle.step_run.proofs.Typed.{spelled_ok}
 use Rattle.step_run.proofs.Named.{only_workload}
 use Rattle.step_run.proofs.Within.{none_pass}
 use Rattle.step_run.proofs.Found.{looked, looks, source_found}

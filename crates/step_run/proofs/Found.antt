@@ -1,12 +1,11 @@
 -- A search for invariants that ends with status 0.
-use Rattle.std.proofs.Common.{◌≡◌, ℕ, List, [], ◌∷◌, refl, sym, ap, ◌∙◌, subst}
+use Rattle.std.proofs.Common.{◌≡◌, ℕ, List, [], refl, sym, ap, subst}
 use Rattle.std.specs.Prelude.{Option, Some, None, Result, Ok, Err}
-use Rattle.st_tokens.specs.Stream.{ends, text_stream}
 use Rattle.st_certificate.specs.Tree.{Tree}
 use Rattle.temporal_goals.specs.Texts.{PlainStep}
 use Rattle.spl_typer.specs.Programs.{Typed}
 use Rattle.proof_script.specs.Listing.{Setting}
-use Rattle.proof_grammar.specs.Grammar.{SpellsScript, IsScript, no_further_step}
+use Rattle.proof_grammar.specs.Grammar.{SpellsScript}
 use Rattle.equation_laws.specs.Equations.{PlainEquation, found}
 use Rattle.proof_grammar.proofs.Growing.{nothing_stands, lines_stand, comments_add_nothing, standing_is_spelled}
 use Rattle.step_plan.specs.declared.status.Status.TheVariants.{Proved}
@@ -16,7 +15,7 @@ use Rattle.step_run.specs.declared.refusals.Refusal.{Refusal}
 use Rattle.step_run.specs.declared.refusals.Refusal.TheVariants.{Fault, Limit, Memory}
 use Rattle.step_run.specs.Outcome.{program_refused}
 use Rattle.step_run.specs.Source.{source_spelled}
-use Rattle.step_run.specs.Conditions.{system_of, setting_of, words_over, drafts, conditions_of, passes_limit}
+use Rattle.step_run.specs.Conditions.{system_of, setting_of, words_over, conditions_of, passes_limit}
 use Rattle.step_run.specs.Invariants.{entered, looked_for, invariants_of}
 use Rattle.step_run.specs.WellFormed.{AreFound}
 use Rattle.step_run.specs.Plans.{program_or_end, source_of_text, find_in}

@@ -16,7 +16,6 @@ use Rattle.step_run.specs.declared.refusals.Refusal.{Refusal}
 use Rattle.step_run.specs.Conditions.{steps_spelled, passes_limit}
 use Rattle.step_run.specs.Source.{source_spelled}
 use Rattle.step_run.specs.Request.{NamesFile}
-use Rattle.step_run.specs.Traced.{Scripted}
 use Rattle.step_run.specs.Plans.{program_or_end, source_of_text, source_plan, steps_or_end, script_of_text, posed_or_end, obliged, posed_of_text, posed_plan, conditions_plan, check_posed, verify_posed, prove_posed, count_posed, workload_posed, workload_conditions, numbered, script_plan, scripted_plan, trace_scripted, plan_for, plan_of, find_in}
 use Rattle.step_workload.specs.Texts.{program_text, proof_text}
 

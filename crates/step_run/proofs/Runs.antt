@@ -1,6 +1,6 @@
 -- A schedule gives a run exactly where its trace ends with status 0.
-use Rattle.std.proofs.Common.{◌≡◌, inl, inr, ℕ, ◌≤◌, Bool, true, false, List, [], length, refl, sym, ap, ◌∙◌, subst}
-use Rattle.std.specs.Prelude.{Option, Some, None, Result, Ok, Err, if◌then◌else◌}
+use Rattle.std.proofs.Common.{◌≡◌, ℕ, ◌≤◌, Bool, true, false, List, length, refl, sym, ap, ◌∙◌, subst}
+use Rattle.std.specs.Prelude.{Some, Result, Ok, Err, if◌then◌else◌}
 use Rattle.st_form.specs.declared.conditions.TransName.{TransName}
 use Rattle.st_reading.specs.Reading.{Stop}
 use Rattle.st_reading.specs.Breaches.{Breach}
@@ -17,16 +17,15 @@ use Rattle.trace_laws.proofs.Played.{made_follows, run_made}
 use Rattle.step_report.specs.declared.refusals.FileRole.TheVariants.{Program, Proof, Schedule}
 use Rattle.step_plan.specs.declared.status.Status.TheVariants.{Proved, ScheduleRefused}
 use Rattle.step_plan.specs.Outcome.{Outcome}
-use Rattle.step_plan.specs.Plan.{Told, Plan, ends, goes_on, asks, then_plan, EndsIn}
-use Rattle.step_run.specs.Source.{source_spelled, IsSpelled}
+use Rattle.step_plan.specs.Plan.{Told, Plan, ends, goes_on, then_plan, EndsIn}
+use Rattle.step_run.specs.Source.{IsSpelled}
 use Rattle.step_run.specs.Conditions.{steps_spelled}
 use Rattle.step_run.specs.Outcome.{script_refused}
 use Rattle.step_run.specs.Scheduled.{start_of, observed_of, IsRunOfSchedule}
 use Rattle.step_run.specs.Traced.{Scripted, schedule_refused, report_of, no_start, play_ended, schedule_played, schedule_ended, traced}
-use Rattle.step_run.specs.Plans.{steps_or_end, source_of_text, script_of_text, scripted_of_text, script_plan, scripted_plan, trace_scripted, plan_for}
-use Rattle.step_run.specs.WellFormed.{IsScripted, Traces, AreShort}
+use Rattle.step_run.specs.Plans.{steps_or_end, source_of_text, script_of_text, scripted_of_text, script_plan, trace_scripted, plan_for}
+use Rattle.step_run.specs.WellFormed.{Traces, AreShort}
 use Rattle.step_words.specs.Request.{traces}
-use Rattle.step_run.proofs.Sources.{source_read}
 use Rattle.step_run.proofs.Posing.{script_read}
 use Rattle.step_run.proofs.Stages.{goes_then}
 use Rattle.step_run.proofs.Typed.{well_typed}

@@ -1,10 +1,10 @@
 -- A script over a program, with which a trace goes on, and what its schedule is.
-use Rattle.std.proofs.Common.{◌≡◌, ℕ, ◌≤◌, Bool, true, List, [], ◌∷◌, length, map, refl, sym, ap, ◌∙◌}
-use Rattle.std.specs.Prelude.{All, if◌then◌else◌, Option, Some, None, Ok, Err}
+use Rattle.std.proofs.Common.{◌≡◌, ℕ, Bool, true, List, map, sym, ap, ◌∙◌}
+use Rattle.std.specs.Prelude.{if◌then◌else◌, Option, Some, None, Ok, Err}
 use Rattle.st_reading.specs.Reading.{Stop, IsStop}
 use Rattle.st_reading.specs.Breaches.{Breach}
 use Rattle.temporal_goals.specs.Texts.{PlainStep}
-use Rattle.spl_semantics.specs.Data.{is_boolean, types, store_of, StoreFits}
+use Rattle.spl_semantics.specs.Data.{store_of, StoreFits}
 use Rattle.spl_semantics.specs.Stores.{holds}
 use Rattle.spl_typer.specs.Programs.{Typed}
 use Rattle.spl_typer.proofs.Tabled.{kinds_stand}
@@ -13,12 +13,11 @@ use Rattle.schedule_reader.specs.Values.{has_type}
 use Rattle.schedule_reader.specs.Schedules.{PlainSchedule, schedule_spelled}
 use Rattle.trace_player.specs.Playing as playing
 use Rattle.trace_player.specs.Playing.{outcome, PlayAnswers}
-use Rattle.trace_player.specs.declared.faults.PlayFault.{PlayFault}
 use Rattle.trace_player.specs.declared.faults.PlayFault.TheVariants as play
 use Rattle.step_plan.specs.Outcome.{Outcome}
 use Rattle.step_plan.specs.Plan.{Plan, goes_on}
 use Rattle.step_run.specs.Source.{IsSpelled}
-use Rattle.step_run.specs.Scheduled.{start_of, observed_of}
+use Rattle.step_run.specs.Scheduled.{start_of}
 use Rattle.step_run.specs.Traced.{Scripted, schedule_refused, IsEndOf, no_start, too_large_at, not_enabled, play_ended, schedule_played, schedule_ended, traced}
 use Rattle.step_run.proofs.Typed.{from_text}
 use Rattle.trace_player.proofs.Fitting.{types_are}

@@ -5,7 +5,7 @@ use Rattle.st_outside.specs.Sink.{behind}
 use Rattle.step_words.specs.Request.{PlainRequest}
 use Rattle.step_plan.specs.declared.ended.Ended.{Ended}
 use Rattle.step_plan.specs.declared.status.Status.{Status}
-use Rattle.step_plan.specs.declared.status.Status.TheVariants.{Proved, ReadFault, WriteFault, Memory}
+use Rattle.step_plan.specs.declared.status.Status.TheVariants.{Proved, ReadFault}
 use Rattle.step_plan.specs.Ending.{UnlessFault}
 use Rattle.step_plan.specs.Outcome.{Outcome, ended_view}
 use Rattle.step_plan.specs.Plan.{Told, Counts, Faulted, Follows}

@@ -4,16 +4,15 @@ ghost use Rattle.std.specs.Prelude.{◌≡◌, ◌++◌, ◌∷◌, map, IfOk, O
 ghost use Rattle.st_form.specs.Plain.{plain};
 ghost use Rattle.st_form.specs.Shared.{case_of as conjunction_of};
 ghost use Rattle.transition_system.specs.Plain.{plain_mode};
-ghost use Rattle.vc_generator.specs.Building.{case_of, unless_true, falls_to as falls_to_of};
+ghost use Rattle.vc_generator.specs.Building.{case_of, unless_true};
 ghost use Rattle.vc_generator.specs.Plain.{plain_case};
 
 use crate::building::Case;
+use crate::falls::push_falls;
 use crate::hashes::change_hash;
-use crate::numbers::falls_to;
-use crate::pools::{Pool, shared, taken};
+use crate::pools::{Pool, shared};
 use crate::sharing::{Sharing, before as put_before};
 use st_form::{Form, SharedForm};
-use st_linear::Lin;
 use st_memory::Memory;
 use std::alloc::Global;
 use transition_system::Mode;
@@ -67,20 +66,4 @@ fn push_now(
             Ok(())
         }
     }
-}
-
-fn push_falls(
-    alloc: Global,
-    pool: &mut Pool,
-    mode: &Mode,
-    falls: &[(Lin, Lin)],
-    out: &mut Vec<SharedForm>,
-) -> Result<(), Memory>
-    ensures { OnOk result (map plain out.new.items ≡ map plain out.old.items ++ map (falls_to_of (plain_mode mode.now)) falls.now) }
-{
-    for pair in falls {
-        let fall = falls_to(alloc, mode, &pair.0, &pair.1)?;
-        out.push(taken(alloc, pool, fall)?)?;
-    }
-    Ok(())
 }

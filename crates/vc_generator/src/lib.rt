@@ -8,6 +8,7 @@ mod cases;
 mod changes;
 pub mod conditions;
 mod counts;
+mod falls;
 mod faults;
 mod given;
 mod hashes;

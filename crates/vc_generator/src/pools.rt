@@ -10,11 +10,12 @@ use st_form::{Form, SharedForm, is_same};
 use st_memory::Memory;
 use std::alloc::Global;
 
-/// Formulas, and an index of them by hash: a formula's number there is its place, counted from 1.
+/// Formulas, an index of them by hash, and one of the rows of numbers by number: a formula's number there is its place, counted from 1.
 #[derive(Drop)]
 pub struct Pool {
-    forms: Vec<SharedForm>,
+    pub forms: Vec<SharedForm>,
     index: Index,
+    pub numbers: Index,
 }
 
 /// A pool of nothing.
@@ -22,6 +23,7 @@ pub fn no_pool(alloc: Global) -> Pool {
     Pool {
         forms: Vec::new(alloc),
         index: no_index(alloc),
+        numbers: no_index(alloc),
     }
 }
 

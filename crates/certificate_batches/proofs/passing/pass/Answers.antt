@@ -1,4 +1,4 @@
-use Rattle.std.proofs.Common.{◌≡◌, ◌∙◌, ◌-◌, ap, arith, rules, length}
+use Rattle.std.proofs.Common.{◌≡◌, ◌∙◌, ap, arith, rules, length}
 use Rattle.cert_text.specs.Held.{Held}
 use Rattle.certificate_batches.proofs.Unread.{header_behind, after_header}
 use Rattle.certificate_batches.proofs.passing.pass.Goals as goal

@@ -2,8 +2,6 @@ use Rattle.std.proofs.Common.{refl, arith}
 use Rattle.transition_system.specs.Plain.{plain_system}
 use Rattle.temporal_goals.specs.Plain.{plain_script}
 use Rattle.step_plan.specs.Outcome.{ended_view}
-use Rattle.step_plan.specs.Plan.{goes_on}
-use Rattle.step_run.specs.Traced.{Scripted}
 use Rattle.step_run.specs.Plans.{script_of_text}
 use Rattle.step_run.specs.Views.{source_view}
 use Rattle.step_run.proofs.Posing.{system_is}

@@ -7,6 +7,7 @@ use Rattle.st_form.specs.declared.conditions.Condition.{Condition}
 use Rattle.st_certificate.specs.Tree.{Tree}
 use Rattle.farkas_check.specs.Problem.{Setting}
 use Rattle.farkas_check.specs.Valid.{IsCertificate}
+use Rattle.search_laws.specs.Searchable.{AreSearchable}
 use Rattle.shared_certificates.specs.Nodes.{tree}
 use Rattle.table_check.specs.Conditions.{HaveTrees}
 
@@ -15,6 +16,19 @@ AreProved k cs ts ns = HaveTrees k (map plain_condition cs) (map (tree ts) ns)
 
 abbrev pub IsProved : Setting → Condition → Tree → Type 0
 IsProved k c t = IsCertificate k (given_of c) (shown_of c) t
+
+-- one is passed
+pub searchable-on : (n : ℕ) (cs : List Condition) (i : ℕ) (c : Condition) → i < length cs → AreSearchable n (drop i cs) → AreSearchable n (drop (i + 1) cs)
+searchable-on n cs i c h s = let b = rw (drop_more cs i c h) at s in b.1
+
+-- one is valid
+pub proved-on : (k : Setting) (cs : List Condition) (ts : List Tree) (ns : List ℕ) (i : ℕ) (c : Condition) (W : Type 0) → i < length cs → i < length ns → c ≡ get_or cs i c
+    → IsProved k c (tree ts (get_or ns i 0)) → (AreProved k (drop i cs) ts (drop i ns) ↔ W) → AreProved k (drop (i + 1) cs) ts (drop (i + 1) ns) ↔ W
+proved-on k cs ts ns i c W h g e v s =
+    let one : drop i cs ≡ c ∷ drop (i + 1) cs = drop_more cs i c h ∙ ap (λ x. x ∷ drop (i + 1) cs) (sym e) in
+    let two : drop i ns ≡ get_or ns i 0 ∷ drop (i + 1) ns = drop_more ns i 0 g in
+    let b = rw (one, two) at s in
+    (λ p. b.0 (v, p), λ w. (b.1 w).1)
 
 -- one is not valid
 pub proved-ends : (k : Setting) (cs : List Condition) (ts : List Tree) (ns : List ℕ) (i : ℕ) (c : Condition) (W : Type 0) → i < length cs → i < length ns → c ≡ get_or cs i c

@@ -4,7 +4,7 @@ use Rattle.farkas_check.specs.PlainProblem.{setting}
 use Rattle.shared_certificates.specs.Nodes.{tree}
 use Rattle.table_check.specs.Conditions.{HaveTrees}
 use Rattle.table_check.specs.Nodes.{trees_by}
-use Rattle.table_check.proofs.Proving.{proved-ends, proved-lengths, proved-whole}
+use Rattle.table_check.proofs.Proving.{proved-ends, proved-lengths, proved-on, proved-whole, searchable-on}
 use Rattle.table_check.proofs.checking.check_each.Goals as goal
 
 pub returns-then-roots-conditions : goal.returns-then-roots-conditions
@@ -22,6 +22,21 @@ returns-then-not-yes c =
           (HaveTrees k (map plain_condition c.args.conditions.now) (map (tree (trees_by c.args.nodes.now)) c.args.roots.now)) here there c.index-conditions-place.is
           (λ p. let yes : c.in-Some.yes ≡ true = exact.1 p in let no : true ≡ false = sym yes ∙ c.if-not-yes.true in absurd (cc)) c.loop-place.invariant.same v),
     )
+
+pub loop-place-preserved : goal.loop-place-preserved
+loop-place-preserved c =
+    let k = setting c.args.components.now c.args.variables.now in
+    let here : c.loop-place.place < length c.args.conditions.now = omega (arith, c.loop-place-test.true) in
+    let there : c.loop-place.place < length c.args.roots.now = omega (arith, here, c.if-roots-conditions.false) in
+    let exact = rw c.in-Some.is at c.in_ok-yes.ensures.exact in
+    record {
+      knows = c.in_ok-yes.ensures.knows;
+      known = c.in_ok-yes.ensures.known;
+      searchable = searchable-on (length c.args.variables.now) c.args.conditions.now c.loop-place.place c.index-conditions-place.result here c.loop-place.invariant.searchable;
+      same = proved-on k c.args.conditions.now (trees_by c.args.nodes.now) c.args.roots.now c.loop-place.place c.index-conditions-place.result
+          (HaveTrees k (map plain_condition c.args.conditions.now) (map (tree (trees_by c.args.nodes.now)) c.args.roots.now)) here there c.index-conditions-place.is
+          (exact.0 c.if-not-yes.false) c.loop-place.invariant.same;
+    }
 
 pub returns : goal.returns
 returns c =

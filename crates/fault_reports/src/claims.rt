@@ -6,7 +6,8 @@ ghost use Rattle.posed_conditions.specs.Translated.{IsTranslated};
 ghost use Rattle.posed_conditions.specs.Posed.{IsPosed};
 
 use crate::asking::{open_of, posed};
-use crate::glancing::{Label, falls_plainly, plain_labels};
+use crate::glancing::falls_plainly;
+use crate::labels::{Label, plain_labels};
 use crate::source::Source;
 use posed_conditions::PosedProof;
 use source_places::{Span, StepPlaces, tokens_of};

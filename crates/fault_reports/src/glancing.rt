@@ -2,7 +2,8 @@
 //! names, or at its end. Of other claims the search has to be asked, which is dearer than all else that a warning costs.
 
 use crate::computing::computed;
-use crate::source::{Source, word_of};
+use crate::labels::{Label, Stand};
+use crate::source::word_of;
 use crate::trials::{Numbers, Trial, Value, word_at};
 use st_memory::Memory;
 use st_tokens::Token;
@@ -11,56 +12,8 @@ use std::alloc::Global;
 /// The most tokens of a claim that is looked at, since each name is looked for among them.
 const MOST: usize = 400;
 
-/// A label of a program, and the number of its process.
-#[derive(Drop)]
-pub(crate) struct Label<'a> {
-    name: &'a str,
-    process: usize,
-}
-
-/// Whether a word opens a bracket (1), closes one (-1), or neither.
-fn turn(word: &str) -> isize {
-    match word {
-        "[" | "(" => 1,
-        "]" | ")" => -1,
-        _ => 0,
-    }
-}
-
-/// The labels of a program, whose processes stand at one label each or at none; `None` where that isn't seen: where a cooperation stands
-/// in a process, or where two labels name one location, as with selections, labelled blocks and end labels.
-pub(crate) fn plain_labels<'a>(
-    alloc: Global,
-    source: &Source<'a>,
-) -> Result<Option<Vec<Label<'a>>>, Memory> {
-    let mut out = Vec::new(alloc);
-    let mut depth: isize = 0;
-    let mut process: usize = 0;
-    for (at, token) in source.tokens.iter().enumerate() {
-        let word = word_of(token);
-        let next = source.word(at.saturating_add(1));
-        let behind = source.word(at.saturating_add(2));
-        depth = depth.saturating_add(turn(word));
-        if word == "select" || word == "or" || word == "||" && depth != 0 {
-            return Ok(None);
-        }
-        if word == "||" {
-            process = process.saturating_add(1);
-        }
-        if next == ":" {
-            if behind == "[" || behind == "]" || behind == "||" || behind.is_empty() {
-                return Ok(None);
-            }
-            out.push(Label {
-                name: word,
-                process,
-            })?;
-        }
-    }
-    Ok(Some(out))
-}
-
-/// Where the processes stand in a state that is tried: at their ends, or each at the first or at the last of its labels that a claim names.
+/// Where the processes stand in a state that is tried: at their ends, or each at the first or at the last of its labels that a claim
+/// names.
 #[derive(Clone, Copy, PartialEq, Eq)]
 enum Places {
     Ends,
@@ -77,7 +30,32 @@ const NUMBERS: [Numbers; 4] = [
 
 const PLACES: [Places; 3] = [Places::First, Places::Last, Places::Ends];
 
-/// The labels that are held in a state that is tried; `None` where a label isn't the program's.
+/// The labels that are held, each with its process.
+type Held<'b> = Vec<(usize, &'b str)>;
+
+/// Holds a label of a claim too, where a state that is tried has it. Its process may stand at one that the claim named before.
+fn hold<'b>(
+    out: &mut Held<'b>,
+    name: &'b str,
+    label: &Label<'b>,
+    places: Places,
+) -> Result<(), Memory> {
+    let is_end = label.stand == Stand::End;
+    if label.stand == Stand::Child || places == Places::Ends && !is_end {
+        return Ok(());
+    }
+    match out
+        .iter_mut()
+        .find(|(process, _)| *process == label.process)
+    {
+        None => out.push((label.process, name))?,
+        Some(slot) if places == Places::Last => slot.1 = name,
+        Some(_) => {}
+    }
+    Ok(())
+}
+
+/// The labels that are held in a state that is tried, in which no child is active; `None` where a label isn't the program's.
 fn held<'b>(
     alloc: Global,
     tokens: &'b [Token<'b>],
@@ -85,7 +63,6 @@ fn held<'b>(
     places: Places,
 ) -> Result<Option<Vec<&'b str>>, Memory> {
     let mut out = Vec::new(alloc);
-    let mut taken: Vec<usize> = Vec::new(alloc);
     for at in 1..tokens.len() {
         if word_at(tokens, at.saturating_sub(1)) != "at" {
             continue;
@@ -94,21 +71,17 @@ fn held<'b>(
         let Some(label) = labels.iter().find(|label| label.name == name) else {
             return Ok(None);
         };
-        match taken.iter().position(|process| *process == label.process) {
-            _ if places == Places::Ends => {}
-            None => {
-                taken.push(label.process)?;
-                out.push(name)?;
-            }
-            Some(number) if places == Places::Last => {
-                if let Some(slot) = out.get_mut(number) {
-                    *slot = name;
-                }
-            }
-            Some(_) => {}
-        }
+        hold(&mut out, name, label, places)?;
     }
-    Ok(Some(out))
+    Ok(Some(names_of(alloc, &out)?))
+}
+
+fn names_of<'b>(alloc: Global, held: &[(usize, &'b str)]) -> Result<Vec<&'b str>, Memory> {
+    let mut out = Vec::with_capacity(alloc, held.len())?;
+    for (_, name) in held {
+        out.push(*name)?;
+    }
+    Ok(out)
 }
 
 /// Whether one of the states with these labels falsifies a claim.

@@ -13,6 +13,7 @@ mod expected;
 mod finding;
 mod glancing;
 mod goals;
+mod labels;
 mod lemmas;
 mod meant;
 mod mending;

@@ -7,3 +7,4 @@ pub mod Joined
 pub mod GoesOn
 pub mod Meeting
 pub mod Keeping
+pub mod Promising

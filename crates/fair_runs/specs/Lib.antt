@@ -3,3 +3,4 @@ pub mod Goals
 pub mod Sequences
 pub mod Meeting
 pub mod Kept
+pub mod Promises

@@ -1,5 +1,5 @@
 //! What goals of programs say of infinite runs, each the contract of a function that does nothing.
-ghost use Rattle.std.specs.Prelude.{ℕ, List};
+ghost use Rattle.std.specs.Prelude.{ℕ, List, ◌↔◌};
 ghost use Rattle.st_form.specs.Formula.{Formula, Situation};
 ghost use Rattle.st_form.specs.declared.conditions.TransName.{TransName};
 ghost use Rattle.st_form.specs.Plain.{plain};
@@ -16,6 +16,7 @@ ghost use Rattle.fair_runs.specs.Goals.{HoldsAlong, HoldsEventually};
 ghost use Rattle.fair_runs.specs.Sequences.{IsSequenceOf, IsFairSequence, IsFairSequenceByTheBooks, IsFairSequenceClassically};
 ghost use Rattle.fair_runs.specs.Meeting.{IsMet};
 ghost use Rattle.fair_runs.specs.Kept.{IsKept};
+ghost use Rattle.fair_runs.specs.Promises.{Promise};
 
 use st_program::Program;
 
@@ -90,4 +91,9 @@ pub fn responses_are_met()
 /// All of this of a goal, in one sentence: what holds on every run of a well-formed program is kept.
 pub fn goals_are_kept()
     ensures { (p : Processes) (initial : Formula) (goal : PlainGoal) → WellFormed p → HoldsOnRuns p initial goal → IsKept p initial goal }
+{}
+
+/// What is promised of a goal, in few definitions, is that it is kept.
+pub fn promise_is_kept()
+    ensures { (p : Processes) (initial : Formula) (goal : PlainGoal) → Promise p initial goal ↔ IsKept p initial goal }
 {}

@@ -1,7 +1,9 @@
-pub mod Parts
-pub mod Walked
+pub mod Denoting
 pub mod Headings
-pub mod Typed
 pub mod Numbering
 pub mod Once
+pub mod Parts
+pub mod Sizes
+pub mod Typed
+pub mod Walked
 pub mod Whole

@@ -1,7 +1,6 @@
 -- What typing gives is what the tree stands for.
 use Rattle.std.proofs.Common.{◌≡◌, ℕ, ◌+◌, Bool, true, false, cond, List, [], ◌∷◌, ◌++◌, map, length, append-nil, append_assoc, refl, sym, ap, subst, ◌∙◌, arith, Ok, Err}
 use Rattle.st_form.specs.Formula.{Formula, every, formulas}
-use Rattle.st_program.specs.Tree.{Process}
 use Rattle.st_program.specs.Names.{Names}
 use Rattle.st_program.specs.Programs.{IsProgram}
 use Rattle.st_tokens.specs.declared.limit.LimitKind.TheVariants as limits

@@ -1,2 +1,4 @@
+pub mod Denoting
 pub mod Meaning
+pub mod Sizes
 pub mod Theorems

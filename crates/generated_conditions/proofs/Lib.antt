@@ -1,0 +1,10 @@
+pub mod Lists
+pub mod Sizes
+pub mod Agreeing
+pub mod Asked
+pub mod Responds
+pub mod Ranked
+pub mod Nested
+pub mod Drawn
+pub mod Levels
+pub mod Whole
